@@ -11,7 +11,9 @@ use heap_model::Lane;
 /// How many sections of the four lanes are acknowledged: never more than are.
 pub fn acknowledged<D: Disk>(store: &Store<D>) -> u64
     requires { 4 ≤ store.now.known.layout.lanes }
+    // What `bench` tells as acknowledged is no more than the store's cut.
     ensures no_more { (s : Setting) (p : Past) → HasPast store.now.known s p (D.device store.now.disk) → result ≤ p.cut 0 + p.cut 1 + p.cut 2 + p.cut 3 }
+    // What `bench` tells as acknowledged has each section of the store's cut.
     ensures all { (s : Setting) (p : Past) → HasPast store.now.known s p (D.device store.now.disk) → p.cut 0 + p.cut 1 + p.cut 2 + p.cut 3 < 2 ^ 64 → result ≡ p.cut 0 + p.cut 1 + p.cut 2 + p.cut 3 }
 {
     let early = of_lane(store, 0).saturating_add(of_lane(store, 1));

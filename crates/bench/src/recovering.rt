@@ -10,6 +10,7 @@ use std::alloc::Global;
 
 /// Recovers the image on the device, and gives its heap: how many sections each lane has counted, and all of them.
 pub fn recovered_heap<D: Disk + Drop>(alloc: Global, disk: D) -> Result<Vec<u64>, Stopped>
+    // The heap that `bench recover` prints is that of the image's study.
     ensures { (s : Study) → IsStudyOf (D.device disk).now.bytes s → IfOk result (λ heap. heap.items ≡ s.heap.items) }
 {
     one_study_law();

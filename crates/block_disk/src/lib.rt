@@ -1,8 +1,8 @@
 //! A block device: what a read gives, and what a crash may leave.
 //!
-//! [`Disk`] is the device that every layer above is proved over. Its contract gives the images that a crash may
-//! leave now, and those that a crash at some earlier moment might have left. [`MemDisk`] is such a disk in memory,
-//! which shows each crash of its life. The rest are calls of any disk that lie within it, and what a disk is made of.
+//! [`Disk`] is the device that every layer above is proved over. Its contract gives the images that a crash may leave now, and those that a
+//! crash at some earlier moment might have left. [`MemDisk`] is a disk in memory, which shows each crash of its life. The rest are calls of any
+//! disk that lie within it, and what a disk is made of.
 #![tactic(auto)]
 
 mod access;

@@ -24,5 +24,6 @@ pub trait Meets: Disk {
         ensures device { Self.device self.new ≡ Self.device self.old }
         ensures pair { is_peer self.new peer.new }
         ensures met { have_met self.new peer.new }
+        // Whatever owns the disk stays as it was while the disk meets its host.
         ensures stays { stays peer.old peer.new };
 }

@@ -93,11 +93,14 @@ impl MemDisk {
     pub fn crash_image(&self, k: u64, fill: Fill) -> Result<Option<MemDisk>, AllocError>
         ensures there { IfOk result (λ found. IsSome found
             ↔ ((1 ≤ k) × (k ≤ length self.now.stops + 1))) }
+        // The image of a crash is exactly the documented bytes, with any write or sync begun.
         ensures image { IfOk result (λ found. IfSome found
             (λ disk. disk ≡ fresh (crash_bytes fill self.now.first (done_at k self.now.stops)))) }
+        // The image of a crash is one that the trait `Disk` allows then.
         ensures possible { IfOk result
             (λ found. IfSome found
             (λ disk. Image (moment_after self.now.first (done_at k self.now.stops)) disk.first)) }
+        // The image of a crash is one of those that a crash might have left since that stop.
         ensures any_moment { IfOk result
             (λ found. IfSome found (λ disk. LeftSinceStop k self.now disk.first)) }
     {

@@ -411,7 +411,10 @@ fn command<'a>(alloc: Global) -> Result<Command<'a>, AllocError>
 /// `format` with sectors of other than 4,096 bytes, and an option that does nothing: `--schema` of `run` without `--image`, and `--last`
 /// or `--schema` of `show` without `--dot`.
 pub fn read_words<'a>(alloc: Global, words: &'a [String]) -> Result<Words<'a>, Error>
+    // The program's words are taken exactly where clap's rules take them, no file is named twice, no run has two
+    // lengths, and sectors have 512 or 4,096 bytes. Other words are refused with the kind that those rules give.
     ensures exact { IsAnsweredBy (map (λ s. string_bytes s) words.entry.now) result }
+    // What is asked for is what the options say.
     ensures asked { IfOk result (λ asked. AsksFor (subcommand_of program (map (λ s. string_bytes s) words.entry.now)) asked) }
     ensures none { (name : List ℕ) → map (λ s. string_bytes s) words.entry.now ≡ name ∷ [] → IfErr result (λ e. kind_of e ≡ OutOfMemory) }
     ensures run { (name : List ℕ) → map (λ s. string_bytes s) words.entry.now ≡ name ∷ codes "run" ∷ [] → IfErr result (λ e. kind_of e ≡ OutOfMemory) }

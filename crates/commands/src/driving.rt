@@ -44,6 +44,8 @@ where
     R: AllocGlobal + Threads + Wait + Sync,
     M: Watch + Sync,
     W: Write,
+    // What the word `drive` writes is exactly the two lines of what workers have done, which is what recovery found of
+    // the closed device, by one legal history. Where they haven't done it, nothing is written.
     ensures { DrivesWith D.device image.entry workers (P.holds images.old) (P.holds images.new)
         result (W.contents writer.old) (W.contents writer.new) }
 {

@@ -37,8 +37,11 @@ where
     P: Images<Medium = D>,
     R: Threads + Wait + Sync,
     M: Meet + Sync,
+    // Workers begin with the image at that path, or with one that was made for them where there was none. What they
+    // leave is there afterwards.
     ensures ok { IfOk result
         (DrivesAt D.device workers (P.holds images.old path.now) (P.holds images.new path.now)) }
+    // A refusal of workers tells what is at the path.
     ensures refused { IfErr result
         (RefusesAt D.device workers (P.holds images.old path.now) (P.holds images.new path.now)) }
 {

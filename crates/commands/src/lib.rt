@@ -1,9 +1,9 @@
-//! What the program's words do: a script is played, in memory or over an image file; an image file is made, shown, drawn or recovered;
-//! workers in threads of their own work on a heap in memory or in an image file (docs/SCRIPTS.md).
+//! What the program's words do (docs/SCRIPTS.md). They play a script, in memory or over an image file. They make, show, draw or recover an
+//! image file. And they let workers in threads of their own work on a heap, in memory or in an image file.
 //!
-//! [`obey`] does what [`Words`](command_words::Words) ask for; [`status_of_fault`] is the exit status where it didn't, and [`explain`]
-//! tells which file is why. Under it, [`drive`] is the word of workers, [`drive_at`] lets them work on the image at a path, and [`write_driven`]
-//! writes what they have done.
+//! [`obey`] does what [`Words`](command_words::Words) ask for. [`status_of_fault`] is the exit status where it didn't, and [`explain`] tells
+//! which file is why. Under it, [`drive`] is the word of workers, [`drive_in_file`] lets them work on a file that is open, and
+//! [`write_driven`] writes what they have done.
 #![tactic(auto)]
 
 mod causes;

@@ -42,6 +42,8 @@ where
     R: Files<File = F> + AllocGlobal + Clock + Eprint + Threads + Wait + Sync,
     S: Read,
     W: Write,
+    // Each word does what it asks for. What is written is that word's output, and a refusal writes nothing, or a
+    // beginning of the text after a fault.
     ensures { Obeys D.device words.entry result (P.holds images.old) (P.holds images.new)
         (P.lies images.new) (S.remaining reader.old) (S.remaining reader.new)
         (W.contents writer.old) (W.contents writer.new) }

@@ -16,6 +16,7 @@ const ROUNDS: u32 = 1000;
 pub(crate) fn rounds_for(rounds: Option<u32>, seconds: Option<u32>) -> u32
     ensures asked { IfSome rounds (λ asked. result ≡ asked) }
     ensures timed { rounds ≡ None → IfSome seconds (λ timed. result ≡ 2 ^ 32 - 1) }
+    // Without `--rounds` and `--seconds` workers are to work 1,000 rounds.
     ensures unsaid { rounds ≡ None → seconds ≡ None → result ≡ 1000 }
 {
     match (rounds, seconds) {

@@ -74,6 +74,8 @@ fn status_of_file(fault: FileFault) -> u8
 
 /// The status where what the words ask for wasn't done.
 pub fn status_of_fault(fault: &WorkFault) -> u8
+    // The exit status is 2 for what the script or the schema file has, 3 where another process has the image, and 1 for
+    // every other fault.
     ensures { result ≡ status_for_fault fault.now }
 {
     match fault {

@@ -15,11 +15,14 @@ pub fn stable_law()
 
 /// A whole closed cut stays one as the log grows.
 pub fn stay_law()
+    // A whole, closed cut stays whole and closed as a legal log grows.
     ensures { StayLaw }
 {}
 
 /// A part of a whole closed cut may be left out: the stable cut of all is that part and the stable cut since.
 pub fn part_trim_law()
+    // The stable cut of all is the base plus the stable cut of what was done since. The base needn't be closed: it lies
+    // within a whole, closed cut.
     ensures { PartTrimLaw }
 {}
 

@@ -21,6 +21,7 @@ use std::alloc::{AllocError, Global};
 /// Lanes are below 32. The time rises with the cube of the number of records.
 pub fn stable_cut(alloc: Global, records: &[LaneRecord]) -> Result<Cut, AllocError>
     requires { All (λ e. e.lane.0 < 32) records.now }
+    // A plain search finds the stable cut of any list of records of up to 32 lanes.
     ensures { IfOk result (λ cut. IsStable (actions (log_from records.now)) (counts_of cut)) }
 {
     let steps = numbered(alloc, records)?;
@@ -35,8 +36,10 @@ pub fn replay(
     records: &[LaneRecord],
     cut: &Cut,
 ) -> Result<(), AllocError>
+    // A plain replay of the records gives the heap that the cut keeps.
     ensures ok { OnOk result ((f : ℕ) → f < length heap.old →
         slice_index heap.new f ≡ kept_value (λ g. slice_index heap.old g) (counts_of cut.now) f (log_from records.now)) }
+    // After an error the heap is as it was.
     ensures err { OnErr result (heap.new ≡ heap.old) }
 {
     let steps = numbered(alloc, records)?;

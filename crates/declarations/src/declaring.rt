@@ -51,6 +51,7 @@ impl Declaring {
     /// Declares an object.
     pub fn object(&mut self, name: &str) -> Result<Declared, AllocError>
         ensures ok { IfOk result (λ said. DeclaresObject self.old said self.new name.now) }
+        // A refused line declares nothing.
         ensures refused { IfOk result (λ said. (why : DeclarationRefusal) → said ≡ declared.Refused why → self.new ≡ self.old) }
         ensures err { OnErr result (self.new ≡ self.old) }
     {
@@ -73,7 +74,9 @@ impl Declaring {
         first: u64,
         is_transient: bool,
     ) -> Result<Declared, AllocError>
+        // A field's line declares it as persistent or as transient, by its first word, with the same refusals.
         ensures ok { IfOk result (λ said. DeclaresField self.old said self.new name.now owner.now guard.now first is_transient) }
+        // A refused line declares nothing.
         ensures refused { IfOk result (λ said. (why : DeclarationRefusal) → said ≡ declared.Refused why → self.new ≡ self.old) }
         ensures err { OnErr result (self.new ≡ self.old) }
     {

@@ -1,7 +1,7 @@
 //! Declarations of objects and fields, as the lines of a script or of a schema file make them (docs/SCRIPTS.md, "Lines").
 //!
-//! [`Declaring`] takes them by name, one by one, and refuses what no schema may have. [`read_schema`] reads a schema
-//! file, which has such lines alone; the file that has a schema's own lines declares it ([`schema_text_law`]).
+//! [`Declaring`] takes them by name, one by one, and refuses what no schema may have. [`read_schema`] reads a schema file, which has these
+//! lines alone; the file that has a schema's own lines declares it ([`schema_text_law`]).
 #![tactic(auto)]
 
 mod declared;

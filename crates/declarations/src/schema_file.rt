@@ -22,7 +22,10 @@ use std::io::Read;
 /// It is refused at the first line that is no such line, that could not be read, for which there was no memory, or that
 /// declares what a script would refuse; at the last line where nothing else is wrong and there is no object or no field.
 pub fn read_schema<R: Read>(alloc: Global, reader: &mut R) -> Result<Schema, SchemaFault>
+    // A schema file declares what a script's machine with these lines would declare.
     ensures ok { IfOk result (λ schema. DeclaresSchema (R.remaining reader.old) (R.remaining reader.new) schema) }
+    // A schema file is refused at its first line that is none, that is refused, that wants memory or that isn't had; or
+    // at its end, where it declares no object or no field.
     ensures refused { IfErr result (λ fault. RefusesSchema (R.remaining reader.old) (R.remaining reader.new) fault) }
 {
     let (lines, ending) = read_lines(alloc, reader);

@@ -50,20 +50,26 @@ pub record HasLooked (x y : Host) : Type 0 where
 -- A fetch makes no call. What is left of the batch before stays; where none is, the calls of the next batch are left, and where none is left
 -- then, none is known to have been handed over.
 pub record Fetches (x y : Host) : Type 0 where
+  -- A fetch makes no call.
   pub made : y.made ≡ x.made
+  -- A fetch keeps the calls that are left, if there are some.
   pub left : ¬ (x.left ≡ []) → y ≡ x
+  -- Where no call is left, a fetch takes the next batch that is known to be in the ring, whole.
   pub takes : (next : Handed) (more : List Handed) → x.left ≡ [] → known_items x.ring ≡ next ∷ more → y.left ≡ calls_in next
+  -- Where no call is left after a fetch, none is known to be in the ring.
   pub empty : y.left ≡ [] → known_items y.ring ≡ []
 
 -- A disk and its host have met: the host has made the first of the calls that the disk's writes and syncs are told as, and those that are
 -- left come next.
 pub record HaveMet (d : Deferred) (h : Host) : Type 0 where
   pub later : List DeviceCall
+  -- What the host has made, what it has left and what comes later are the disk's own calls, in order and none twice.
   pub order : joined d.memory.stops ≡ onto (onto h.made h.left) later
-  -- what a crash of the host's device may leave with some more of them made, a crash of the disk might have left at some moment
+  -- What a crash leaves of the host's device, with some more calls made, is what a crash might have left of the disk at
+  -- some moment.
   pub earlier : (next more : List DeviceCall) (image : List ℕ) → h.left ≡ next ++ more → Image (moment_after d.memory.first (onto h.made next)) image → LeftSince 0 (deferred_device d) image
-  -- and that at the last moment of the disk before it was synced once more than the host's device is then
+  -- That moment is the last one before the disk was synced once more than the host's device was by then.
   pub synced : (next more : List DeviceCall) (image : List ℕ) → h.left ≡ next ++ more → Image (moment_after d.memory.first (onto h.made next)) image
       → LeftAt (suc (syncs_in (onto h.made next))) (moments_of (deferred_device d)) image
-  -- where the host has made all that was handed over, its device was synced as often as the disk was
+  -- Where the host has made all that was handed over, its device was synced as often as the disk.
   pub all : h.left ≡ [] → known_items h.ring ≡ [] → durable_moments (moments_of (deferred_device d)) ≡ suc (syncs_in h.made)

@@ -59,7 +59,9 @@ impl DeferredDisk {
     /// A disk of `size` zero bytes, and the calls that the host of a device of such bytes has to make.
     pub fn new(alloc: Global, size: u64) -> Result<(DeferredDisk, HostCalls), AllocError>
         ensures disk { IfOk result (λ r. r.0.memory ≡ fresh (replicate size 0)) }
+        // The ring has room for `SYNCS` batches.
         ensures room { IfOk result (λ r. r.0.ring.capacity ≡ SYNCS) }
+        // A new disk and its host's calls are the ends of one ring, and no call was made or left.
         ensures host { IfOk result (λ r. (r.1.made ≡ []) × (r.1.left ≡ []) × IsHostOf r.0 r.1) }
     {
         DeferredDisk::holding(alloc, vec![in alloc; 0u8; size as usize]?)
@@ -68,7 +70,9 @@ impl DeferredDisk {
     /// The disk of these bytes, which the host's device has, durably, and the calls that the host has to make from then on.
     pub fn from_bytes(alloc: Global, bytes: &[u8]) -> Result<(DeferredDisk, HostCalls), AllocError>
         ensures disk { IfOk result (λ r. r.0.memory ≡ fresh bytes.now) }
+        // The ring has room for `SYNCS` batches.
         ensures room { IfOk result (λ r. r.0.ring.capacity ≡ SYNCS) }
+        // A new disk and its host's calls are the ends of one ring, and no call was made or left.
         ensures host { IfOk result (λ r. (r.1.made ≡ []) × (r.1.left ≡ []) × IsHostOf r.0 r.1) }
     {
         DeferredDisk::holding(alloc, bytes.to_vec(alloc)?)
@@ -148,8 +152,10 @@ impl Disk for DeferredDisk {
             → CountsOneMore (deferred_device self.old) (deferred_device self.new) }
         ensures beyond { length (deferred_device self.old).now.bytes < at + length bytes.now
             → IsErrOf result OutOfRange }
+        // A call that succeeds is one more write or sync of the memory that the disk keeps.
         ensures stopped { OnOk result
             (self.new.memory ≡ stopped (Wrote at bytes.now) self.old.memory) }
+        // A call that is refused with a fault adds no write and no sync.
         ensures failed { IsErrOf result Fault → self.new.memory ≡ failed self.old.memory }
         ensures untouched { IsErrOf result OutOfRange → self.new ≡ self.old }
         ensures ring { SameProducer self.old.ring self.new.ring }
@@ -175,15 +181,20 @@ impl Disk for DeferredDisk {
         requires some { 0 < count }
         requires whole { length units.now ≡ count * 16 }
         requires fits { at + length units.now ≤ length (deferred_device self.old).now.bytes }
+        // A run of units leaves the device as so many writes leave it, one after the other.
         ensures ok { OnOk result (deferred_device self.new
             ≡ written_units count at units.now (deferred_device self.old)) }
+        // Each image that a crash leaves from the first write of a run on differs from one of before in the ranges of
+        // the units alone.
         ensures any_moment { LeavesBut (unit_ranges count at)
             (deferred_device self.old) (deferred_device self.new) }
         ensures cause { OnErr result
             (HasFailedSince (deferred_device self.old) (deferred_device self.new)) }
+        // A run of units is told to the host as so many writes.
         ensures stopped { OnOk result
             (self.new.memory ≡ record self.old.memory
             { stops = units_onto count at units.now self.old.memory.stops }) }
+        // A run of units that fails has made the first so many of its writes, and nothing else.
         ensures failed { OnErr result ((kept : ℕ) × (kept < count)
             × (self.new.memory ≡ failed
             (record self.old.memory
@@ -215,8 +226,12 @@ impl Disk for DeferredDisk {
             → HasFailedSince (deferred_device self.old) (deferred_device self.new) }
         ensures counted { IsErrOf result Fault
             → CountsOneMore (deferred_device self.old) (deferred_device self.new) }
+        // A call that succeeds is one more write or sync of the memory that the disk keeps.
         ensures stopped { OnOk result (self.new.memory ≡ stopped Synced self.old.memory) }
+        // A call that is refused with a fault adds no write and no sync.
         ensures failed { IsErrOf result Fault → self.new.memory ≡ failed self.old.memory }
+        // At each sync that succeeds, all that the disk was told so far is handed over. Writes that go on where the one
+        // before ended are one call, up to `MOST_BYTES`, and not over a sync.
         ensures handed { OnOk result
             (joined self.new.memory.stops ≡ stops_in (sent self.new.ring)) }
         ensures ring { SameProducer self.old.ring self.new.ring }

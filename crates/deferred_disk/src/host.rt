@@ -51,6 +51,7 @@ impl HostCalls {
 
     /// Where none is left, takes the calls up to the next sync, if they were handed over. There is at least one, the sync.
     pub fn fetch(&mut self)
+        // A fetch takes the next calls where none is left, and makes none.
         ensures fetches { Fetches self.old self.new }
         ensures to_sync { AreLeft self.new.left }
         ensures ring { SameConsumer self.old.ring self.new.ring }
@@ -65,6 +66,7 @@ impl HostCalls {
 
     /// Looks how many syncs were handed over with their calls, and aren't fetched yet.
     pub fn waiting(&mut self) -> usize
+        // The host is told how many batches a look finds in the ring. A batch is the calls up to a sync.
         ensures count { result ≡ length (known_items self.new.ring) }
         ensures looked { HasLooked self.old self.new }
     {
@@ -75,6 +77,7 @@ impl HostCalls {
     pub fn next_call(&self) -> Option<&DeviceCall>
         ensures first { MatchOption result (self.now.left ≡ []) (λ call. (later : List DeviceCall)
             × (self.now.left ≡ call.now ∷ later)) }
+        // No write that the host is told is longer than `MOST_BYTES`, 4,096 bytes.
         ensures small { IfSome result (λ call. IsSmall call.now) }
     {
         self.left.front()
@@ -94,6 +97,7 @@ impl HostCalls {
     /// Beside its disk: the host has made the first of the calls that the disk's writes and syncs are told as, and those that are left
     /// come next. What a crash of the host's device may leave then, or while it makes any of those, a crash of the disk might have left.
     pub fn meet(&mut self, disk: &mut DeferredDisk)
+        // A disk and a host's calls meet only where they are the ends of one ring.
         requires { IsHostOf disk.old self.old }
         ensures looked { HasLooked self.old self.new }
         ensures disk { disk.new.memory ≡ disk.old.memory }

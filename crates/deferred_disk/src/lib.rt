@@ -1,10 +1,11 @@
 //! A block device whose calls somebody else makes: the host of a library, which alone can reach its file.
 //!
-//! [`DeferredDisk`] is a disk in memory. At each sync it hands over the calls since the last one, that sync included, through
-//! a ring to its [`HostCalls`], from which the host takes them one by one and makes them, in order, on a device of its own. Writes that
-//! follow one another are told as one.
-//! What the host's device is then is what the disk was at some earlier moment, so that whatever holds at each moment of the
-//! disk holds of the host's device too.
+//! [`DeferredDisk`] is a disk in memory. At each sync it hands over the calls since the last one, that sync included, through a ring to its
+//! [`HostCalls`]. The host takes them from there one by one, and makes them, in order, on a device of its own. Writes that follow one another
+//! are told as one.
+//!
+//! The host's device is then what the disk was at some earlier moment. So whatever holds at each moment of the disk holds of the host's device
+//! too.
 #![tactic(auto)]
 
 mod call;

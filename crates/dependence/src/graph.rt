@@ -126,12 +126,16 @@ impl Graph {
     /// The time is linear in the records that were not forgotten before.
     pub fn forget_to(&mut self, cut: &Cut)
         requires at_most { (c : ℕ → ℕ) → IsStable self.old.log c → (l : ℕ) → beyond self.old cut.now l ≤ c l }
+        // Any part of the stable cut may be forgotten, closed or not. What lies beyond it stays.
         ensures log { self.new.log ≡ since (beyond self.old cut.now) self.old.log }
+        // The base rises, lane by lane, to what was forgotten.
         ensures base { (l : ℕ) → base_of self.new l ≡ max (base_of self.old l) (counts_of cut.now l) }
+        // Forgetting frees the room of what is forgotten.
         ensures room { self.new.room + length self.new.log ≡ self.old.room + length self.old.log }
         ensures lanes { self.new.lanes ≡ self.old.lanes }
         ensures answered { (l : ℕ) → answered_of self.new l ≡ max (answered_of self.old l) (counts_of cut.now l) }
         ensures looks { self.new.looks ≡ self.old.looks }
+        // Forgetting changes no stable cut.
         ensures answers { (c : ℕ → ℕ) → IsStableOf self.new c ↔ IsStableOf self.old c }
     {
         raise(&mut self.base, &cut.counts);
@@ -153,10 +157,15 @@ impl Graph {
     /// at most once. Where nothing was pushed or forgotten
     /// since the last call, the answer is at hand.
     pub fn stable_cut(&mut self) -> Cut
+        // The stable cut is the greatest whole, closed cut, with what was forgotten counted.
         ensures stable { IsStableOf self.old (counts_of result) }
         ensures answered { (l : ℕ) → answered_of self.new l ≡ counts_of result l }
+        // A search decides on at least as many sections as the cut grew by.
         ensures looks_least { growth self.old.lanes (counts_of result) (answered_of self.old) ≤ self.new.looks }
+        // A search decides at most m * (m + 1) times, with m whole sections beyond what was answered or forgotten
+        // before.
         ensures looks_most { self.new.looks ≤ unanswered self.old * (unanswered self.old + 1) }
+        // A search for the stable cut changes nothing of the log.
         ensures log { self.new.log ≡ self.old.log }
         ensures base { self.new.base ≡ self.old.base }
         ensures lanes { self.new.lanes ≡ self.old.lanes }
@@ -187,6 +196,7 @@ impl Graph {
     /// counts twice. 0 before
     /// the first.
     pub fn last_looks(&self) -> u64
+        // The answer is the number of sections on which the last search for the stable cut decided.
         ensures { result ≡ self.now.looks }
     {
         self.looks
@@ -222,7 +232,9 @@ impl Graph {
     /// [`stable_cut`](Self::stable_cut); and only for the first section of a lane that is not in the cut,
     /// one pass over the records that are not forgotten.
     pub fn reason(&mut self, lane: Lane, section: u64) -> Option<Dependence>
+        // A reason is given exactly for a whole section that the stable cut leaves out.
         ensures some { (cut : ℕ → ℕ) → IsStable self.old.log cut → (IsSome result ↔ IsLeftOut self.old.log cut (section_since self.old lane.0 section)) }
+        // The reason is the first of the section's dependences that the stable cut leaves out.
         ensures first { (cut : ℕ → ℕ) → IsStable self.old.log cut → IfSome result (λ d. IsReason self.old.log cut (section_since self.old lane.0 section) (section_since self.old d.lane.0 d.section)) }
         ensures kept { IfSome result (λ d. base_of self.old d.lane.0 < d.section) }
         ensures same { self.new ≡ self.old }

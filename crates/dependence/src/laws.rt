@@ -4,5 +4,7 @@ ghost use Rattle.dependence.specs.Laws.{AllowedLaw};
 
 /// What a legal list of records allows next meets what `Graph::push` asks of it.
 pub fn allowed_law()
+    // Whatever a legal list of records allows next meets what a push asks of its order. Room and numbers a push asks
+    // besides.
     ensures { AllowedLaw }
 {}

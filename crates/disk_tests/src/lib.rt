@@ -1,3 +1,5 @@
+//! Tests of: block_disk, file_disk, deferred_disk.
+//!
 //! Tests of disks, by public calls.
 //!
 //! They stand in a crate of their own, since a crate with tests is proved twice. A scenario is a table of steps, each with

@@ -39,6 +39,8 @@ KeepsSeen h l seen old new = (image : List ℕ) → MayBeLeft old new image → 
 -- so it does, by a history that a helper had seen
 pub record KeepsSome (h : Home) (l : Layout) (old new : Device) : Type 0 where
   pub seen : List (ℕ × Event)
+  -- Where a round, a worker or want of memory stopped the run, recovery keeps one set of sections: whole ones of each
+  -- legal history that goes on from one that a helper had seen.
   pub each : KeepsSeen h l seen old new
 
 -- Calls of a store that had been told nothing have made the one device of the other; the last of them may be cut off. What they have applied is a legal log.
@@ -48,8 +50,11 @@ pub record IsLeftByCalls (h : Home) (l : Layout) (opened new : Device) : Type 0 
   pub nothing : HasPast began (plan h) no_past opened
   pub layout : began.layout ≡ l
   pub now : Past
+  -- Where the closing was stopped, the device is what calls of its store have made.
   pub ran : HasRun l (plan h) no_past opened now new true
+  -- Where the closing was stopped, what these calls have applied is a legal log.
   pub legal : IsLegal (plan h) (applied now)
+  -- Where the closing was stopped, recovery accepts whatever a crash left since the opening.
   pub takes : TakesEach opened new
 
 -- The heap was closed, one session a lane, and none of them held a monitor; one legal history has what each was told as its part, and the device that closing gave
@@ -61,8 +66,11 @@ pub record IsLeftBehind (h : Home) (l : Layout) (opened new : Device) : Type 0 w
   pub complete : IsComplete l.lanes ended
   pub closed : Device
   pub ran : IsClosed h l ended closed
+  -- After the closing, recovery would have kept whole sections of the closing's history at each moment before.
   pub keeps : KeepsEach h l ran.history opened closed
+  -- After the closing the device is what a recovery left, which may be cut off.
   pub cut_off : IsCutOff closed new
+  -- After the closing recovery accepts whatever a crash left since the opening.
   pub takes : TakesEach opened new
 
 -- What recovery makes of each image that a crash left at any moment since a heap was opened on the one device, where its run was stopped so on the other, and what

@@ -34,8 +34,12 @@ module _ {D : Type 0} (device : D → Device) where
   pub record IsTold (closed : Device) (now : Parts D) (driven : Driven) : Type 0 where
     pub report : Report
     pub recovery : IsRecovery closed (device now.disk) now report
+    -- The sections that are told are those that recovery kept.
     pub acknowledged : driven.acknowledged.items ≡ take now.layout.lanes report.kept.counts
+    -- The heap that is told is the one that recovery gives.
     pub heap : driven.heap.items ≡ now.heap
+    -- Whatever a crash leaves of the recovery after the closing, once its first sync was answered, is an image on
+    -- recovery's way.
     pub any_moment : (s : Study) → IsStudyOf closed.now.bytes s → LeavesOnly (synced closed) (device now.disk) (IsOnTheWay s)
 
   -- A heap ran by these words, since it was opened on this device. There was one session a lane, and none of them held a monitor at the
@@ -43,10 +47,15 @@ module _ {D : Type 0} (device : D → Device) where
   -- Whatever a crash had left at any moment of the run, recovery would have taken, and kept whole sections of that same history.
   pub record IsRunBy (shared : Home) (layout : Layout) (opened : Device) (now : Parts D) (driven : Driven) : Type 0 where
     pub ended : List Ended
+    -- No session held a monitor at the end.
     pub none : HoldNone ended
+    -- There was one session a lane.
     pub complete : IsComplete layout.lanes ended
     pub disk : D
+    -- One legal history has what each session was told as its part, and the device that was closed stands for its heap.
     pub closed : IsClosed shared layout ended (device disk)
+    -- Whatever a crash had left at any moment from the opening to the closing, recovery would have accepted. It would
+    -- have kept whole sections of that same history, each with all that it depends on.
     pub crashes : KeepsEach shared layout closed.history opened (device disk)
     pub told : IsTold (device disk) now driven
 
@@ -63,7 +72,9 @@ module _ {D : Type 0} (device : D → Device) where
   -- Formatting this device has made this image for so many workers, with lanes of 4,000 records: each value is 0. Nothing else was asked of it.
   pub record IsMadeOf (workers : ℕ) (old : Device) (made : Parts D) : Type 0 where
     pub layout : made.layout ≡ layout_with (schema_of workers) workers 4000
+    -- On a new image each value is 0 at first.
     pub first : (f : ℕ) → f < field_count (schema_of workers) → slice_index made.heap f ≡ 0
+    -- A new image is what formatting the given device has made, so that no earlier image is kept.
     pub calls : device made.disk ≡ after (format_calls made.layout (schema_of workers)) old
 
   -- A heap of so many workers ran from its beginning: on the image that formatting this device had made. This is what was left.
@@ -78,5 +89,6 @@ module _ {D : Type 0} (device : D → Device) where
     pub was : Parts D
     pub report : Report
     pub found : IsRecovery old (device was.disk) was report
+    -- The heap that workers go on with fits the workers' schema.
     pub theirs : IsOfWorkers workers was.layout was.guards
     pub driven_so : IsDriven (schema_of workers) was now driven

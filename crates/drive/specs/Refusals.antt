@@ -51,8 +51,11 @@ RefusesFinding old new _ = ⊥
 -- An image that was studied isn't recovered, for this reason. Nothing was done then but a sync; behind a fault each image that a crash leaves since then is
 -- one from before, or one on recovery's way.
 pub record IsNotFound (old new : Device) (e : RecoverError) : Type 0 where
+  -- An image that was studied is recovered, but for a fault, version 1, a worn control, or want of memory.
   pub why : RefusesFinding old new e
+  -- An image of the workers that isn't recovered is as it was, but that a sync was made, unless by a fault.
   pub untouched : (e ≡ recover.Fault) ⊎ SameMoments (synced old) new
+  -- After a fault each image that a crash leaves since then is one from before, or one on recovery's way.
   pub cut_off : IsCutOff old new
 
 -- Where objects and fields are the workers' own, a session refuses only since the helper is behind, or since numbers have come to their end.
@@ -65,7 +68,9 @@ module _ {D : Type 0} (device : D → Device) where
   pub record IsStoppedOf (workers : ℕ) (old : Device) (was : Parts D) (new : Device) (e : DriveError) : Type 0 where
     pub theirs : IsOfWorkers workers was.layout was.guards
     pub later : old.failures ≤ (device was.disk).failures
+    -- A run on a new image, or on one that was found, is stopped only as a run of its heap is.
     pub stops : StopsRun device (schema_of workers) was new e
+    -- On an image of the workers' own schema a worker's session stops a run only as `Behind` or `Worn`.
     pub own : IsOwnStop e
 
   -- it had begun on the image that formatting the device had made

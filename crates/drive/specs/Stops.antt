@@ -60,6 +60,8 @@ pub record IsLostAfter (h : Home) (l : Layout) (old new : Device) (e : RecoverEr
   pub closed : Device
   pub later : old.failures ≤ closed.failures
   pub ran : IsClosed h l ended closed
+  -- Recovery accepts what a good closing gave back. Where it isn't recovered, a call of the device has failed since,
+  -- memory ran out, or its control is at its last sequence.
   pub refused : LosesClosed closed new e
 
 -- why a run by these words is stopped, that began on the one device and leaves the other
@@ -81,7 +83,11 @@ module _ {D : Type 0} (device : D → Device) where
   pub record IsStopped (schema : Declarations) (was : Parts D) (new : Device) (e : DriveError) : Type 0 where
     pub shared : Home
     pub plan : IsHomeOf schema was.heap was.layout.lanes shared
+    -- No closing is stopped by the workers: each lane's session has come, and none holds a monitor. A worker's session
+    -- stops a run only as `Behind` or `Worn`, or because the heap has too few objects or fields for it, or guards one
+    -- of its fields otherwise.
     pub stops : StopsBy shared was.layout (device was.disk) new e
+    -- Where a run is stopped, whatever the refusal, recovery accepts whatever a crash left since it began.
     pub crashes : CrashesOf shared was.layout (device was.disk) new e
 
   -- Why a run of a heap of this schema is stopped, on an image in this state: memory was wanting before there was a heap, so that nothing was done; or there

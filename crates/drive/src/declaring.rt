@@ -12,7 +12,9 @@ use std::alloc::Global;
 ///
 /// An error is want of memory.
 pub fn declare(alloc: Global, workers: u8) -> Result<Schema, SchemaError>
+    // The workers' schema is `all` with `total`, and an object and a field of its own for each worker.
     ensures ok { IfOk result (λ schema. schema ≡ schema_of workers) }
+    // The workers' schema is refused only for want of memory.
     ensures memory { IfErr result (λ e. e ≡ SchemaError.NoMemory) }
 {
     let mut builder = SchemaBuilder::new(alloc);

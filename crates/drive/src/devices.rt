@@ -42,8 +42,13 @@ pub fn drive_with<M: Meet + Sync, R: Threads + Wait + Sync>(
     workers: u8,
     rounds: u32,
 ) -> Result<Driven, DriveError>
+    // A new heap of as many lanes as there are workers was worked on, and what is told is what recovery gives at the
+    // end.
     ensures ok { IfOk result (λ d. (now : Parts Memory) × HasDriven device_of workers (blank_device workers) now d) }
+    // Workers work only where there are 1 to 32 of them.
     ensures workers { IfOk result (λ d. MayHaveImage workers) }
+    // Workers are refused for their number only where there aren't 1 to 32 of them. An image that can't be made is
+    // refused as `Store::format` says.
     ensures refused { IfErr result (RefusesWith device_of workers) }
 {
     let size = image_size(alloc, workers)?;
@@ -77,6 +82,7 @@ fn refusal_of<D: Disk + Drop>(back: (D, DriveError)) -> DriveError
 /// Refused: `Schema` for want of memory; `Image`, by `BadHeader`, where there aren't 1 to 32 workers.
 pub fn image_size(alloc: Global, workers: u8) -> Result<u64, DriveError>
     ensures ok { IfOk result (λ size. size ≡ size_of (layout_with (schema_of workers) workers 4000)) }
+    // Workers work only where there are 1 to 32 of them.
     ensures workers { IfOk result (λ size. MayHaveImage workers) }
     ensures refused { IfErr result (RefusesSize workers) }
 {
@@ -104,8 +110,13 @@ pub fn drive_new<D: Disk + Drop, M: Meet + Sync, R: Threads + Wait + Sync>(
     workers: u8,
     rounds: u32,
 ) -> Result<(Recovered<D>, Driven), (D, DriveError)>
+    // A new heap of as many lanes as there are workers was worked on, and what is told is what recovery gives at the
+    // end.
     ensures ok { IfOk result (λ r. HasDriven D.device workers (D.device disk) r.0 r.1) }
+    // Workers work only where there are 1 to 32 of them.
     ensures workers { IfOk result (λ r. MayHaveImage workers) }
+    // Workers are refused for their number only where there aren't 1 to 32 of them. An image that can't be made is
+    // refused as `Store::format` says.
     ensures refused { IfErr result (λ back. RefusesNew D.device workers (D.device disk) (D.device back.0) back.1) }
 {
     let schema = match declare(alloc, workers) {
@@ -160,8 +171,13 @@ pub fn drive_on<D: Disk + Drop, M: Meet + Sync, R: Threads + Wait + Sync>(
     workers: u8,
     rounds: u32,
 ) -> Result<(Recovered<D>, Driven), (D, DriveError)>
+    // The workers went on with the heap that recovery found on the device, and what is told is what recovery gives at
+    // the end.
     ensures ok { IfOk result (λ r. HasDrivenOn D.device workers (D.device disk) r.0 r.1) }
+    // Workers go on only with an image of as many workers, whose fields are all persistent.
     ensures theirs { IfOk result (λ r. HoldsWorkers workers (D.device disk).now.bytes) }
+    // A device that holds no image is refused by the reason of its study; one that holds another image, as another
+    // schema's. Either is only read.
     ensures refused { IfErr result (λ back. RefusesOn D.device workers (D.device disk) (D.device back.0) back.1) }
 {
     let schema = match declare(alloc, workers) {

@@ -59,7 +59,11 @@ pub fn drive_heap<D: Disk + Drop, M: Meet + Sync, R: Threads + Wait + Sync>(
     rounds: u32,
 ) -> Result<(Recovered<D>, Driven), (D, DriveError)>
     requires schema { FitsSchema schema recovered.layout recovered.guards }
+    // What is told at the end, the acknowledged sections by lane and the heap, is what recovery gives of the device
+    // that the closing gave back.
     ensures ok { IfOk result (λ r. IsDriven D.device schema recovered r.0 r.1) }
+    // A run is refused by a fault only where the device has failed since it began, by `Worn` only where its control is
+    // at its last sequence, and never by `Failed`.
     ensures cause { IfErr result (λ back. StopsRun D.device schema recovered (D.device back.0) back.1) }
 {
     taken_law();

@@ -82,7 +82,8 @@ fn make_round<D: Disk>(shared: &Shared, helper: &mut Helper<D>) -> Result<u64, S
     ensures running { OnOk result (helper.new.store.known.has_failed ≡ false) }
     ensures lives { OnOk result (LivesOn D.device shared.now helper.old helper.new) }
     ensures seen { HasSeen shared.now helper.new }
-    // Whatever the round answers, and at whatever moment of it a crash comes.
+    // What a crash leaves at any moment since the opening, up to the end of a round, keeps whole sections of each legal
+    // history that goes on from what the helper has seen.
     ensures crashes { CrashesSince D.device shared.now helper.old helper.new }
     ensures cause { IfErr result (StopsRound (D.device helper.old.store.disk) (D.device helper.new.store.disk)) }
 {

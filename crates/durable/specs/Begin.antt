@@ -30,7 +30,7 @@ pub record IsSettingOf (l : Layout) (rows : List GuardRow) (heap : List ℕ) (la
   pub objects : s.objects ≡ l.objects
   pub fields : s.fields ≡ l.fields
   pub guards : (f : ℕ) (d : GuardRow) → f < l.fields → (slice_index_or rows f d).guard.0 ≡ s.guard f
-  -- logs keep the stores of those that aren't transient
+  -- Which fields are transient is what the guard rows say.
   pub marks : (f : ℕ) (d : GuardRow) → f < l.fields → (slice_index_or rows f d).transient ≡ not (s.is_logged f)
   pub values : (f : ℕ) → f < l.fields → slice_index heap f ≡ s.first f
   pub last_is : last ≡ s.last

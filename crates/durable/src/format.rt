@@ -33,13 +33,17 @@ impl<D: Disk> Store<D> {
         capacity: u32,
     ) -> Result<Recovered<D>, (D, ImageError)>
         ensures limits { IfOk result (λ made. AreLimits lanes capacity) }
+        // Format gives the schema's layout, with so many lanes of so many records.
         ensures layout { IfOk result (λ made. made.layout ≡ layout_with schema.now lanes capacity) }
         ensures control { IfOk result (λ made. (made.slot ≡ A) × (made.sequence ≡ 1)) }
         ensures guards { IfOk result (λ made. (f : ℕ) (d : Row) → f < field_count schema.now
             → slice_index_or made.guards f d ≡ guard_row_of schema.now f) }
+        // Format gives the schema's first values.
         ensures heap { IfOk result (λ made. (f : ℕ) → f < field_count schema.now → slice_index made.heap f ≡ first_of schema.now f) }
+        // Format gives an image that a store may take over.
         ensures recovered { IfOk result (λ r. IsRecovered (D.device r.disk) r.layout r.guards r.slot r.sequence r.heap) }
         ensures calls { IfOk result (λ made. D.device made.disk ≡ after (format_calls made.layout schema.now) (D.device disk)) }
+        // Format is refused by the first of the documented reasons.
         ensures refused { IfErr result (λ back. RefusesFormat schema.now lanes capacity (D.device disk) (D.device back.0) back.1) }
     {
         store_image::format(alloc, disk, schema, lanes, capacity)

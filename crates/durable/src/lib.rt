@@ -3,9 +3,10 @@
 //! [`Store::format`] makes an image, [`Store::adopt`] takes it over. [`Store::apply`] is told the records of each lane,
 //! [`Store::log_step`] makes them durable, [`Store::home_step`] brings a logged value to its home cell, and
 //! [`Store::settle`] acknowledges the stable cut; [`Store::trim`] forgets what is acknowledged. A helper's round makes
-//! [`Store::log_at_once`] and [`Store::settle_and_trim`], which do the same with fewer syncs. Whatever a call answers, and at
-//! every moment until then, each image that a crash may leave stands for the heap of the acknowledged cut, where it settles
-//! for that of the old one or of the new one. [`Store::play`] makes a list of calls, so that this is one theorem.
+//! [`Store::log_at_once`] and [`Store::settle_and_trim`], which do the same with fewer syncs.
+//!
+//! At every moment of every call, each image that a crash may leave stands for the heap of the acknowledged cut. While the store settles,
+//! it stands for that of the old cut or of the new one. [`Store::play`] makes a list of calls, so that this is one theorem.
 #![tactic(auto)]
 
 mod beginning;

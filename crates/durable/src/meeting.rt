@@ -12,6 +12,7 @@ impl<D: Meets> Store<D> {
         ensures device { D.device self.new.disk ≡ D.device self.old.disk }
         ensures pair { D.is_peer self.new.disk peer.new }
         ensures met { D.have_met self.new.disk peer.new }
+        // A store stays as it was while its device meets its host.
         ensures stays { D.stays peer.old peer.new }
     {
         self.disk.meet(peer);

@@ -1,4 +1,4 @@
-//! The two halves of a helper's round, with two syncs each; three where sequence 0 stands behind the other slot's open gate.
+//! The two halves of a helper's round, with two syncs each; three where the other slot's gate is open over sequence 0.
 ghost use Rattle.durable.specs.Steps.{Logs, SettlesAndTrims};
 
 use crate::doubt::Doubt;

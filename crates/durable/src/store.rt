@@ -71,11 +71,16 @@ impl<D: Disk> Store<D> {
         last: u64,
     ) -> Result<Store<D>, (Recovered<D>, AllocError)>
         requires last { last ≤ 2 ^ 40 - 1 }
+        // A store that takes over a recovered device was told nothing, and its device agrees. Every monitor is free.
         ensures past { BeginsWith D.device recovered.layout recovered.guards recovered.heap last result }
+        // A new store hasn't failed.
         ensures running { IfOk result (λ x. x.known.has_failed ≡ false) }
+        // A new store has the recovered device.
         ensures disk { IfOk result (λ x. x.disk ≡ recovered.disk) }
         ensures layout { IfOk result (λ x. x.known.layout ≡ recovered.layout) }
+        // A store begins with the sequence of what was recovered.
         ensures sequence { IfOk result (λ x. x.known.committed.sequence ≡ recovered.sequence) }
+        // After want of memory the device is given back as it was.
         ensures refused { IfErr result (λ back. back.0 ≡ recovered) }
     {
         let RecoveredParts {
@@ -256,6 +261,7 @@ impl<D: Disk> Store<D> {
     /// How many sections of the lane are acknowledged.
     pub fn acknowledged(&self, lane: Lane) -> u64
         requires { lane.0 < self.now.known.layout.lanes }
+        // The answer is how many sections of the lane are acknowledged.
         ensures { HasAcknowledged D.device self.now lane.0 result }
     {
         self.committed.rows[usize::from(lane.0)].kept
@@ -264,7 +270,9 @@ impl<D: Disk> Store<D> {
     /// The field's value after all applied stores. A transient field has its first one, since none of its stores is applied.
     pub fn heap_value(&self, field: FieldId) -> u64
         requires { field.0 < self.now.known.layout.fields }
+        // The answer is the field's value after all that was applied.
         ensures value { HasValue D.device self.now field.0 result }
+        // The applied value of a transient field is its first value.
         ensures transient { HasFirstValue D.device self.now field.0 result }
     {
         self.applied.value(field)
@@ -273,6 +281,7 @@ impl<D: Disk> Store<D> {
     /// The first place of the lane that wasn't trimmed: so many of its records are no longer needed.
     pub fn trimmed(&self, lane: Lane) -> u64
         requires { lane.0 < self.now.known.layout.lanes }
+        // The answer is the place up to which the lane's records were trimmed.
         ensures { HasTrimmed D.device self.now lane.0 result }
     {
         self.applied.start(lane)
@@ -282,7 +291,10 @@ impl<D: Disk> Store<D> {
     /// sections, and for no other cut.
     pub fn disk(&self) -> &D
         ensures disk { result.now ≡ self.now.disk }
+        // What a store that hasn't failed reads stands for exactly the acknowledged cut.
         ensures at_rest { ReadsAcknowledged D.device self.now result.now }
+        // What a crash leaves of a store that hasn't failed, between two calls, stands for exactly the acknowledged
+        // cut.
         ensures crash { RestsAcknowledged D.device self.now result.now }
     {
         &self.disk
@@ -301,11 +313,18 @@ impl<D: Disk> Store<D> {
     /// Refusals, in this order: `Failed`; `Unfinished`: a lane holds a monitor; `Unwritten`: a record isn't logged, a field is
     /// dirty, or a logged section that has ended isn't acknowledged. After a refusal the store is given back as it was.
     pub fn close(self) -> Result<D, (Store<D>, StoreError)>
+        // A store that is closed has nothing open, unlogged, dirty or unacknowledged.
         ensures ok { ClosesWritten D.device self result }
+        // A closed store's home cells of persistent fields are the values after all that was applied.
         ensures home { ClosesAtHome D.device self result }
+        // Whatever a crash leaves after a closing stands for the values after all that was applied, with each transient
+        // field at its first value.
         ensures stands { ClosesForGood D.device self result }
         ensures disk { IfOk result (λ disk. disk ≡ self.disk) }
+        // A store isn't closed where it has failed or something is open, unlogged, dirty or unacknowledged. The first
+        // of these is the reason.
         ensures refused { RefusesToClose D.device self result }
+        // A store that isn't closed is given back as it was.
         ensures back { IfErr result (λ back. back.0 ≡ self) }
     {
         match self.is_closable() {
@@ -337,8 +356,14 @@ impl<D: Disk> Store<D> {
     /// The device, as it is: as a stop leaves it.
     pub fn into_disk(self) -> D
         ensures disk { result ≡ self.disk }
+        // Whatever a crash leaves of a store's device at its end shows its past, or what the step in doubt would have
+        // made of it.
         ensures shown { ShowsAtStop D.device self result }
+        // Whatever a crash leaves of a store's device at its end stands for the acknowledged heap, or for the one that
+        // the settling in doubt would have acknowledged.
         ensures crash { StandsAtStop D.device self result }
+        // What a crash leaves of a store that hasn't failed, between two calls, stands for exactly the acknowledged
+        // cut.
         ensures at_rest { RestsAcknowledged D.device self result }
     {
         self.disk

@@ -1,4 +1,4 @@
-//! The file behind a disk.
+//! The file that a disk writes to.
 ghost use Rattle.std.specs.Prelude.{◌≡◌, Option, None, length, OnOk, OnErr, IfOk, IfSome, option_map};
 ghost use Rattle.file_disk.specs.Backing.{Held, emptied, put_at, settled, TornFile, ReadsAsBefore};
 ghost use Rattle.block_disk.specs.Bytes.{part};

@@ -116,6 +116,7 @@ impl<F: BackingFile + Drop> BufferedDisk<F> {
 
     /// The file holds at every moment one of the images that a crash may leave.
     pub fn possible_law(&self)
+        // The file reads what a crash of the device might leave now.
         ensures { IfSome self.now.file (λ h. Image self.now.device.now h.reads) }
     {
         let _ = &self.bytes;
@@ -165,7 +166,9 @@ impl<F: BackingFile + Drop> Disk for BufferedDisk<F> {
         ensures untorn { IsErrOf result Fault → SameMoments self.old.device self.new.device }
         ensures beyond { length self.old.device.now.bytes < at + length bytes.now
             → IsErrOf result OutOfRange }
+        // A write that begins within the last pending range, or right after it, can't fail, for want of memory either.
         ensures goes_on { GoesOn at self.old.device.now.pending → ¬ IsErrOf result Fault }
+        // A write leaves the file as it was.
         ensures file { self.new.file ≡ self.old.file }
     {
         let size = self.bytes.len();
@@ -191,7 +194,9 @@ impl<F: BackingFile + Drop> Disk for BufferedDisk<F> {
         ensures cause { OnErr result (HasFailedSince self.old.device self.new.device) }
         ensures counted { OnErr result (CountsOneMore self.old.device self.new.device) }
         ensures untorn { OnErr result (SameMoments self.old.device self.new.device) }
+        // A write that begins within the last pending range, or right after it, can't fail, for want of memory either.
         ensures goes_on { GoesOn at self.old.device.now.pending → IsOk result }
+        // A write leaves the file as it was.
         ensures file { self.new.file ≡ self.old.file }
     {
         let size = self.bytes.len();
@@ -212,6 +217,8 @@ impl<F: BackingFile + Drop> Disk for BufferedDisk<F> {
         ensures fault { IsErrOf result Fault → SameMoments self.old.device self.new.device }
         ensures cause { IsErrOf result Fault → HasFailedSince self.old.device self.new.device }
         ensures counted { IsErrOf result Fault → CountsOneMore self.old.device self.new.device }
+        // After a sync that succeeds, whatever failed before, the file reads the device's bytes, and has since it was
+        // synced.
         ensures durable { OnOk result (ReadsForGood self.new.device.now.bytes self.new.file) }
     {
         if flush(&mut self.file, &self.unwritten, &self.bytes).is_err() {

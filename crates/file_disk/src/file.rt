@@ -143,6 +143,7 @@ impl<F: BackingFile + Drop> Disk for FileDisk<F> {
         ensures counted { IsErrOf result Fault → CountsOneMore self.old.device self.new.device }
         ensures beyond { length self.old.device.now.bytes < at + length out.old
             → IsErrOf result OutOfRange }
+        // Bytes that a disk over a file reads are what its file has too.
         ensures agrees { OnOk result
             (IfSome self.old.file (λ h. out.new ≡ part at (length out.old) h.reads)) }
         ensures file { self.new.file ≡ self.old.file }
@@ -172,7 +173,9 @@ impl<F: BackingFile + Drop> Disk for FileDisk<F> {
         ensures counted { IsErrOf result Fault → CountsOneMore self.old.device self.new.device }
         ensures beyond { length self.old.device.now.bytes < at + length bytes.now
             → IsErrOf result OutOfRange }
+        // A write out of range leaves the file alone.
         ensures untouched { IsErrOf result OutOfRange → self.new ≡ self.old }
+        // A write that succeeds leaves a file that read the device's bytes reading them.
         ensures mirrored { OnOk result (Reads self.old.device.now.bytes self.old.file
             → Reads self.new.device.now.bytes self.new.file) }
     {
@@ -201,6 +204,8 @@ impl<F: BackingFile + Drop> Disk for FileDisk<F> {
         ensures fault { IsErrOf result Fault → SameMoments self.old.device self.new.device }
         ensures cause { IsErrOf result Fault → HasFailedSince self.old.device self.new.device }
         ensures counted { IsErrOf result Fault → CountsOneMore self.old.device self.new.device }
+        // After a sync that succeeds, whatever failed before, the file reads the device's bytes, and has since it was
+        // synced.
         ensures durable { OnOk result (ReadsForGood self.new.device.now.bytes self.new.file) }
     {
         if catch_up(&mut self.file, self.behind, &self.unsynced, &self.bytes).is_err() {

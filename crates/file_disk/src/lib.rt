@@ -1,10 +1,11 @@
 //! Disks for long runs, over a file and in memory.
 //!
-//! Each takes its bytes and the ranges written since the last sync, and no more, however long it runs. [`BufferedDisk`]
-//! keeps its bytes in memory and brings them to a file at each sync; [`FileDisk`] brings each write there at once and
-//! reads the file; [`VolatileDisk`] has no file. A [`BackingFile`] is what the first two need of a file, with a [`Claim`] for one of
-//! its opens, and [`read_there`]
-//! and [`write_there`] serve whoever makes one of what reads, writes and seeks.
+//! Each takes memory for its bytes and for the ranges written since the last sync, however long it runs. [`BufferedDisk`] keeps its bytes in
+//! memory and brings them to a file at each sync. [`FileDisk`] brings each write there at once and reads the file. [`VolatileDisk`] has no
+//! file.
+//!
+//! A [`BackingFile`] is what the first two need of a file, with a [`Claim`] for one of its opens. [`read_there`] and [`write_there`] serve
+//! whoever makes one of what reads, writes and seeks.
 #![tactic(auto)]
 
 mod backing;

@@ -48,8 +48,10 @@ pub(crate) fn add(spans: &mut Vec<Span>, start: u64, len: u64, size: u64) -> boo
     requires within { start + len ≤ size }
     requires others { AllWithin size spans.old.items }
     ensures within { AllWithin size spans.new.items }
+    // The ranges that a sync writes cover all that was written since the last sync that succeeded.
     ensures covered { IsTrue result → (i : ℕ) → IsClear i spans.new.items
         → IsClear i (record { start = start; len = len } ∷ spans.old.items) }
+    // The ranges that a sync writes have no byte that wasn't written since the last sync that succeeded.
     ensures exact { IsTrue result → (i : ℕ)
         → IsClear i (record { start = start; len = len } ∷ spans.old.items)
         → IsClear i spans.new.items }

@@ -50,14 +50,20 @@ impl SchemaBuilder {
     ///
     /// Refused, in this order: `Empty`, `DoubleName`, `TooMany`, `NoMemory`.
     pub fn object(&mut self, name: &str) -> Result<ObjectId, SchemaError>
+        // An accepted object gets the next number, and stands after the objects before it.
         ensures ok { IfOk result (λ id. (id.0 ≡ object_count self.old)
             × (self.new ≡ with_object self.old name.now)) }
+        // An object is refused as `Empty` exactly where its name is empty.
         ensures empty { IsErrOf result SchemaError.Empty ↔ (name.now ≡ []) }
+        // An object is refused as `DoubleName` exactly where its name isn't empty and another object has it.
         ensures double_name { IsErrOf result SchemaError.DoubleName
             ↔ ((name.now ≢ []) × Contains self.old.objects name.now) }
         ensures known { result ≢ Err SchemaError.UnknownObject }
+        // An object is refused as `TooMany` exactly where its name is new and there are as many objects as a schema may
+        // have.
         ensures too_many { IsErrOf result SchemaError.TooMany
             ↔ (IsNewName self.old.objects name.now × (object_count self.old ≡ MOST_OBJECTS)) }
+        // A refused object leaves the builder as it was.
         ensures err { OnErr result (self.new ≡ self.old) }
     {
         if name.is_empty() {
@@ -87,6 +93,7 @@ impl SchemaBuilder {
         guard: ObjectId,
         first: u64,
     ) -> Result<FieldId, SchemaError>
+        // A field that is declared so is persistent.
         ensures declares { Declares owner name.now guard first false self.old result self.new }
     {
         let row = FieldRow {
@@ -111,6 +118,7 @@ impl SchemaBuilder {
         guard: ObjectId,
         first: u64,
     ) -> Result<FieldId, SchemaError>
+        // A field that is declared so is transient. It is refused as a persistent one is.
         ensures declares { Declares owner name.now guard first true self.old result self.new }
     {
         let row = FieldRow {
@@ -124,8 +132,10 @@ impl SchemaBuilder {
 
     /// The object declared under this name.
     pub fn object_named(&self, name: &str) -> Option<ObjectId>
+        // An object that a name finds was declared by this name.
         ensures found { IfSome result (λ id. slice_get self.now.objects id.0 ≡ Some name.now) }
         ensures declared { IfSome result (λ id. id.0 < object_count self.now) }
+        // The name of each object finds that object.
         ensures own { (object : ℕ) → slice_get self.now.objects object ≡ Some name.now
             → result ≡ Some (record { 0 = object }) }
     {
@@ -135,6 +145,7 @@ impl SchemaBuilder {
 
     /// How many fields are declared. They are numbered from 0.
     pub fn fields(&self) -> u32
+        // A builder tells how many fields are declared so far.
         ensures count { result ≡ field_count self.now }
         ensures limit { field_count self.now ≤ MOST_FIELDS }
     {
@@ -144,6 +155,7 @@ impl SchemaBuilder {
     /// The name of the field.
     pub fn field_name(&self, field: FieldId) -> &str
         requires { field.0 < field_count self.now }
+        // The answer is the name by which the field was declared.
         ensures { slice_get (names_of self.now.fields) field.0 ≡ Some result.now }
     {
         field_name_at(&self.fields, field.0 as usize)
@@ -157,9 +169,13 @@ impl SchemaBuilder {
     /// Closes the declarations. It takes no memory, so its one refusal is `Empty`, where there is
     /// no object or no field; the builder then comes back as it was.
     pub fn build(self) -> Result<Schema, (SchemaBuilder, SchemaError)>
+        // A built schema is exactly the declarations that were accepted, in their order.
         ensures ok { IfOk result (λ schema. schema ≡ self) }
+        // A built schema is within the limits of a schema.
         ensures schema { IfOk result IsSchema }
+        // A build is refused exactly where no object or no field is declared.
         ensures empty { IsErr result ↔ ((object_count self ≡ 0) ⊎ (field_count self ≡ 0)) }
+        // A refused build gives the builder back as it was.
         ensures back { IfErr result (λ refused. (refused.0 ≡ self) × (refused.1 ≡ SchemaError.Empty)) }
     {
         if self.objects.is_empty() || self.fields.is_empty() {

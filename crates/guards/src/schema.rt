@@ -84,6 +84,7 @@ impl Schema {
     /// each open.
     pub fn transient(&self, field: FieldId) -> bool
         requires { field.0 < field_count self.now }
+        // A field is transient exactly where it was declared so.
         ensures { result ≡ is_transient_of self.now field.0 }
     {
         row_at(&self.fields, field.0 as usize).is_transient
@@ -92,6 +93,7 @@ impl Schema {
     /// The name of the object.
     pub fn object_name(&self, object: ObjectId) -> &str
         requires { object.0 < object_count self.now }
+        // The answer is the name by which the object was declared.
         ensures { slice_get self.now.objects object.0 ≡ Some result.now }
     {
         name_at(&self.objects, object.0 as usize)
@@ -100,6 +102,7 @@ impl Schema {
     /// The name of the field.
     pub fn field_name(&self, field: FieldId) -> &str
         requires { field.0 < field_count self.now }
+        // The answer is the name by which the field was declared.
         ensures { slice_get (names_of self.now.fields) field.0 ≡ Some result.now }
     {
         field_name_at(&self.fields, field.0 as usize)
@@ -107,7 +110,9 @@ impl Schema {
 
     /// The object of this name.
     pub fn object_named(&self, name: &str) -> Option<ObjectId>
+        // An object that a name finds was declared by this name.
         ensures found { IfSome result (λ id. slice_get self.now.objects id.0 ≡ Some name.now) }
+        // The name of each object finds that object.
         ensures own { (object : ℕ) → slice_get self.now.objects object ≡ Some name.now
             → result ≡ Some (record { 0 = object }) }
     {
@@ -117,7 +122,9 @@ impl Schema {
 
     /// The field of this name.
     pub fn field_named(&self, name: &str) -> Option<FieldId>
+        // A field that a name finds was declared by this name.
         ensures found { IfSome result (λ id. slice_get (names_of self.now.fields) id.0 ≡ Some name.now) }
+        // The name of each field finds that field.
         ensures own { (field : ℕ) → slice_get (names_of self.now.fields) field ≡ Some name.now
             → result ≡ Some (record { 0 = field }) }
     {

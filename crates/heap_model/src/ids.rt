@@ -22,6 +22,7 @@ pub struct Lane(pub u8);
 impl Lane {
     /// The number by which texts and words name the lane's thread, from 1.
     pub fn thread(self) -> u64
+        // Texts show a lane as its number plus one.
         ensures { result ≡ self.0 + 1 }
     {
         u64::from(self.0) + 1
@@ -30,6 +31,7 @@ impl Lane {
     /// The lane of the thread of this number, from 1. No heap has a lane for 0, nor for a number
     /// past [`LANES`].
     pub fn of_thread(thread: u64) -> Option<Lane>
+        // A number that texts show is read back as its lane.
         ensures found { 0 < thread → thread ≤ LANES → result ≡ Some (record { 0 = thread - 1 }) }
         ensures none { (result ≡ None) ↔ ((thread ≡ 0) ⊎ (LANES < thread)) }
     {

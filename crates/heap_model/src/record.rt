@@ -57,6 +57,7 @@ pub struct LaneRecord {
 impl Record {
     /// The record as the undo log keeps it.
     pub fn undo(self) -> UndoRecord
+        // The answer is the record as the undo log keeps it.
         ensures { result ≡ undo_of self }
     {
         match self {
@@ -75,6 +76,7 @@ impl Record {
     ///
     /// A monitor that is locked several times counts once.
     pub fn is_section_end(self, held: u32) -> bool
+        // The answer is true exactly where the record ends a section of a lane that holds these objects.
         ensures { IsTrue result ↔ EndsSection self held }
     {
         match self {

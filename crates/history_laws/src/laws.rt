@@ -9,6 +9,8 @@ pub fn log_law()
 
 /// The state after a legal history is that of its log.
 pub fn state_law()
+    // After a legal history each owner, each number, each logged field's value and each wait is that of the history's
+    // log.
     ensures { StateLaw }
 {}
 
@@ -19,6 +21,8 @@ pub fn own_log_law()
 
 /// A thread's own view agrees with the state of every legal history that has its events.
 pub fn own_law()
+    // A thread's own view of its holds and its wait agrees with the state after every legal history that has its
+    // events.
     ensures { OwnLaw }
 {}
 
@@ -29,6 +33,8 @@ pub fn sent_law()
 
 /// The order of the lanes' records among one another doesn't matter to what a cut keeps.
 pub fn order_law()
+    // The order of the lanes' records among one another doesn't change the heap that a whole cut keeps, in a longer
+    // list too.
     ensures { OrderLaw }
 {}
 
@@ -40,6 +46,7 @@ pub fn undo_law()
 /// A trimmed log tells the same: the stable cut of all is the base and the stable cut since, the heap of a
 /// cut is that of the base with the stores since, and the records since may follow those of the base.
 pub fn trim_law()
+    // The stable cut of all is the base plus the stable cut of what was done since.
     ensures cut { TrimLaw }
     ensures heap { TrimHeapLaw }
     ensures split { SplitLaw }

@@ -15,11 +15,14 @@ pub fn holding_law()
 
 /// A thread's own events tell its sections.
 pub fn own_sections_law()
+    // A lane's records in the log, and so its sections, depend on the thread's own events alone.
     ensures { OwnSectionsLaw }
 {}
 
 /// A thread holds what it holds by its own events.
 pub fn held_by_view_law()
+    // A hold that a thread's own events tell is one in the state: the thread owns the monitor, by this count and at
+    // this number.
     ensures { HeldByViewLaw }
 {}
 
@@ -30,10 +33,13 @@ pub fn awake_by_view_law()
 
 /// Others leave a thread what it owns, with the values that it guards, and leave it as it waits.
 pub fn others_keep_law()
+    // Another thread's event changes neither what a thread holds, nor its wait, nor the values that its monitors guard.
+    // It doesn't undo a removal from a wait set.
     ensures { OthersKeepLaw }
 {}
 
 /// A thread that no event of a history is of owns nothing, and is awake.
 pub fn of_lanes_law()
+    // A history of so many lanes has a log of so many lanes. A thread past them owns nothing and doesn't wait.
     ensures { OfLanesLaw }
 {}

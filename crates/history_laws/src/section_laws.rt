@@ -7,6 +7,7 @@ ghost use Rattle.history_laws.specs.SectionLaws.{HolderLaw, FreedLaw, EndedLaw, 
 pub fn holder_law()
     ensures holder { HolderLaw }
     ensures freed { FreedLaw }
+    // A lane's section ends when the lane frees the last object that it holds.
     ensures ended { EndedLaw }
 {}
 
@@ -22,5 +23,7 @@ pub fn all_kept_law()
 
 /// Unless all is done, there is an earliest that isn't, and it may be next.
 pub fn earliest_law<A>()
+    // A list may have the beginning of each lane of another list. Then it has all of that list, or there is an earliest
+    // record that it lacks.
     ensures { EarliestLaw A }
 {}

@@ -19,8 +19,10 @@ pub record GoesOnQuietly (x y : Hosting) : Type 0 where
 pub record LetsGo (old new : List LaneEnd) (s : Seated) : Type 0 where
   pub place : ℕ
   pub low : place < length old
+  -- A session that is handed out again is just as it came back.
   pub came : (d : LaneEnd) → (slice_index_or old place d).came ≡ Some s.session
   pub end : LaneEnd
+  -- A session that is handed out again is awaited at the end of its lane, by the ring that it has.
   pub awaited : IsAwaitedBy s end
   pub others : new ≡ set old place end
 
@@ -29,7 +31,9 @@ pub record LetsGo (old new : List LaneEnd) (s : Seated) : Type 0 where
 pub record HandsAgain (x y : Hosting) (s : Seated) : Type 0 where
   pub home : s.home ≡ x.home
   pub word : s.stop.word ≡ x.stop.word
+  -- A session that is handed out again is joined to its helper, so that what its lane has sent is its log.
   pub joined : IsJoined x.home x.helper.store.known.layout.capacity x.helper.rings s.session
+  -- A session that is handed out again holds no monitor.
   pub idle : held_count (view_of s.session) ≡ 0
   pub seen : List LaneEnd
   pub quietly : GoesOnQuietly x (record y { out = seen })
@@ -37,5 +41,6 @@ pub record HandsAgain (x y : Hosting) (s : Seated) : Type 0 where
 
 -- Of the sessions that were handed out none that holds no monitor has ended.
 pub record HasNoneIdle (x y : Hosting) : Type 0 where
+  -- No session is handed out again only where, after a look, each that was handed out is out or holds a monitor.
   pub taken : All IsTaken y.out
   pub quietly : GoesOnQuietly x y

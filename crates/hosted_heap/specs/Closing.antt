@@ -23,6 +23,7 @@ pub record GoesOn (x y : Hosting) : Type 0 where
   pub home : y.home ≡ x.home
   pub helper : y.helper ≡ x.helper
   pub unused : y.unused ≡ x.unused
+  -- A session that has come back, and isn't handed out again, stays back.
   pub out : KeepCome x.out y.out
   pub stop : y.stop ≡ x.stop
 
@@ -32,6 +33,8 @@ pub record GoesOnWithout (x y : Hosting) : Type 0 where
   pub helper : y.helper ≡ x.helper
   pub unused : y.unused ≡ []
   pub out : KeepCome x.out (drop (length x.unused) y.out)
+  -- A heap is told to be in use only once each session has come back, and goes on without those that weren't handed
+  -- out.
   pub came : All HasCome y.out
   pub stop : y.stop ≡ x.stop
 
@@ -40,10 +43,14 @@ pub record GoesOnWithout (x y : Hosting) : Type 0 where
 pub record StopsBy (h : Home) (x : Parts Deferred) (disk : Deferred) (e : CloseError) : Type 0 where
   pub ended : List Ended
   pub are : All (IsEnded h x.store.known.layout.capacity x.rings) ended
+  -- A heap to which each session has come back is never stopped for want of one: one a lane meets the helper.
   pub complete : IsComplete x.store.known.layout.lanes ended
   pub refuses : RefusesClosing x.store.known.layout.lanes ended e
+  -- A closing that the sessions stop leaves the disk as it was.
   pub untouched : IsOfSessions e → disk ≡ x.store.disk
   pub why : IsCloseWhy x.store.known (hosted_device x.store.disk) (hosted_device disk) e
+  -- Whatever a crash leaves of the disk after a closing, good or stopped, recovery accepts. Each image shows what store
+  -- calls make of what the helper served.
   pub closes : HaveMetHelper h x ended (Err (disk, e))
 
 -- Why the heap has stopped, and its disk then: for want of memory, with the disk as it was; or for a reason of the sessions, or of the device.

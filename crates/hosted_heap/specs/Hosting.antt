@@ -61,4 +61,6 @@ pub record IsClosedWith (h : Home) (x : Parts Deferred) (disk : Deferred) : Type
   pub complete : IsComplete x.store.known.layout.lanes ended
   pub closed : IsClosed h x.store.known.layout ended (hosted_device disk)
   pub from : (p : Past) → IsServing hosted_device x (plan h) p → IsClosedFrom h x.store.known.layout ended p x.seat (hosted_device x.store.disk) (hosted_device disk)
+  -- Whatever a crash leaves of the disk after a closing, good or stopped, recovery accepts. Each image shows what store
+  -- calls make of what the helper served.
   pub closes : HaveMetHelper h x ended (Ok disk)

@@ -39,13 +39,18 @@ pub record HasBegun (schema : Declarations) (r : Parts Deferred) (x : Hosting) :
   pub plan_is : x.home.plan ≡ record { schema = schema; first = r.heap; last = LAST_NUMBER; lanes = r.layout.lanes }
   pub layout_is : x.helper.store.known.layout ≡ r.layout
   pub disk_is : x.helper.store.disk ≡ r.disk
+  -- The host's calls are those of the heap's own disk.
   pub host : IsHostOf x.helper.store.disk x.calls
   pub untold : IsServing hosted_device x.helper (plan x.home) no_past
   pub running : x.helper.store.known.has_failed ≡ false
   pub settled : x.helper.is_settled ≡ true
+  -- A heap begins with no call made.
   pub unmade : x.calls.made ≡ []
+  -- A heap begins with no call fetched.
   pub none_left : x.calls.left ≡ []
+  -- A heap begins with all its sessions to hand out.
   pub unused : x.unused ≡ range_with_len 0 r.layout.lanes
+  -- A heap begins with no session handed out.
   pub none_out : x.out ≡ []
   pub unstopped : x.stop.seen ≡ None
 
@@ -55,7 +60,9 @@ pub record IsMade (objects : ℕ) (rows : List GuardRow) (lanes capacity : ℕ) 
   pub limits : AreLimits lanes capacity
   pub made : Parts Deferred
   pub layout_is : made.layout ≡ layout_with (numbered objects rows) lanes capacity
+  -- The calls of a new heap's host make the image that formatting makes of zeros.
   pub formatted : hosted_device made.disk ≡ after (format_calls made.layout (numbered objects rows)) (device_on x.calls (replicate (size_of made.layout) 0))
+  -- Each field of a new heap has its first value.
   pub values : (f : ℕ) (d : GuardRow) → f < made.layout.fields → slice_index made.heap f ≡ (slice_index_or rows f d).first
   pub begun : HasBegun (numbered objects rows) made x
 
@@ -63,7 +70,9 @@ pub record IsMade (objects : ℕ) (rows : List GuardRow) (lanes capacity : ℕ) 
 pub record IsFound (versions : Versions) (bytes : List ℕ) (x : Hosting) (report : Report) : Type 0 where
   pub taken : IsTooOld versions bytes → ⊥
   pub found : Parts Deferred
+  -- An opened heap is what recovery finds in these bytes.
   pub recovery : IsRecovery (device_on x.calls bytes) (hosted_device found.disk) found report
+  -- Whatever a crash leaves of an opening, once its first sync was answered, is an image on recovery's way.
   pub any_moment : (s : Study) → IsStudyOf bytes s → LeavesOnly (synced (device_on x.calls bytes)) (hosted_device found.disk) (IsOnTheWay s)
   pub begun : HasBegun (numbered found.layout.objects found.guards) found x
 

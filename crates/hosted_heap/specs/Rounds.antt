@@ -37,14 +37,21 @@ pub record KeepsSessions (x y : Hosting) : Type 0 where
 -- release, is the beginning; and that history goes on from the one that it had seen before.
 pub record HearsThreads (x y : Hosting) : Type 0 where
   pub goes_on : HasGoneOn x.home x.helper y.helper
+  -- A round that was begun has seen one legal history, where the store hadn't failed. What it took of each lane, up to
+  -- the last release, is the beginning of what that history logs.
   pub seen : x.helper.store.known.has_failed ≡ false → HasSeen x.home y.helper
+  -- The history that a round sees goes on from the one that was seen before.
   pub later : GoesOn y.helper.seat.view.history x.helper.seat.view.history
 
 -- A round of the heap: there is no room to hand its syncs over, and nothing was done, or its helper makes one.
 pub record HasRound (x y : Hosting) (answer : Result ℕ RoundError) : Type 0 where
+  -- `CallsLeft` is answered exactly where there may be no room for the syncs of a round.
   pub calls_left : IsErrOf answer CallsLeft ↔ (SYNCS < length (known_items y.calls.ring) + ROUND_SYNCS)
+  -- A round that answers `CallsLeft` has done nothing.
   pub nothing : IsErrOf answer CallsLeft → SameHeap x y
+  -- A round that is begun does what the helper's round does.
   pub rounds : IfBegun answer (MakesRound x y)
   pub heard : IfBegun answer (λ answered. HearsThreads x y)
+  -- A round leaves the rest of the heap as it was.
   pub kept : KeepsSessions x y
   pub calls : HasLooked x.calls y.calls

@@ -67,6 +67,7 @@ pub record HasLookedAt (s t : Seated) : Type 0 where
   pub session : t.session ≡ s.session
   pub back : t.back ≡ s.back
   pub word : t.stop.word ≡ s.stop.word
+  -- A session that has seen its heap stopped sees it again at each later look.
   pub again : IsSome s.stop.seen → IsSome t.stop.seen
 
 -- And one that waits.

@@ -28,6 +28,7 @@ impl HostedHeap {
     /// An error is want of memory: nothing was done.
     pub fn session_again(&mut self) -> Result<Option<HostedSession>, AllocError>
         ensures again { IfOk result (λ o. MatchOption o (HasNoneIdle self.old self.new) (HandsAgain self.old self.new)) }
+        // Want of memory changes nothing.
         ensures err { OnErr result (self.new ≡ self.old) }
     {
         let (shared, stop, producer, back) = outfit(self.alloc, &self.shared, &mut self.stop)?;

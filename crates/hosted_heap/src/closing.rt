@@ -35,6 +35,7 @@ impl Closed {
     /// The host couldn't make the call that the calls gave. Answers which that was, as [`HostedHeap::call_failed`] does: a write may be
     /// made again; behind a sync no call may follow.
     pub fn call_failed(&self) -> Option<FailedCall>
+        // A call that the host couldn't make is the first of those that are left, a write or a sync.
         ensures { result ≡ failed_call self.now.calls.left }
     {
         match self.calls.next_call() {
@@ -73,8 +74,13 @@ impl HostedHeap {
     ///
     /// Refused in the order of [`NotClosed`].
     pub fn close(self) -> Result<Closed, NotClosed>
+        // A closed heap's sessions have ended, one a lane, and none of them held a monitor. One legal history has what
+        // each was told as its part, and the disk stands for its heap.
         ensures ok { IfOk result (λ closed. IsClosedWith self.home self.helper closed.disk) }
+        // The calls that are left after a closing are the heap's own.
         ensures calls { IfOk result (λ closed. HasLooked self.calls closed.calls) }
+        // A heap is told to be running only where, after a look, a session that was handed out hasn't come back. There,
+        // and where the syncs of a closing have no room, it goes on as it was.
         ensures refused { IfErr result (IsNotClosed self) }
     {
         let mut heap = self;

@@ -92,12 +92,18 @@ impl HostedHeap {
     /// Hands out a session that was told nothing, of the least lane of which none was handed out; it is joined to the helper, and comes
     /// back where it is awaited. `None` once all were.
     pub fn session(&mut self) -> Option<HostedSession>
+        // Sessions are handed out lane by lane, each once; none is answered only where none is left.
         ensures next { MatchOption result (self.old.unused ≡ []) (λ s. self.old.unused ≡ (view_of s.session).lane.0 ∷ self.new.unused) }
+        // A session that is handed out is awaited at the end of its lane, by the ring that it has.
         ensures out { IfSome result (λ s. (end : LaneEnd) × (self.new.out ≡ end ∷ self.old.out) × IsAwaitedBy s end) }
+        // A session that is handed out was told nothing.
         ensures untold { IfSome result (λ s. (view_of s.session).events ≡ []) }
         ensures home { IfSome result (λ s. s.home ≡ self.old.home) }
+        // A session that is handed out is joined to its heap's helper.
         ensures joined { IfSome result (λ s. IsJoined self.old.home self.old.helper.store.known.layout.capacity self.old.helper.rings s.session) }
+        // A session that is handed out shares the word by which it learns that its heap has stopped.
         ensures word { IfSome result (λ s. s.stop.word ≡ self.old.stop.word) }
+        // Where no session is left the heap stays as it was.
         ensures none { result ≡ None → self.new ≡ self.old }
         ensures same { (self.new.home ≡ self.old.home) × (self.new.helper ≡ self.old.helper) × (self.new.calls ≡ self.old.calls) × (self.new.stop ≡ self.old.stop) }
     {
@@ -106,6 +112,7 @@ impl HostedHeap {
 
     /// Where the host has made all calls that it was given, takes the calls up to the next sync, if there are some.
     pub fn fetch(&mut self)
+        // The host gets the calls in order, none twice.
         ensures fetches { Fetches self.old.calls self.new.calls }
         ensures heap { SameHeap self.old self.new }
     {
@@ -136,8 +143,11 @@ impl HostedHeap {
     /// though a later sync succeeds. Each session learns that from now on
     /// ([`is_stopped`](HostedSession::is_stopped)). Let the heap go then, and open it again from bytes that the device itself has.
     pub fn call_failed(&mut self) -> Option<FailedCall>
+        // A call that the host couldn't make is the first of those that are left, a write or a sync.
         ensures which { result ≡ failed_call self.old.calls.left }
+        // After a failed write nothing has changed.
         ensures other { result ≢ Some FailedCalls.Sync → self.new ≡ self.old }
+        // After a failed sync the word that the heap shares with its sessions is written.
         ensures stopped { result ≡ Some FailedCalls.Sync → IsSome self.new.stop.seen }
         ensures same { HasTold self.old self.new }
     {
@@ -252,14 +262,23 @@ impl HostedHeap {
     /// - `BadLane`;
     /// - `CallsLeft`: a call that was handed over isn't made. The calls up to the next sync are fetched then.
     pub fn acknowledged(&mut self, lane: Lane) -> Result<u64, AcknowledgedError>
+        // What is told as acknowledged is the acknowledged cut's count of the lane.
         ensures ok { (p : Past) → IsServing hosted_device self.old.helper (plan self.old.home) p → IfOk result (λ n. n ≡ p.cut lane.0) }
+        // What is acknowledged is told only where no call is left, of those fetched or handed over.
         ensures all_made { OnOk result (AreAllMade self.new.calls) }
+        // When a count is told, whatever a crash of the host's device leaves shows the past that the helper serves, or
+        // what a failed call of its store was making of it.
         ensures kept { OnOk result ((p : Past) (image : List ℕ) → IsServing hosted_device self.old.helper (plan self.old.home) p → Image (host_moment self.new) image
             → ShowsStep self.old.helper.store.known.layout (plan self.old.home) p self.old.helper.store.known.doubt image) }
+        // `BadLane` is answered exactly for a lane that the heap hasn't.
         ensures bad_lane { (result ≡ Err BadLane) ↔ (self.old.helper.store.known.layout.lanes ≤ lane.0) }
+        // `CallsLeft` is answered exactly where the heap has the lane and a call is left.
         ensures calls_left { IsErrOf result CallsLeft ↔ (lane.0 < self.old.helper.store.known.layout.lanes) × (¬ AreAllMade self.new.calls) }
+        // The calls that were handed over are fetched first.
         ensures fetches { lane.0 < self.old.helper.store.known.layout.lanes → FetchesAll self.old.calls self.new.calls }
+        // The disk and the host's calls meet whenever the heap is asked what is acknowledged of a lane that it has.
         ensures met { lane.0 < self.old.helper.store.known.layout.lanes → HaveMet self.new.helper.store.disk self.new.calls }
+        // For a lane that the heap hasn't nothing is done.
         ensures untouched { self.old.helper.store.known.layout.lanes ≤ lane.0 → self.new ≡ self.old }
         ensures heap { SameButMet self.old self.new }
     {

@@ -33,7 +33,10 @@ pub fn format(
     lanes: u8,
     capacity: u32,
 ) -> Result<HostedHeap, HostError>
+    // A heap is made of exactly these objects and fields, each field with its owner, its guard and its first value.
     ensures ok { IfOk result (IsMade objects rows.now lanes capacity) }
+    // A heap is refused by its schema only where it has no object, no field or too many, or a field names an object
+    // that there isn't; and by its header only where lanes or records are past their limits.
     ensures refused { IfErr result (RefusesMaking objects rows.now lanes capacity) }
 {
     let schema = match declare(alloc, objects, rows) {
@@ -73,7 +76,9 @@ pub fn open(
     bytes: &[u8],
     versions: Versions,
 ) -> Result<(HostedHeap, Report), HostError>
+    // A heap is opened with what recovery finds in the bytes of the host's device, and recovery's report is told.
     ensures ok { IfOk result (λ r. IsFound versions bytes.now r.0 r.1) }
+    // A heap isn't opened where recovery refuses the bytes, or memory runs out.
     ensures refused { IfErr result (RefusesOpening versions bytes.now) }
 {
     let Ok((disk, calls)) = DeferredDisk::from_bytes(alloc, bytes) else {

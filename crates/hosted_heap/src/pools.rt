@@ -10,7 +10,9 @@ impl HostedSession {
 
     /// Takes a slot of the pool, whose monitor the session holds ([`Pool::take`]).
     pub fn take_slot(self, pool: &Pool) -> (HostedSession, Result<u32, PoolError<SessionError>>)
+        // A call leaves the session its heap, its lane, the ring to its helper, and the ring by which it comes back.
         ensures heap { SamePlace self result.0 }
+        // A call of a host's session tells what the session's own call tells, by the words of its own heap.
         ensures told { TakesSlot self.home self.session result.0.session pool.now result.1 }
     {
         let HostedSession {
@@ -36,7 +38,9 @@ impl HostedSession {
         slot: u32,
     ) -> (HostedSession, Result<(), PoolError<SessionError>>)
         requires { slot < pool.now.slots }
+        // A call leaves the session its heap, its lane, the ring to its helper, and the ring by which it comes back.
         ensures heap { SamePlace self result.0 }
+        // A call of a host's session tells what the session's own call tells, by the words of its own heap.
         ensures told { GivesSlot self.home self.session result.0.session pool.now slot result.1 }
     {
         let HostedSession {

@@ -73,8 +73,11 @@ impl HostedSession {
     /// ([`HostedHeap::call_failed`](crate::HostedHeap::call_failed)). Nothing that the session does from then on is made durable;
     /// once it is so, it stays so.
     pub fn is_stopped(&mut self) -> bool
+        // A look for a stop changes nothing else of the session.
         ensures looked { HasLookedAt self.old self.new }
+        // A session tells that its heap has stopped exactly where it has seen that word written.
         ensures seen { result ≡ is_some self.new.stop.seen }
+        // A session that has seen its heap stopped tells so from then on.
         ensures again { IsSome self.old.stop.seen → result ≡ true }
     {
         self.stop.is_written()
@@ -82,7 +85,9 @@ impl HostedSession {
 
     /// Takes the monitor, or one lock more of it ([`Session::try_enter`]).
     pub fn try_enter(&mut self, object: ObjectId) -> Result<(), SessionError>
+        // A call leaves the session its heap, its lane, the ring to its helper, and the ring by which it comes back.
         ensures heap { SamePlace self.old self.new }
+        // A call of a host's session tells what the session's own call tells, by the words of its own heap.
         ensures told { Enters self.old.home self.old.session self.new.session object result }
     {
         self.session.try_enter(&self.shared, object)
@@ -90,7 +95,9 @@ impl HostedSession {
 
     /// Gives one lock back, and with the last one the monitor ([`Session::exit`]).
     pub fn exit(&mut self, object: ObjectId) -> Result<(), SessionError>
+        // A call leaves the session its heap, its lane, the ring to its helper, and the ring by which it comes back.
         ensures heap { SamePlace self.old self.new }
+        // A call of a host's session tells what the session's own call tells, by the words of its own heap.
         ensures told { Exits self.old.home self.old.session self.new.session object result }
     {
         self.session.exit(&self.shared, object)
@@ -98,7 +105,9 @@ impl HostedSession {
 
     /// Loads a field ([`Session::load`]).
     pub fn load(&mut self, field: FieldId) -> Result<u64, SessionError>
+        // A call leaves the session its heap, its lane, the ring to its helper, and the ring by which it comes back.
         ensures heap { SamePlace self.old self.new }
+        // A call of a host's session tells what the session's own call tells, by the words of its own heap.
         ensures told { Loads self.old.home self.old.session self.new.session field result }
     {
         self.session.load(&self.shared, field)
@@ -106,7 +115,9 @@ impl HostedSession {
 
     /// Stores a field ([`Session::store`]).
     pub fn store(&mut self, field: FieldId, value: u64) -> Result<(), SessionError>
+        // A call leaves the session its heap, its lane, the ring to its helper, and the ring by which it comes back.
         ensures heap { SamePlace self.old self.new }
+        // A call of a host's session tells what the session's own call tells, by the words of its own heap.
         ensures told { StoresAs self.old.home self.old.session self.new.session field value result }
     {
         self.session.store(&self.shared, field, value)
@@ -114,7 +125,9 @@ impl HostedSession {
 
     /// Takes one lane out of the monitor's wait set ([`Session::notify`]).
     pub fn notify(&mut self, object: ObjectId) -> Result<Option<Lane>, SessionError>
+        // A call leaves the session its heap, its lane, the ring to its helper, and the ring by which it comes back.
         ensures heap { SamePlace self.old self.new }
+        // A call of a host's session tells what the session's own call tells, by the words of its own heap.
         ensures told { Notifies self.old.home self.old.session self.new.session object result }
     {
         self.session.notify(&self.shared, object)
@@ -122,7 +135,9 @@ impl HostedSession {
 
     /// Takes all lanes out of the monitor's wait set ([`Session::notify_all`]).
     pub fn notify_all(&mut self, object: ObjectId) -> Result<WaitMask, SessionError>
+        // A call leaves the session its heap, its lane, the ring to its helper, and the ring by which it comes back.
         ensures heap { SamePlace self.old self.new }
+        // A call of a host's session tells what the session's own call tells, by the words of its own heap.
         ensures told { NotifiesAll self.old.home self.old.session self.new.session object result }
     {
         self.session.notify_all(&self.shared, object)
@@ -130,7 +145,9 @@ impl HostedSession {
 
     /// What the monitor's words say ([`Session::look`]).
     pub fn look(&mut self, object: ObjectId) -> Result<(LockWord, Option<FatWord>), SessionError>
+        // A call leaves the session its heap, its lane, the ring to its helper, and the ring by which it comes back.
         ensures heap { SamePlace self.old self.new }
+        // A call of a host's session tells what the session's own call tells, by the words of its own heap.
         ensures told { Looks self.old.home self.old.session self.new.session object result }
     {
         self.session.look(&self.shared, object)
@@ -139,7 +156,9 @@ impl HostedSession {
     /// How many sections of the lane the helper's last round acknowledged ([`Session::stable`]). They are on the host's device once
     /// the host has made the calls of that round.
     pub fn stable(&mut self) -> u64
+        // A call leaves the session its heap, its lane, the ring to its helper, and the ring by which it comes back.
         ensures heap { SamePlace self.old self.new }
+        // A call of a host's session tells what the session's own call tells, by the words of its own heap.
         ensures told { ReadsStable self.old.session self.new.session result }
     {
         self.session.stable(&self.shared)
@@ -150,7 +169,9 @@ impl HostedSession {
         self,
         object: ObjectId,
     ) -> Result<HostedWaiting, (HostedSession, SessionError)>
+        // A call leaves the session its heap, its lane, the ring to its helper, and the ring by which it comes back.
         ensures heap { SamePlaceWait self result }
+        // A call of a host's session tells what the session's own call tells, by the words of its own heap.
         ensures told { AsksToWait self.home self.session object (inner_wait result) }
     {
         let HostedSession {
@@ -181,6 +202,7 @@ impl HostedSession {
     /// Ends the session, and lets it come back to its heap: it is the last that went into the ring by which it comes back. It may still
     /// hold monitors: then its heap isn't closed.
     pub fn end(self) -> Returned
+        // A session that ends goes into the ring by which it comes back.
         ensures back { result ≡ sent self.back ++ self.session ∷ [] }
     {
         let HostedSession {

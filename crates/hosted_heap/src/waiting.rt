@@ -45,8 +45,11 @@ impl HostedWaiting {
 
     /// Looks whether the heap has stopped ([`HostedSession::is_stopped`]).
     pub fn is_stopped(&mut self) -> bool
+        // A look for a stop changes nothing else of the session.
         ensures looked { HasLookedWaiting self.old self.new }
+        // A session tells that its heap has stopped exactly where it has seen that word written.
         ensures seen { result ≡ is_some self.new.stop.seen }
+        // A session that has seen its heap stopped tells so from then on.
         ensures again { IsSome self.old.stop.seen → result ≡ true }
     {
         self.stop.is_written()
@@ -54,7 +57,9 @@ impl HostedWaiting {
 
     /// Takes the monitor again, if the thread was removed from its wait set and the monitor is free ([`Waiting::try_resume`]).
     pub fn try_resume(self) -> Result<HostedSession, (HostedWaiting, Still)>
+        // A call leaves the session its heap, its lane, the ring to its helper, and the ring by which it comes back.
         ensures heap { SamePlaceResume self result }
+        // A call of a host's session tells what the session's own call tells, by the words of its own heap.
         ensures told { AsksToResume self.waiting (inner_resume result) }
     {
         let HostedWaiting {

@@ -1,6 +1,7 @@
-//! Tests of a hosted heap, by its public calls alone: what recovery keeps of its host's device, at the end of a life and
-//! where the host stops between two calls; how many calls a round makes; what sessions learn of a call that failed; and lanes
-//! whose sessions come and go.
+//! Tests of: hosted_heap.
+//!
+//! A hosted heap, by its public calls alone: what recovery keeps of its host's device, at the end of a life and where the host stops between
+//! two calls. Also: how many calls a round makes, what sessions learn of a call that failed, and lanes whose sessions come and go.
 #![tactic(auto)]
 
 #[cfg(test)]

@@ -20,7 +20,9 @@ pub record HasCell (l : Layout) (f : ℕ) (image : List ℕ) (value : ℕ) : Typ
 -- what the field of this row has at home: a persistent one the value in its cell, a transient one always its first value
 -- (Java Language Specification 8.3.1.3)
 pub record HasHome (l : Layout) (row : GuardRow) (f : ℕ) (image : List ℕ) (value : ℕ) : Type 0 where
+  -- A persistent field has at home the value in its cell.
   pub persistent : row.transient ≡ false → HasCell l f image value
+  -- A transient field has at home its first value, which no write changes.
   pub transient : row.transient ≡ true → value ≡ row.first
 
 -- the fields have these values at home

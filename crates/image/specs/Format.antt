@@ -49,5 +49,6 @@ pub record HasField (schema : Declarations) (l : Layout) (f : ℕ) (image : List
 -- an image just made: the header, slot A with sequence 1 and empty lanes, the guard rows and the first values
 pub record IsFresh (schema : Declarations) (l : Layout) (image : List ℕ) : Type 0 where
   pub header : HasHeader image l
+  -- A new image has a control of version 2, with sequence 1 and empty logs.
   pub control : Shows l image A (empty_control 1)
   pub fields : (f : ℕ) → f < l.fields → HasField schema l f image

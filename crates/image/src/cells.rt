@@ -28,8 +28,10 @@ pub fn put_cell<D: Disk>(
         (D.device disk.new ≡ written (cell_at layout.now field.0) (to_be_bytes w64 value)
         (D.device disk.old)) }
     ensures only_fault { IfErr result (λ e. e ≡ Fault) }
+    // After a home cell is written each image differs from what reads in that cell alone.
     ensures crash { AlwaysBut (cell_range layout.now field.0 ∷ []) (D.device disk.old)
         (D.device disk.new) }
+    // While a home cell is written each image differs from one of before in that cell alone.
     ensures any_moment { LeavesBut (cell_range layout.now field.0 ∷ []) (D.device disk.old)
         (D.device disk.new) }
     ensures cause { HasCauseSince (D.device disk.old) (D.device disk.new) Fault result }
@@ -42,6 +44,7 @@ pub fn put_cell<D: Disk>(
 pub fn get_cell<D: Disk>(disk: &mut D, layout: &Layout, field: FieldId) -> Result<u64, ImageError>
     requires fits { size_of layout.now ≤ length (D.device disk.old).now.bytes }
     requires field { field.0 < layout.now.fields }
+    // A home cell that is read gives its field's value.
     ensures ok { IfOk result (HasCell layout.now field.0 (D.device disk.old).now.bytes) }
     ensures only_fault { IfErr result (λ e. e ≡ Fault) }
     ensures same { SameMoments (D.device disk.old) (D.device disk.new) }

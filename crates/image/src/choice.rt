@@ -29,6 +29,7 @@ pub fn choose_control<D: Disk>(
 ) -> Result<(Slot, Control), ControlError>
     requires limits { IsLayout layout.now }
     requires fits { 2160 ≤ length (D.device disk.old).now.bytes }
+    // Any bytes are refused as a control exactly where the definition says, and else give the one control that counts.
     ensures exact { Chooses layout.now (D.device disk.old).now.bytes result }
     ensures same { SameMoments (D.device disk.old) (D.device disk.new) }
     ensures cause { HasCauseSince (D.device disk.old) (D.device disk.new) refusal.Fault result }

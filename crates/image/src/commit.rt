@@ -40,7 +40,9 @@ pub fn commit_control<D: Disk>(
     ensures slot { IfOk result (λ slot. slot ≡ other chosen) }
     ensures commits { CommitsApart layout.now chosen sequence rows.now
         (D.device disk.old) (D.device disk.new) result }
+    // A commit is refused as `Worn` exactly where the control's sequence is at its last value.
     ensures worn { (result ≡ Err Worn) ↔ (sequence ≡ 2 ^ 64 - 1) }
+    // A commit that is refused as `Worn` makes no call.
     ensures no_call { result ≡ Err Worn → D.device disk.new ≡ D.device disk.old }
     ensures no_other { IfErr result (λ e. (e ≡ Worn) ⊎ (e ≡ Fault)) }
 {

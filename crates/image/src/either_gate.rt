@@ -44,11 +44,14 @@ pub fn commit_by_turning<D: Disk>(
     requires limits { IsLayout layout.now }
     requires rows { AreRows layout.now rows.now }
     requires steady { IsReady layout.now (D.device disk.old) chosen (HasSequence sequence) }
+    // A commit that turns one gate answers the slot and the sequence of the new control.
     ensures made { IfOk result (λ made. (made.0 ≡ other chosen)
         × (made.1 ≡ turned_sequence chosen sequence (D.device disk.old).now.bytes)) }
     ensures commits { CommitsByTurning layout.now chosen sequence rows.now
         (D.device disk.old) (D.device disk.new) result }
+    // A commit that turns one gate is refused as `Worn` exactly where the control's sequence is at its last value.
     ensures worn { (result ≡ Err Worn) ↔ (sequence ≡ 2 ^ 64 - 1) }
+    // A commit that is refused as `Worn` makes no call.
     ensures no_call { result ≡ Err Worn → D.device disk.new ≡ D.device disk.old }
     ensures no_other { IfErr result (λ e. (e ≡ Worn) ⊎ (e ≡ Fault)) }
 {

@@ -29,9 +29,12 @@ pub fn write_header<D: Disk>(
 ) -> Result<(), ImageError>
     requires schema { IsLayoutOf schema.now layout.now }
     requires fits { size_of layout.now ≤ length (D.device disk.old).now.bytes }
+    // After formatting the header, the guard rows, the home cells and the control of the schema are there.
     ensures ok { OnOk result (IsFresh schema.now layout.now (D.device disk.new).now.bytes) }
+    // After formatting nothing is pending.
     ensures durable { OnOk result ((D.device disk.new).now.pending ≡ []) }
     ensures size { OnOk result (SameSize (D.device disk.old) (D.device disk.new)) }
+    // Formatting makes exactly the documented calls.
     ensures calls { OnOk result (D.device disk.new
         ≡ after (format_calls layout.now schema.now) (D.device disk.old)) }
     ensures only_fault { IfErr result (λ e. e ≡ Fault) }

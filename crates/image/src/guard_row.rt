@@ -55,6 +55,7 @@ impl GuardRow {
 /// The bytes of a guard row. An object's number fits two bytes, since there are no more than 4,096.
 pub fn encode_guard(row: &GuardRow) -> [u8; 16]
     requires { row.now.owner.0 < 2 ^ 16 }
+    // A guard row's bytes are its guard, its mark, a zero, its owner and its first value.
     ensures { result ≡ guard_bytes row.now }
 {
     let mut bytes = [0; GUARD_ROW_BYTES];
@@ -76,6 +77,8 @@ fn mark(is_transient: bool) -> u8
 pub fn decode_guard(bytes: &[u8]) -> Option<GuardRow>
     requires { length bytes.now ≡ 16 }
     ensures some { IfSome result (SpellsGuard bytes.now) }
+    // Where no guard row is read, the bytes spell none: they have another mark, or another byte in the zero's place, or
+    // a number past its limit.
     ensures none { IfNone result ((r : Row) → SpellsGuard bytes.now r → ⊥) }
 {
     if bytes[4] > TRANSIENT || bytes[5] != 0 {

@@ -34,6 +34,7 @@ pub fn read_guards<D: Disk>(
 ) -> Result<Vec<GuardRow>, GuardsError>
     requires limits { IsLayout layout.now }
     requires fits { size_of layout.now ≤ length (D.device disk.old).now.bytes }
+    // Any bytes are refused as guard rows exactly where the definition says, and else give the rows that they spell.
     ensures exact { MatchResult result
         (λ rows. HasGuards layout.now (D.device disk.old).now.bytes rows.items)
         (RefusesGuards layout.now (D.device disk.old).now.bytes) }

@@ -79,6 +79,8 @@ fn decode_header(bytes: &[u8; 64]) -> Option<Layout>
 ///
 /// `Fault` comes where the read fails.
 pub fn read_header<D: Disk>(disk: &mut D) -> Result<Layout, HeaderError>
+    // Any bytes are refused as a header exactly where the definition says, and else give the one layout that they
+    // spell.
     ensures exact { ReadsHeader (D.device disk.old).now.bytes result }
     ensures same { SameMoments (D.device disk.old) (D.device disk.new) }
     ensures cause { HasCauseSince (D.device disk.old) (D.device disk.new) Fault result }

@@ -32,6 +32,7 @@ impl Layout {
     /// The layout of an image with the schema's objects and fields, so many lanes, and so many records in each lane's
     /// area. `None` where `lanes` isn't 1 to 32 or `capacity` isn't 2,000 to 1,048,576.
     pub fn of(schema: &Schema, lanes: u8, capacity: u32) -> Option<Layout>
+        // A layout is made exactly for 1 to 32 lanes of 2,000 to 1,048,576 records each.
         ensures within { IsSome result
             ↔ ((1 ≤ lanes) × (lanes ≤ 32) × (2000 ≤ capacity) × (capacity ≤ 1048576)) }
         ensures schema { IfSome result (IsLayoutOf schema.now) }
@@ -68,6 +69,7 @@ impl Layout {
     /// The size of the image, in bytes.
     pub fn size(&self) -> u64
         requires { IsLayout self.now }
+        // The answer is the size of the image in bytes.
         ensures { result ≡ size_of self.now }
     {
         self.areas_at() + RECORD_BYTES * u64::from(self.lanes) * u64::from(self.capacity)

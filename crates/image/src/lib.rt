@@ -1,9 +1,9 @@
 //! The image that a heap's device holds: header, control, guard rows, home cells and the areas of the lanes' logs.
 //!
-//! [`Layout`] says where each part lies. [`write_header`] makes an image; [`read_header`], [`read_guards`] and
-//! [`choose_control`] read one, whatever its bytes, and refuse it by the first thing that is wrong. [`commit_control`]
-//! replaces the control: at every moment a crash leaves the old one or the new one. So does [`commit_by_turning`], with two
-//! syncs, where other writes are still pending. What logs hold is no matter of this crate.
+//! [`Layout`] says where each part lies. [`write_header`] makes an image. [`read_header`], [`read_guards`] and [`choose_control`] read one,
+//! whatever its bytes, and refuse it by the first thing that is wrong. [`commit_control`] replaces the control: at every moment a crash leaves
+//! the old one or the new one. So does [`commit_by_turning`], with two syncs, where other writes are still pending. What logs hold is no matter
+//! of this crate.
 #![tactic(auto)]
 
 mod bytes;

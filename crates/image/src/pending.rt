@@ -63,10 +63,12 @@ pub(crate) fn commit_pending<D: Disk>(
 fn close_spare<D: Disk>(disk: &mut D, layout: &Layout, chosen: Slot) -> Result<(), ImageError>
     requires steady { (old : Content) × IsSteady layout.now (D.device disk.old) chosen old }
     ensures closed { OnOk result (IsShut (slot_at (other chosen)) (D.device disk.new).now.bytes) }
+    // Closing the spare gate makes exactly the documented calls.
     ensures calls { OnOk result (D.device disk.new
         ≡ after (shutting_calls (slot_at (other chosen)) (D.device disk.old).now.bytes)
         (D.device disk.old)) }
     ensures only_fault { IfErr result (λ e. e ≡ Fault) }
+    // While the spare gate is closed, every image shows the control that counts.
     ensures any_moment { (old : Content) → IsSteady layout.now (D.device disk.old) chosen old
         → LeavesOnly (D.device disk.old) (D.device disk.new)
         (StillShows layout.now (D.device disk.old) chosen old) }

@@ -35,9 +35,11 @@ pub fn dump_image<S: Read, W: Write>(
     given: Option<Schema>,
     writer: &mut W,
 ) -> Result<(), NamedFault>
+    // What is written of an image is the text of a study of exactly the bytes that were read.
     ensures ok { OnOk result
         (DumpsRead given (S.remaining reader.old) (S.remaining reader.new) (W.contents writer.old)
         (W.contents writer.new)) }
+    // An image is refused for what is wrong with the bytes that were read, or for a schema that isn't theirs.
     ensures refused { IfErr result
         (RefusesToDump given (S.remaining reader.old) (S.remaining reader.new)
         (W.contents writer.old) (W.contents writer.new)) }
@@ -74,11 +76,15 @@ pub fn dump_file<F: BackingFile + Read + Drop, R: Files<File = F>, W: Write>(
     schema_path: Option<&str>,
     writer: &mut W,
 ) -> Result<(), NamedFault>
+    // What is written of a file is the text of a study of some bytes, by the names of a schema that is theirs where a
+    // file of one is named.
     ensures printed { OnOk result
         (TellsNamed dump_text schema_path.entry (W.contents writer.old) (W.contents writer.new)) }
+    // A refusal other than a fault has written nothing.
     ensures silent { IfErr result
         (λ error. error ≢ Image (images.Image Fault) → Appends (W.contents writer.old)
         (W.contents writer.new) []) }
+    // Where the writer fails, a beginning of the text is written.
     ensures part { OnErr result
         (TellsLessNamed dump_text schema_path.entry (W.contents writer.old)
         (W.contents writer.new)) }

@@ -39,16 +39,22 @@ pub fn format_image<D: Disk + Drop, P: Images<Medium = D>, S: Read, W: Write>(
     new: NewImage,
     writer: &mut W,
 ) -> Result<(), FormatError>
+    // The image is made for the schema that the file declares, with so many lanes of so many records.
     ensures ok { OnOk result (FormatsAt (DeclaresSchema (S.remaining reader.old) (S.remaining reader.new)) new (P.holds images.new path.now) (P.lies images.new path.now)
         (W.contents writer.old) (W.contents writer.new)) }
+    // A refusal leaves the old image at the path, or a whole new one of some schema.
     ensures kept { OnErr result
         (MayBeMade new (P.holds images.old path.now) (P.holds images.new path.now)) }
+    // An image is refused for what is wrong with the schema file or the numbers, or by what its maker answers.
     ensures refused { IfErr result
         (λ error. RefusesImage (S.remaining reader.old) (S.remaining reader.new) new.lanes
         new.capacity error) }
+    // A refused schema, and numbers past their limits, leave everything untouched.
     ensures untouched { IfErr result (λ error. IsBeforeFile error → images.new ≡ images.old) }
+    // Where no image is made nothing is written, unless a fault came.
     ensures silent { IfErr result
         (λ error. IsSilent error → Appends (W.contents writer.old) (W.contents writer.new) []) }
+    // After a fault nothing is written, or a beginning of the size's line.
     ensures part { OnErr result (PrintsLessOf (DeclaresSchema (S.remaining reader.old) (S.remaining reader.new)) new.lanes new.capacity
         (W.contents writer.old) (W.contents writer.new)) }
 {
@@ -82,14 +88,20 @@ pub fn make_image<D: Disk + Drop, P: Images<Medium = D>>(
     schema: &Schema,
     new: NewImage,
 ) -> Result<(D, Layout), FormatError>
+    // The image is made for the schema that the file declares, with so many lanes of so many records.
     ensures ok { IfOk result (λ made. IsImageFor schema.now new made.1 (D.device made.0)) }
+    // The image that is made is there, at the path.
     ensures there { IfOk result
         (λ made. IsThere (D.device made.0).now.bytes (P.holds images.new path.now)) }
+    // The image that is made lies in two places exactly where sectors were named.
     ensures lies { OnOk result (LiesSo new (P.lies images.new path.now)) }
+    // The numbers are blamed only where lanes or records are past their limits.
     ensures bad_header { IfErr result
         (λ error. IsBeforeFile error → (error ≡ BadHeader) ×
         (AreLimits new.lanes new.capacity → ⊥)) }
+    // A refused schema, and numbers past their limits, leave everything untouched.
     ensures untouched { IfErr result (λ error. IsBeforeFile error → images.new ≡ images.old) }
+    // A refusal leaves the old image at the path, or a whole new one of this schema.
     ensures kept { OnErr result
         (StaysOrIsMade schema.now new (P.holds images.old path.now) (P.holds images.new path.now)) }
 {
@@ -218,15 +230,22 @@ where
     F: Read + Drop,
     R: Files<File = F>,
     W: Write,
+    // After `format` the image at that path is one for the schema, with so many lanes of so many records, and its size
+    // is written.
     ensures ok { OnOk result
         (MakesAt new (P.holds images.new path.now) (P.lies images.new path.now)
         (W.contents writer.old) (W.contents writer.new)) }
+    // A refusal leaves the old image at the path, or a whole new one of some schema.
     ensures kept { OnErr result
         (MayBeMade new (P.holds images.old path.now) (P.holds images.new path.now)) }
+    // A refused schema, and numbers past their limits, leave everything untouched.
     ensures untouched { IfErr result (λ error. IsBeforeFile error → images.new ≡ images.old) }
+    // The numbers are blamed only where lanes or records are past their limits.
     ensures bad_header { IfErr result (MayBlameNumbers new.lanes new.capacity) }
+    // Where no image is made nothing is written, unless a fault came.
     ensures silent { IfErr result
         (λ error. IsSilent error → Appends (W.contents writer.old) (W.contents writer.new) []) }
+    // After a fault nothing is written, or a beginning of the size's line.
     ensures part { OnErr result
         (PrintsLess new.lanes new.capacity (W.contents writer.old) (W.contents writer.new)) }
 {

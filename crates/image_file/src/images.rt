@@ -47,6 +47,7 @@ pub trait Images {
     fn open(&mut self, alloc: Global, path: &str) -> Result<Self::Medium, FileFault>
         ensures fresh { IfOk result
             (λ disk. Self.Medium.device disk ≡ new_device (Self.Medium.device disk).now.bytes) }
+        // A disk that is opened at a path has the bytes of the image there.
         ensures ok { IfOk result
             (λ disk. IsThere (Self.Medium.device disk).now.bytes (holds self.old path.now)) }
         ensures err { OnErr result (holds self.new path.now ≡ holds self.old path.now) };
@@ -66,8 +67,10 @@ pub trait Images {
         sectors: Option<SectorSize>,
         size: u64,
     ) -> Result<Self::Medium, FileFault>
+        // A disk that is made to replace an image has zeros.
         ensures ok { IfOk result
             (λ disk. Self.Medium.device disk ≡ new_device (replicate (room_for sectors size) 0)) }
+        // Making a disk leaves the image at the path.
         ensures same { holds self.new path.now ≡ holds self.old path.now };
 
     /// Puts this disk in the place of what is at the path. It is the one that was made last for this path, and to lie so; else that is a
@@ -79,12 +82,15 @@ pub trait Images {
         disk: &Self::Medium,
         is_kept: bool,
     ) -> Result<(), FileFault>
+        // After a replacing the image at the path is what a crash may leave of the disk.
         ensures ok { OnOk result
             (IsLeft (Self.Medium.device disk.now).now (holds self.new path.now)) }
         ensures kind { OnOk result (IfSome (lies self.new path.now) (λ there. there ≡ sectors)) }
+        // A failed replacing leaves the old image at the path, or the whole new one.
         ensures err { OnErr result ((holds self.new path.now ≡ holds self.old path.now) ⊎ IsLeft (Self.Medium.device disk.now).now (holds self.new path.now)) };
 
     /// Removes what was made last for this path, unless it has replaced what was there.
     fn give_up(&mut self, path: &str)
+        // Giving a disk up leaves the image at the path.
         ensures { holds self.new path.now ≡ holds self.old path.now };
 }

@@ -36,9 +36,11 @@ pub fn draw_named_image<S: Read, W: Write>(
     last: u32,
     writer: &mut W,
 ) -> Result<(), NamedFault>
+    // What is written of an image is the text of a study of exactly the bytes that were read.
     ensures ok { OnOk result
         (DrawsRead given last (S.remaining reader.old) (S.remaining reader.new)
         (W.contents writer.old) (W.contents writer.new)) }
+    // An image is refused for what is wrong with the bytes that were read, or for a schema that isn't theirs.
     ensures refused { IfErr result
         (RefusesToDraw given last (S.remaining reader.old) (S.remaining reader.new)
         (W.contents writer.old) (W.contents writer.new)) }
@@ -77,12 +79,16 @@ pub fn draw_named_file<F: BackingFile + Read + Drop, R: Files<File = F>, W: Writ
     last: u32,
     writer: &mut W,
 ) -> Result<(), NamedFault>
+    // What is written of a file is the text of a study of some bytes, by the names of a schema that is theirs where a
+    // file of one is named.
     ensures printed { OnOk result
         (TellsNamed (λ given s. picture_text given last s) schema_path.entry
         (W.contents writer.old) (W.contents writer.new)) }
+    // A refusal other than a fault has written nothing.
     ensures silent { IfErr result
         (λ error. error ≢ Image (images.Image Fault) → Appends (W.contents writer.old)
         (W.contents writer.new) []) }
+    // Where the writer fails, a beginning of the text is written.
     ensures part { OnErr result
         (TellsLessNamed (λ given s. picture_text given last s) schema_path.entry
         (W.contents writer.old) (W.contents writer.new)) }

@@ -42,19 +42,26 @@ pub fn recover_image<D: Disk>(
     disk: D,
     versions: Versions,
 ) -> Result<(D, Told), (D, RecoverError)>
+    // What a recovery reports is exactly the report of the image that was recovered, which was of a version that is
+    // taken.
     ensures ok { IfOk result
         (λ r. IsToldOf versions (D.device disk) (D.device r.0)
         (report_text r.1.report r.1.heap.items r.1.lanes)) }
     ensures durable { IfOk result (λ r. (D.device r.0).now.pending ≡ []) }
+    // At each moment a crash leaves an image on recovery's way.
     ensures any_moment { IfOk result
         (λ r. (s : Study) → IsStudyOf (D.device disk).now.bytes s → LeavesOnly
         (synced (D.device disk)) (D.device r.0) (IsOnTheWay s)) }
+    // An image is refused for what is wrong with exactly this image.
     ensures refused { IfErr result (λ back. RefusesOf versions (D.device disk).now.bytes back.1) }
+    // The device of a refused image has the bytes that it had, unless it is refused by a fault.
     ensures untouched { IfErr result
         (λ back. (back.1 ≡ Fault) ⊎ SameMoments (synced (D.device disk)) (D.device back.0)) }
+    // At each moment a crash leaves an image on recovery's way.
     ensures interrupted { IfErr result
         (λ back. (s : Study) → IsStudyOf (D.device disk).now.bytes s → LeavesOnTheWay s
         (D.device disk) (D.device back.0)) }
+    // A fault is answered only where the device has failed.
     ensures cause { IfErr result
         (λ back. back.1 ≡ Fault → HasFailed (D.device disk).failures (D.device back.0).failures) }
 {
@@ -84,16 +91,22 @@ pub fn recover_at<D: Disk + Drop, P: Images<Medium = D>, W: Write>(
     path: &str,
     writer: &mut W,
 ) -> Result<(), ImageFault>
+    // What is at the path afterwards is what recovery makes of the image that was there, and the report that is written
+    // is on that image.
     ensures ok { OnOk result
         (RecoversAt versions (P.holds images.old path.now) (P.holds images.new path.now)
         (W.contents writer.old) (W.contents writer.new)) }
+    // A refusal other than a fault leaves the image at the path.
     ensures kept { IfErr result
         (λ error. error ≢ Image Fault → Stays (P.holds images.old path.now)
         (P.holds images.new path.now)) }
+    // A refusal other than a fault has written nothing.
     ensures silent { IfErr result
         (λ error. error ≢ Image Fault → Appends (W.contents writer.old) (W.contents writer.new) []) }
+    // Where the writer fails, a beginning of the report is written.
     ensures part { OnErr result
         (TellsLessOfVersions versions (W.contents writer.old) (W.contents writer.new)) }
+    // An image is refused as old only where version 1 isn't taken.
     ensures too_old { IfErr result (MayBeRefusedBy versions) }
 {
     let told = match recovered_at(images, alloc, versions, path) {

@@ -31,9 +31,11 @@ pub fn show_image<S: Read, W: Write>(
     room: usize,
     writer: &mut W,
 ) -> Result<(), RecoverError>
+    // What is written of an image is the text of a study of exactly the bytes that were read.
     ensures ok { OnOk result
         (Shows study_text (S.remaining reader.old) (S.remaining reader.new) (W.contents writer.old)
         (W.contents writer.new)) }
+    // An image is refused for what is wrong with the bytes that were read.
     ensures refused { IfErr result
         (RefusesToShow study_text (S.remaining reader.old) (S.remaining reader.new)
         (W.contents writer.old) (W.contents writer.new)) }
@@ -60,10 +62,13 @@ pub fn show_file<F: BackingFile + Read + Drop, R: Files<File = F>, W: Write>(
     image_path: &str,
     writer: &mut W,
 ) -> Result<(), ImageFault>
+    // What is written of a file is the text of a study of some bytes.
     ensures printed { OnOk result
         (Tells study_text (W.contents writer.old) (W.contents writer.new)) }
+    // A refusal other than a fault has written nothing.
     ensures silent { IfErr result
         (λ error. error ≢ Image Fault → Appends (W.contents writer.old) (W.contents writer.new) []) }
+    // Where the writer fails, a beginning of the text is written.
     ensures part { OnErr result
         (TellsLess study_text (W.contents writer.old) (W.contents writer.new)) }
 {

@@ -31,9 +31,13 @@ pub fn draw_named<D: Disk, W: Write>(
     last: u32,
     writer: &mut W,
 ) -> Result<(), DumpError>
+    // What is drawn of an image is the graph of a study of exactly these bytes, by the names of the image's own schema.
     ensures ok { OnOk result (Draws given last (D.device disk.old).now.bytes (W.contents writer.old) (W.contents writer.new)) }
+    // Where the image is refused, or the schema is another image's, nothing is written.
     ensures refused { IfErr result (RefusesDrawing given last (D.device disk.old).now.bytes (W.contents writer.old) (W.contents writer.new)) }
+    // The device is left as it was.
     ensures same { SameMoments (D.device disk.old) (D.device disk.new) }
+    // A fault is answered only where the device has failed.
     ensures cause { HasCause (D.device disk.old).failures (D.device disk.new).failures (kinds.Study Fault) result }
 {
     match study(alloc, disk) {

@@ -30,9 +30,14 @@ pub fn dump<D: Disk, W: Write>(
     given: Option<Schema>,
     writer: &mut W,
 ) -> Result<(), DumpError>
+    // What is written of an image is the file of the image's own schema, with the heap that a study of exactly these
+    // bytes finds.
     ensures ok { OnOk result (Dumps given (D.device disk.old).now.bytes (W.contents writer.old) (W.contents writer.new)) }
+    // Where the image is refused, or the schema is another image's, nothing is written.
     ensures refused { IfErr result (RefusesDump given (D.device disk.old).now.bytes (W.contents writer.old) (W.contents writer.new)) }
+    // The device is left as it was.
     ensures same { SameMoments (D.device disk.old) (D.device disk.new) }
+    // A fault is answered only where the device has failed.
     ensures cause { HasCause (D.device disk.old).failures (D.device disk.new).failures (kinds.Study Fault) result }
 {
     match study(alloc, disk) {

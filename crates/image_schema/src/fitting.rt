@@ -11,6 +11,8 @@ use recover::Study;
 /// Whether the image has the schema's objects and fields, and each field the schema's owner and guard, and is transient where
 /// the schema says so. Names and first values may be any, since an image has no names, and its fields begin with its heap.
 pub fn fits(schema: &Schema, study: &Study) -> bool
+    // A schema is an image's exactly where the image has its objects and fields, each field with the same owner, guard
+    // and kind.
     ensures { IsTrue result ↔ FitsImage schema.now study.now.layout study.now.guards.items }
 {
     if study.layout.objects != schema.objects() || study.layout.fields != schema.fields() {

@@ -1,9 +1,8 @@
-//! The schema of an image, which keeps no names: with those of a schema file, or numbered; and the schema file that the image's
-//! heap makes.
+//! The schema of an image, which keeps no names: with those of a schema file, or numbered; and the schema file that the image's heap makes.
 //!
-//! [`schema_of`] finds the schema of a [`recover::Study`], [`write_schema`] writes the file of a schema, and [`dump`] that of
-//! the image on a device, whose first values are the heap that recovery gives: so the heap is carried over ([`dump_law`]).
-//! [`draw_named`] writes the image's sections as a graph.
+//! [`schema_of`] finds the schema of a [`recover::Study`], and [`write_schema`] writes the file of a schema. [`dump`] writes that of the image
+//! on a device. Its first values are the heap that recovery gives: so the heap is carried over ([`dump_law`]). [`draw_named`] writes the
+//! image's sections as a graph.
 #![tactic(auto)]
 
 mod drawing;

@@ -15,8 +15,11 @@ use std::alloc::{AllocError, Global};
 /// is named `o0` and field 0 `f0`, and so on.
 pub fn schema_of(alloc: Global, study: &Study, given: Option<Schema>) -> Result<Schema, NamingError>
     requires { IsStudied study.now }
+    // The schema of an image is the one that is given, or the one of numbers where none is given.
     ensures ok { IfOk result (λ schema. schema ≡ named_as given study.now) }
+    // A schema that is answered is the image's.
     ensures fits { IfOk result (λ schema. FitsImage schema study.now.layout study.now.guards.items) }
+    // A schema is refused as another's exactly where it isn't the image's.
     ensures other { IsErrOf result OtherSchema ↔ (FitsImage (named_as given study.now) study.now.layout study.now.guards.items → ⊥) }
 {
     let Some(schema) = given else {

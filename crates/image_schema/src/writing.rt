@@ -21,7 +21,9 @@ pub fn write_schema<W: Write>(
     writer: &mut W,
 ) -> Result<(), WriteError>
     requires { length values.now ≡ field_count schema.now }
+    // The schema file of the schema is written, with these first values.
     ensures ok { OnOk result (Appends (W.contents writer.old) (W.contents writer.new) (schema_text (beginning_with values.now schema.now))) }
+    // After an error a beginning of the schema file is written.
     ensures part { OnErr result (AppendsPart (W.contents writer.old) (W.contents writer.new) (schema_text (beginning_with values.now schema.now))) }
 {
     put_objects(schema, writer)?;

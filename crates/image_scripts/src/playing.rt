@@ -37,7 +37,11 @@ pub fn play_over(
     script: &[u8],
     ending: Ending,
 ) -> Result<Played, RunFault>
+    // What a script leaves of an image is what the machine's device reads after its lines, played on from a recovery of
+    // exactly this image. What is printed is the report of `recover`, and then the texts of the lines.
     ensures ok { IfOk result (λ played. PlaysOver given (lines_of script.now) ending image.now played.image.items played.text.items) }
+    // A script over an image is refused for what study or recovery of exactly this image refuses, for another schema,
+    // or at the first line that has a fault, isn't had or wants memory.
     ensures refused { IfErr result (RefusesToPlay given (lines_of script.now) ending image.now) }
 {
     let mut machine = match machine_over(alloc, image, given) {

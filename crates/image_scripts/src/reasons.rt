@@ -1,4 +1,4 @@
-//! The reason of recovery behind a line that was refused, and the error behind one that is written to memory.
+//! Why recovery refused an image, told after the line that was refused; and why a line could not be written to memory.
 ghost use Rattle.std.specs.Prelude.{◌≡◌};
 ghost use Rattle.image_scripts.specs.Reasons.{in_memory, kind_in_memory, reason_for, refusal_of};
 

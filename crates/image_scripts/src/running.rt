@@ -38,6 +38,8 @@ pub fn run_image<D: Disk + Drop, P: Images<Medium = D>, W: Write>(
     ending: Ending,
     writer: &mut W,
 ) -> Result<(), RunFault>
+    // Something is printed only where the other image has taken its place. Where nothing takes its place it has each
+    // byte that it had. A writer that fails leaves a beginning of the text, and the image replaced.
     ensures { RunsHeld given (lines_of script.now) ending result (P.holds images.old path.now)
         (P.holds images.new path.now) (W.contents writer.old) (W.contents writer.new) }
 {
@@ -207,6 +209,7 @@ where
     R: Files<File = F>,
     S: Read,
     W: Write,
+    // A script over the image at a path puts in that place what its lines leave, and nothing is printed before.
     ensures { RunsAt schema_path.entry result (P.holds images.old path.now)
         (P.holds images.new path.now) (S.remaining reader.old) (S.remaining reader.new)
         (W.contents writer.old) (W.contents writer.new) }

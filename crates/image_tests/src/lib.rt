@@ -1,3 +1,5 @@
+//! Tests of: guards, image, undo_log.
+//!
 //! Tests of what an image is made of, by public calls: schemas, the image itself, and the records of logs.
 //!
 //! They stand in one crate, since what each test crate takes of the ones below costs more than the tests. A scenario is a

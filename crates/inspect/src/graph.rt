@@ -42,9 +42,14 @@ pub fn write_graph<W: Write>(
     writer: &mut W,
 ) -> Result<(), ShowError>
     requires { FitsNumbers study.now }
+    // A graph has of each lane the open section and the last so many that have ended, and says how many before these it
+    // leaves out. Each dropped section has its reason, and each dependence between drawn sections an arrow.
     ensures ok { OnOk result (Appends (W.contents writer.old) (W.contents writer.new) (picture_text (option_map (λ x. x.now) names.entry) last study.now)) }
+    // Where memory runs out nothing is written.
     ensures no_memory { IfErr result (λ e. e ≡ kinds.NoMemory → Appends (W.contents writer.old) (W.contents writer.new) []) }
+    // Memory is wanted only where there are live releases to note.
     ensures needed { IfErr result (λ e. e ≡ kinds.NoMemory → 0 < length (releases_of study.now)) }
+    // After a fault of the writer a beginning of the text is written, and not all.
     ensures part { IfErr result (λ e. e ≡ kinds.Write → AppendsPart (W.contents writer.old) (W.contents writer.new) (picture_text (option_map (λ x. x.now) names.entry) last study.now)) }
 {
     let Ok(releases) = releases_in(alloc, study) else {

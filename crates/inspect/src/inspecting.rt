@@ -28,9 +28,13 @@ pub fn inspect<D: Disk, W: Write>(
     disk: &mut D,
     writer: &mut W,
 ) -> Result<(), InspectError>
+    // What is written of an image are the lines of its study.
     ensures ok { OnOk result (Inspects study_text (D.device disk.old).now.bytes (W.contents writer.old) (W.contents writer.new)) }
+    // Where the image is refused nothing is written, and the refusal is the study's.
     ensures refused { IfErr result (Refuses study_text (D.device disk.old).now.bytes (W.contents writer.old) (W.contents writer.new)) }
+    // The device is left as it was.
     ensures same { SameMoments (D.device disk.old) (D.device disk.new) }
+    // A fault is answered only where the device has failed.
     ensures cause { HasCause (D.device disk.old).failures (D.device disk.new).failures (kinds.Study Fault) result }
 {
     match study(alloc, disk) {
@@ -53,9 +57,13 @@ pub fn draw<D: Disk, W: Write>(
     disk: &mut D,
     writer: &mut W,
 ) -> Result<(), InspectError>
+    // What is drawn of an image is its graph.
     ensures ok { OnOk result (Inspects graph_text (D.device disk.old).now.bytes (W.contents writer.old) (W.contents writer.new)) }
+    // Where the image is refused nothing is written, and the refusal is the study's.
     ensures refused { IfErr result (Refuses graph_text (D.device disk.old).now.bytes (W.contents writer.old) (W.contents writer.new)) }
+    // The device is left as it was.
     ensures same { SameMoments (D.device disk.old) (D.device disk.new) }
+    // A fault is answered only where the device has failed.
     ensures cause { HasCause (D.device disk.old).failures (D.device disk.new).failures (kinds.Study Fault) result }
 {
     match study(alloc, disk) {

@@ -1,8 +1,9 @@
 //! What a user looks at after a crash: what recovery made of an image, and what the image holds.
 //!
 //! [`inspect`] reads an image and writes what it holds, line by line; [`draw`] writes its sections and dependences as a graph.
-//! [`write_study`] and [`write_graph`] write the same of a [`recover::Study`], and [`write_report`] the lines of a [`recover::Report`]. [`put_line`] and
-//! [`put_list`] write a line as these texts have it. All write in small pieces; a fault of the writer leaves a beginning of the text.
+//! [`write_study`] and [`write_graph`] write the same of a [`recover::Study`], and [`write_report`] the lines of a [`recover::Report`].
+//! [`put_line`] and [`put_list`] write a line as these texts have it. All write in small pieces. A fault of the writer leaves a beginning of
+//! the text.
 #![tactic(auto)]
 
 mod error;

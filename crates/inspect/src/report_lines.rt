@@ -18,7 +18,9 @@ pub fn write_report<W: Write>(
     lanes: u8,
     writer: &mut W,
 ) -> Result<(), WriteError>
+    // The lines of a report are the documented text.
     ensures ok { OnOk result (Appends (W.contents writer.old) (W.contents writer.new) (report_text report.now heap.now lanes)) }
+    // After a fault of the writer a beginning of the text is written, and not all.
     ensures part { OnErr result (AppendsPart (W.contents writer.old) (W.contents writer.new) (report_text report.now heap.now lanes)) }
 {
     put_list(writer, "kept", first_counts(&report.kept.counts, lanes))?;

@@ -34,9 +34,13 @@ use std::io::Write;
 pub fn write_study<W: Write>(alloc: Global, study: &Study, writer: &mut W) -> Result<(), ShowError>
     requires limits { IsLayout study.now.layout }
     requires numbers { FitsNumbers study.now }
+    // The lines of a study are the documented text, with a line of the transient fields where there are any.
     ensures ok { OnOk result (Appends (W.contents writer.old) (W.contents writer.new) (study_text study.now)) }
+    // Where memory runs out nothing is written.
     ensures no_memory { IfErr result (λ e. e ≡ kinds.NoMemory → Appends (W.contents writer.old) (W.contents writer.new) []) }
+    // Memory is wanted only where there are live releases to note.
     ensures needed { IfErr result (λ e. e ≡ kinds.NoMemory → 0 < length (releases_of study.now)) }
+    // After a fault of the writer a beginning of the text is written, and not all.
     ensures part { IfErr result (λ e. e ≡ kinds.Write → AppendsPart (W.contents writer.old) (W.contents writer.new) (study_text study.now)) }
 {
     let Ok(releases) = releases_in(alloc, study) else {

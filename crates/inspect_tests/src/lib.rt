@@ -1,3 +1,5 @@
+//! Tests of: inspect, declarations, image_file.
+//!
 //! Tests of the inspector and of image files by their public calls: the texts of hand-made studies, of images that a
 //! store left, and of files.
 //!

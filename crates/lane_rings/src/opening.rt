@@ -26,8 +26,10 @@ pub fn open_ring(
     requires capacity { (0 < capacity) × (capacity < 2 ^ 32) }
     ensures seat { (seat.new.table ≡ seat.old.table) × (seat.new.view ≡ seat.old.view) }
     ensures pair { IfOk result (λ r. IsPair r.0 r.1) }
+    // A new ring has sent nothing, and knows all its slots to be free: the greeting takes no room.
     ensures sender { IfOk result (λ r. (sent r.0 ≡ []) × (known_free r.0 ≡ capacity) × (producer_capacity r.0 ≡ capacity)) }
     ensures receiver { IfOk result (λ r. (received r.1 ≡ []) × (r.1.told ≡ []) × (ring_capacity r.1 ≡ capacity)) }
+    // Both ends of a new ring know whose it is: which table of shared words, which plan and which lane.
     ensures whose { IfOk result (λ r. (whose_ring r.0 ≡ Some (whose seat.old)) × (whose_received r.1 ≡ Some (whose seat.old))) }
 {
     let (mut ring, mut other) = RingBuffer::with_protocol::<Global, Following>(alloc, capacity)?;

@@ -56,6 +56,7 @@ impl Receiver {
     /// Looks how many records are in the ring.
     #[inline(always)]
     pub fn slots(&mut self) -> usize
+        // A look loses nothing.
         ensures looked { ReceiverLooked self.old self.new }
         ensures value { result ≡ length (known_records self.new) }
     {
@@ -65,9 +66,11 @@ impl Receiver {
     /// The same, beside the ring's other end: what was taken and what is left is what was sent.
     pub fn slots_beside(&mut self, sender: &mut Sender) -> usize
         requires { IsPair sender.old self.old }
+        // A look loses nothing.
         ensures looked { ReceiverLooked self.old self.new }
         ensures sender { SenderLooked sender.old sender.new }
         ensures value { result ≡ length (known_records self.new) }
+        // Where both ends are at hand, what was taken and what is left are what was sent, in order.
         ensures fifo { received self.new ++ known_records self.new ≡ sent sender.old }
     {
         self.ring.slots_beside(&mut sender.ring)
@@ -77,9 +80,13 @@ impl Receiver {
     #[inline(always)]
     pub fn pop_known(&mut self) -> Record
         requires { 0 < length (known_records self.old) }
+        // The end stays that of the same ring.
         ensures ring { SameReceiver self.old self.new }
+        // The record that is taken is the first of those that are known to be in the ring.
         ensures received { (received self.new ≡ received self.old ++ result ∷ []) × (known_records self.old ≡ result ∷ known_records self.new) }
+        // The ring stays the ring of the same lane.
         ensures whose { whose_received self.new ≡ whose_received self.old }
+        // Where no witness is kept, no release was taken since one was given out.
         ensures untold { self.new.told ≡ [] → (self.old.told ≡ []) × (to_release (received self.new) ≡ to_release (received self.old)) }
     {
         let Sent { entry, told } = self.ring.pop_known();
@@ -95,7 +102,9 @@ impl Receiver {
         ensures ring { SameReceiver self.old self.new }
         ensures some { IfSome result (λ x. received self.new ≡ received self.old ++ x ∷ []) }
         ensures none { IfNone result ((received self.new ≡ received self.old) × (known_records self.new ≡ [])) }
+        // The ring stays the ring of the same lane.
         ensures whose { whose_received self.new ≡ whose_received self.old }
+        // Where no witness is kept, no release was taken since one was given out.
         ensures untold { self.new.told ≡ [] → (self.old.told ≡ []) × (to_release (received self.new) ≡ to_release (received self.old)) }
     {
         if self.cached_slots() == 0 {
@@ -111,8 +120,12 @@ impl Receiver {
     pub fn take_witness(&mut self) -> Option<Witness>
         ensures ring { SameReceiver self.old self.new }
         ensures received { (received self.new ≡ received self.old) × (known_records self.new ≡ known_records self.old) }
+        // The ring stays the ring of the same lane.
         ensures whose { whose_received self.new ≡ whose_received self.old }
+        // A witness that was given out is kept no more.
         ensures left { self.new.told ≡ [] }
+        // A witness that is given out is that of the last release taken: its lane had logged just what was taken up to
+        // that release.
         ensures told { MatchOption result (self.old.told ≡ []) (λ w. (self.old.told ≡ w ∷ []) × TellsLast (whose_received self.old) (received self.old) w) }
     {
         if !self.is_told {

@@ -42,8 +42,10 @@ impl Sender {
     /// taken.
     #[inline(always)]
     pub fn slots(&mut self) -> usize
+        // A look loses nothing.
         ensures looked { SenderLooked self.old self.new }
         ensures value { result ≡ known_free self.new }
+        // After a look at least the ring's slots less the records sent are known to be free.
         ensures least { producer_capacity self.old ≤ known_free self.new + length (sent self.old) }
     {
         self.ring.slots()
@@ -53,9 +55,13 @@ impl Sender {
     #[inline(always)]
     pub fn push(&mut self, entry: Record)
         requires room { 0 < known_free self.old }
+        // No release is sent without a witness.
         requires kind { is_release entry ≡ false }
+        // The end stays that of the same ring.
         ensures ring { SameProducer self.old self.new }
+        // A record that is sent comes after all that was sent before, and takes one free slot.
         ensures sent { (sent self.new ≡ sent self.old ++ entry ∷ []) × (known_free self.old ≡ known_free self.new + 1) }
+        // The ring stays the ring of the same lane.
         ensures whose { whose_ring self.new ≡ whose_ring self.old }
     {
         self.ring.push_reserved(Sent {
@@ -69,11 +75,17 @@ impl Sender {
     pub fn push_told(&mut self, shared: &Shared, seat: &mut Seat, entry: Record)
         requires seat { IsSeatOf shared.now seat.old }
         requires room { 0 < known_free self.old }
+        // The witness is of the lane whose ring it is.
         requires whose { whose_ring self.old ≡ Some (whose seat.old) }
+        // With each release goes a witness of the lane's own seat, whose events have logged just what was sent of the
+        // ring, this record included.
         requires logged { logged_in seat.old.view ≡ sent self.old ++ entry ∷ [] }
         ensures seat { (seat.new.table ≡ seat.old.table) × (seat.new.view ≡ seat.old.view) }
+        // The end stays that of the same ring.
         ensures ring { SameProducer self.old self.new }
+        // A record that is sent comes after all that was sent before, and takes one free slot.
         ensures sent { (sent self.new ≡ sent self.old ++ entry ∷ []) × (known_free self.old ≡ known_free self.new + 1) }
+        // The ring stays the ring of the same lane.
         ensures whose { whose_ring self.new ≡ whose_ring self.old }
     {
         let told = Told::of(shared.witness(seat));

@@ -42,9 +42,13 @@ pub fn check_logs(
     requires objects { (l : ℕ) → All (IsOfObjects (guard_in guards.now) 4096) (records_of logs.now l) }
     requires range { (l : ℕ) → All IsInRange (records_of logs.now l) }
     requires within { (l : ℕ) → l < length logs.now → settled_of counts.now l ≤ length (records_of logs.now l) }
+    // Logs are accepted exactly where they are those of a legal list, whose acknowledged sections are whole and depend
+    // on acknowledged ones alone. Others are refused with the lane and the place where that shows first.
     ensures exact { MatchResult result (λ _. AreLegal (guard_in guards.now) (settled_of counts.now) (kept_of counts.now) (lanes_of logs.now))
         (RefusesLegal (guard_in guards.now) (settled_of counts.now) (kept_of counts.now) (lanes_of logs.now)) }
+    // The place of a refusal is one of the logs.
     ensures there { IfErr result (IsPlaceIn logs.now) }
+    // Accepted logs are replayed to their end, from the least numbers that fit.
     ensures replays { IfOk result (λ steps. Replays (guard_in guards.now) (lanes_of logs.now) (log_of steps.items)) }
     ensures low { IfOk result (λ steps. All IsLow steps.items) }
 {

@@ -97,7 +97,9 @@ impl LockWord {
 
     /// The lock that these 64 bits spell, if they spell one. Each lock is spelled by one word.
     pub fn parse(word: u64) -> Option<LockWord>
+        // A lock that is read from a word has exactly the word's bits.
         ensures spelled { IfSome result (λ lock. (bits_of lock ≡ word) × HasWord lock) }
+        // Each lock that has a word is read back from it.
         ensures back { (shape : Shape) → HasWord shape → bits_of shape ≡ word
             → result ≡ Some shape }
     {
@@ -132,6 +134,7 @@ impl LockWord {
 
     /// The 64 bits, as the table of shared words keeps them.
     pub fn bits(self) -> u64
+        // The bits of a lock are those of the documented layout.
         ensures bits { result ≡ bits_of self }
         ensures within { HasWord self }
     {
@@ -167,6 +170,7 @@ impl LockWord {
     /// The word after one lock more by the owner.
     pub fn nested(self) -> LockWord
         requires { CanNest self }
+        // A nested lock adds one to the count, and changes nothing else.
         ensures { result ≡ nested self }
     {
         match self.shape {
@@ -192,6 +196,7 @@ impl LockWord {
     /// The word after an unlock that isn't the owner's last.
     pub fn unnested(self) -> LockWord
         requires { CanUnnest self }
+        // A nested unlock takes one from the count, and changes nothing else.
         ensures { result ≡ unnested self }
     {
         match self.shape {
@@ -217,6 +222,7 @@ impl LockWord {
     /// The word after the owner gave the monitor up: the release number is the next.
     pub fn released(self) -> LockWord
         requires { CanRelease self }
+        // A release gives the free word with the next number.
         ensures { result ≡ released self }
     {
         match self.shape {

@@ -54,7 +54,9 @@ impl WaitMask {
 
     /// The set that these 64 bits spell, if they spell one. Each set is spelled by one word.
     pub fn parse(word: u64) -> Option<WaitMask>
+        // A set of lanes that is read from a word has exactly the word's bits.
         ensures spelled { IfSome result (λ lanes. mask_of lanes ≡ word) }
+        // Each set of lanes is read back from its mask.
         ensures back { (lanes : set.FinSet nat_cmp) → IsLaneSet lanes → mask_of lanes ≡ word
             → result ≡ Some lanes }
         ensures some { IsSome result ↔ (word < 2 ^ 32) }
@@ -67,6 +69,7 @@ impl WaitMask {
 
     /// The 64 bits, as the table of shared words keeps them.
     pub fn bits(self) -> u64
+        // A mask has one bit for each lane of its set.
         ensures mask { result ≡ mask_of self }
         ensures bit { (lane : ℕ) → bit_at result lane ≡ bit_of self lane }
         ensures within { IsLaneSet self }
@@ -77,6 +80,7 @@ impl WaitMask {
     /// The set with this lane, which may be in it already.
     pub fn with(self, lane: Lane) -> WaitMask
         requires { lane.0 < LANES }
+        // The set is the old one with the lane.
         ensures { result ≡ set.insert self lane.0 }
     {
         WaitMask {
@@ -87,6 +91,7 @@ impl WaitMask {
     /// The set without this lane, which need not be in it.
     pub fn without(self, lane: Lane) -> WaitMask
         requires { lane.0 < LANES }
+        // The set is the old one without the lane.
         ensures { result ≡ set.remove self lane.0 }
     {
         WaitMask {
@@ -97,6 +102,7 @@ impl WaitMask {
     /// Whether the lane is in the set.
     pub fn has(self, lane: Lane) -> bool
         requires { lane.0 < LANES }
+        // The answer is true exactly where the lane is in the set.
         ensures { result ≡ set.contains self lane.0 }
     {
         self.lanes >> u32::from(lane.0) & 1 == 1
@@ -104,6 +110,7 @@ impl WaitMask {
 
     /// The lowest lane in the set.
     pub fn least(self) -> Option<Lane>
+        // The answer is the lowest lane of the set, or none where the set is empty.
         ensures { MatchOption result (self ≡ set.empty) (λ lane. IsLeast self lane.0) }
     {
         if self.lanes == 0 {

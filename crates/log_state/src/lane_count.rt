@@ -44,6 +44,7 @@ impl LaneCount {
     /// Whether the lane may do this record next, as far as its wait goes: one that waits on an object takes that object
     /// (JLS 17.2.1).
     pub fn may_follow(self, next: UndoRecord) -> bool
+        // The answer is true exactly where the record may follow the lane's records so far.
         ensures { IsTrue result ↔ MayFollow self.awaited next }
     {
         match (self.awaited, next) {
@@ -57,6 +58,7 @@ impl LaneCount {
     pub fn after(self, next: UndoRecord) -> LaneCount
         requires { HasRoom self }
         ensures counts { (first : AnyCount) (records : List AnyRecord) → FreesHeld (undo_action next ∷ map undo_action records) → Counts first records self → Counts first (next ∷ records) result }
+        // The count after one record more is that of the lane's records with it.
         ensures exact { result ≡ count_after self next }
     {
         self.step(next)
@@ -91,6 +93,7 @@ impl LaneCount {
 
     /// Whether the record ends the lane's section: it frees the last object that the lane holds.
     pub fn ends(self, next: UndoRecord) -> bool
+        // The answer is true exactly where the record ends the lane's section.
         ensures { result ≡ ends_at next self.held }
     {
         match next {
@@ -123,6 +126,7 @@ fn awaited_after_record(next: UndoRecord) -> Option<ObjectId>
 
 /// The count of a lane after these records, which have the oldest first.
 pub fn count_all(records: &[UndoRecord]) -> LaneCount
+    // The count of a whole list is that of its records, one after the other.
     ensures exact { result ≡ count_of (reverse records.now) }
     ensures counts { FreesHeld (map undo_action (reverse records.now)) → Counts new_count (reverse records.now) result }
 {

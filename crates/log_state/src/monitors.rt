@@ -34,6 +34,7 @@ impl Monitors {
     /// or `None` where logs keep no store of the field: then no lane may do it.
     pub fn allows(&self, lane: Lane, next: UndoRecord, guard: Option<ObjectId>) -> bool
         requires objects { IsOfObjects (λ f. guard) 4096 next }
+        // The answer is true exactly where the monitors allow the lane's record after the records so far.
         ensures allowed { (first : ℕ → ℕ) (log : List (ℕ × AnyRecord)) → AreMonitors first log self.now → IsTrue result ↔ IsAllowed (λ f. guard) first log lane.0 next }
         ensures tables { IsTrue result ↔ IsAllowedBy (λ f. guard) self.now lane.0 next }
     {
@@ -53,6 +54,7 @@ impl Monitors {
     /// Notes what the lane's record makes of the monitors.
     pub fn note(&mut self, lane: Lane, done: UndoRecord)
         requires range { IsInRange done }
+        // What is noted are the monitors after one record more.
         ensures noted { (first : ℕ → ℕ) (log : List (ℕ × AnyRecord)) → AreMonitors first log self.old → AreMonitors first ((lane.0, done) ∷ log) self.new }
         ensures holders { self.new.holders ≡ holders_after self.old.holders lane.0 done }
         ensures numbers { self.new.numbers ≡ numbers_after self.old.numbers done }

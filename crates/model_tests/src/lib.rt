@@ -1,3 +1,5 @@
+//! Tests of: heap_model, cut_laws, log_state, lock_word.
+//!
 //! Tests of the words that every room speaks by, by public calls: what the definitions mean, and how words are spelt.
 //!
 //! They stand in one crate, since a crate with tests is proved twice. A scenario is a function that answers plain words,

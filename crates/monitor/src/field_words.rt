@@ -38,7 +38,9 @@ impl Shared {
         requires free { IsAwake seat.old.view × IsClear seat.old.view }
         requires held { IsHeld seat.old.view ((setting_of self.now.plan).guard field.0) }
         ensures seat { IsSeatOf self.now seat.new }
+        // The step adds to the seat's view just what it tells.
         ensures told { seat.new.view ≡ told seat.old.view (Event.Load field result) }
+        // A load gives the value that the lane's own events tell of the field.
         ensures known { (value : ℕ) → known_value (setting_of self.now.plan) seat.old.view.events field.0 ≡ Some value → result ≡ value }
     {
         let place = self.field_place(field);
@@ -52,6 +54,7 @@ impl Shared {
         requires free { IsAwake seat.old.view × IsClear seat.old.view }
         requires held { IsHeld seat.old.view ((setting_of self.now.plan).guard field.0) }
         ensures seat { IsSeatOf self.now seat.new }
+        // The step adds just its event to the seat's view, with what the answer tells.
         ensures told { seat.new.view ≡ told seat.old.view (Event.Store field result value) }
     {
         let place = self.field_place(field);

@@ -52,6 +52,7 @@ impl Shared {
         requires held { IsHeld seat.old.view object.0 }
         requires free { IsAwake seat.old.view × (seat.old.view.mark ≡ Clear) }
         ensures seat { IsSeatOf self.now seat.new }
+        // The step adds just its event to the seat's view, with what the answer tells.
         ensures told { seat.new.view ≡ told seat.old.view (Event.Notify object result) }
     {
         let found = self.look_mask(seat, object);
@@ -107,6 +108,7 @@ impl Shared {
         requires held { IsHeld seat.old.view object.0 }
         requires free { IsAwake seat.old.view × IsClear seat.old.view }
         ensures seat { IsSeatOf self.now seat.new }
+        // The step adds just its event to the seat's view, with what the answer tells.
         ensures told { seat.new.view ≡ told seat.old.view (Event.NotifyAll object (members result)) }
     {
         let place = self.mask_place(object);

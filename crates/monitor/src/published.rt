@@ -35,6 +35,7 @@ impl Shared {
     pub fn read_stable(&self, seat: &mut Seat) -> u64
         requires seat { IsSeatOf self.now seat.old }
         ensures seat { IsSeatOf self.now seat.new }
+        // A reader is answered no less than the number that it read before.
         ensures least { known_post seat.old.view (Stable (lane_of seat.old.view)) ≤ result }
         ensures told { seat.new.view ≡ knowing_post seat.old.view (Stable (lane_of seat.old.view)) result }
     {
@@ -47,6 +48,7 @@ impl Shared {
     pub fn read_trimmed(&self, seat: &mut Seat) -> u64
         requires seat { IsSeatOf self.now seat.old }
         ensures seat { IsSeatOf self.now seat.new }
+        // A reader is answered no less than the number that it read before.
         ensures least { known_post seat.old.view (Trimmed (lane_of seat.old.view)) ≤ result }
         ensures told { seat.new.view ≡ knowing_post seat.old.view (Trimmed (lane_of seat.old.view)) result }
     {
@@ -74,9 +76,12 @@ impl Shared {
     pub fn publish(&self, helper: &mut HelperSeat, lane: Lane, acknowledged: u64, trimmed: u64)
         requires seat { IsHelperOf self.now helper.old }
         requires lane { lane.0 < LANES }
+        // A count of acknowledged sections isn't published below one that was published before.
         requires acknowledged { known_post helper.old.view (Stable lane) ≤ acknowledged }
+        // A trimmed place isn't published below one that was published before.
         requires trimmed { known_post helper.old.view (Trimmed lane) ≤ trimmed }
         ensures seat { IsHelperOf self.now helper.new }
+        // The helper's view notes both numbers as published.
         ensures told { helper.new.view ≡ knowing_post (knowing_post helper.old.view (Stable lane) acknowledged) (Trimmed lane) trimmed }
         ensures next { helper.new.next ≡ helper.old.next }
     {

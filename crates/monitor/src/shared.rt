@@ -19,6 +19,8 @@ impl TableRule<(), View, Key> for Lawful {
     ghost use Rattle.monitor.specs.Words.{plan_of};
     ghost use Rattle.monitor.specs.Views.{helper};
 
+    // Between any two atomic steps one legal history has each seat's view as its part, and the shared words spell the
+    // state after it.
     ghost holds = { λ k. Kept (plan_of k) };
 
     ghost first = { λ k. helper (plan_of k) };

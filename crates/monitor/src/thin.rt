@@ -67,7 +67,10 @@ impl Shared {
         requires object { object.0 < objects self.now.plan }
         requires clear { IsClear seat.old.view }
         ensures seat { IsSeatOf self.now seat.new }
+        // The step adds to the seat's view just what it tells.
         ensures told { seat.new.view ≡ looked seat.old.view object result }
+        // A look shows a thin word only of a monitor that isn't known to be fat. A fat word is the one that is known,
+        // or is no news to the owner.
         ensures news { IsNews seat.old.view object result }
     {
         let found = self
@@ -91,8 +94,11 @@ impl Shared {
         requires free { IsAwake seat.old.view × IsClear seat.old.view }
         ensures seat { IsSeatOf self.now seat.new }
         ensures word { IfOk result (λ x. (x ≡ Thin ((lane_of seat.old.view).0 + 1) 0 number) × (slot_of object.0 seat.old.view.fats ≡ None)) }
+        // A take adds just its event to the seat's view.
         ensures taken { IfOk result (λ x. seat.new.view ≡ told seat.old.view (Event.Enter object number)) }
+        // A missed try tells the word that it found, and nothing else.
         ensures missed { IfErr result (λ x. (seat.new.view ≡ looked seat.old.view object x) × IsNews seat.old.view object x) }
+        // A missed try found another word than the free one that it tried.
         ensures differs { IfErr result (λ x. x ≢ Free number) }
     {
         let shared = &self.table.shared;
@@ -120,6 +126,7 @@ impl Shared {
         requires room { CanNest word }
         ensures seat { IsSeatOf self.now seat.new }
         ensures word { result ≡ nested word }
+        // The step adds just its event to the seat's view, with what the answer tells.
         ensures told { seat.new.view ≡ told seat.old.view (Event.NestedEnter object) }
     {
         let next = word.nested();
@@ -138,6 +145,7 @@ impl Shared {
         requires deep { CanUnnest word }
         ensures seat { IsSeatOf self.now seat.new }
         ensures word { result ≡ unnested word }
+        // The step adds just its event to the seat's view, with what the answer tells.
         ensures told { seat.new.view ≡ told seat.old.view (Event.NestedExit object) }
     {
         let next = word.unnested();
@@ -156,6 +164,7 @@ impl Shared {
         requires held { HoldsThin seat.old.view object word }
         requires last { (n : _) × (word ≡ Thin ((lane_of seat.old.view).0 + 1) 0 n) }
         ensures seat { IsSeatOf self.now seat.new }
+        // The step adds just its event to the seat's view, with what the answer tells.
         ensures told { (n : _) × (word ≡ Thin ((lane_of seat.old.view).0 + 1) 0 n) × (seat.new.view ≡ told seat.old.view (Event.Exit object n)) }
     {
         let shared = &self.table.shared;

@@ -63,6 +63,7 @@ impl Shared {
         requires held { IsHeld seat.old.view object.0 }
         requires clear { IsClear seat.old.view }
         ensures seat { IsSeatOf self.now seat.new }
+        // The step adds to the seat's view just what it tells.
         ensures told { seat.new.view ≡ joined seat.old.view object }
     {
         let place = self.mask_place(object);
@@ -81,6 +82,7 @@ impl Shared {
         requires awake { IsAwake seat.old.view }
         requires held { HoldsFat seat.old.view object slot word }
         ensures seat { IsSeatOf self.now seat.new }
+        // The step adds to the seat's view just what it tells.
         ensures told { (a : _) × (n : _) × (word ≡ Held ((lane_of seat.old.view).0 + 1) a n) × (seat.new.view ≡ told seat.old.view (Event.Wait object n)) }
     {
         let shared = &self.table.shared;
@@ -99,6 +101,7 @@ impl Shared {
         requires waits { (c : _) × ((own seat.old.view.events).pause ≡ Some (record { object = object.0; count = c })) }
         requires clear { IsClear seat.old.view }
         ensures seat { IsSeatOf self.now seat.new }
+        // The step adds to the seat's view just what it tells.
         ensures told { MatchBool result (seat.new.view ≡ told seat.old.view (Event.Look object StillInSet)) (seat.new.view ≡ removed seat.old.view object) }
     {
         let place = self.mask_place(object);
@@ -126,8 +129,11 @@ impl Shared {
         requires waits { (own seat.old.view.events).pause ≡ Some (record { object = object.0; count = again + 1 }) }
         ensures seat { IsSeatOf self.now seat.new }
         ensures word { IfOk result (λ y. y ≡ Held ((lane_of seat.old.view).0 + 1) again number) }
+        // A take adds just its event to the seat's view.
         ensures taken { IfOk result (λ y. seat.new.view ≡ resumed seat.old.view (Event.Resume object number)) }
+        // A missed try tells the word that it found, and nothing else.
         ensures missed { IfErr result (λ y. seat.new.view ≡ told seat.old.view (Event.Look object (fat_sight y))) }
+        // A missed try found another word than the free one that it tried.
         ensures differs { IfErr result (λ y. y ≢ Free number) }
     {
         let shared = &self.table.shared;

@@ -57,7 +57,9 @@ impl Shared {
     pub fn witness(&self, seat: &mut Seat) -> Witness
         requires seat { IsSeatOf self.now seat.old }
         ensures seat { IsSeatOf self.now seat.new }
+        // A witness leaves its seat as it was.
         ensures same { seat.new.view ≡ seat.old.view }
+        // A witness has the events that its seat had when it left.
         ensures witness { IsSeatOf self.now result × (result.view ≡ witness_for seat.old.view) }
     {
         let _lane = seat.lane;
@@ -69,6 +71,7 @@ impl Shared {
     pub fn hear(&self, helper: &mut HelperSeat, witness: Witness)
         requires helper { IsHelperOf self.now helper.old }
         requires witness { IsSeatOf self.now witness }
+        // The helper has heard of the witness's lane what the witness tells, and nothing else is new.
         ensures helper { IsHelperOf self.now helper.new × (helper.new.view ≡ hearing helper.old.view witness.view) × (helper.new.next ≡ helper.old.next) }
     {
         let Witness { seat } = witness;
@@ -80,9 +83,13 @@ impl Shared {
     pub fn see(&self, seat: &mut Seat)
         requires seat { IsSeatOf self.now seat.old }
         ensures seat { IsSeatOf self.now seat.new }
+        // Seeing the history changes nothing else of the seat's view.
         ensures seen { seat.new.view ≡ caught_up seat.old.view seat.new.view.history }
+        // The history that a seat has seen is legal.
         ensures legal { IsLegalHistory (setting_of self.now.plan) seat.new.view.history }
+        // The lane's part of the history that a seat has seen is just what the seat was told.
         ensures part { lane (lane_of seat.old.view).0 seat.new.view.history ≡ seat.old.view.events }
+        // The history that a seat has seen goes on from the one that it saw before.
         ensures goes_on { GoesOn seat.new.view.history seat.old.view.history }
     {
         let _lane = seat.lane;
@@ -95,9 +102,13 @@ impl Shared {
     pub fn catch_up(&self, helper: &mut HelperSeat)
         requires helper { IsHelperOf self.now helper.old }
         ensures helper { IsHelperOf self.now helper.new × (helper.new.next ≡ helper.old.next) }
+        // A helper that catches up changes nothing of its view but what it has seen.
         ensures seen { helper.new.view ≡ caught_up helper.old.view helper.new.view.history }
+        // What the helper's seat has seen, while threads go on, is one legal history.
         ensures legal { IsLegalHistory (setting_of self.now.plan) helper.new.view.history }
+        // The history that is seen goes on from the one that was seen before.
         ensures goes_on { GoesOn helper.new.view.history helper.old.view.history }
+        // The history has, of each lane whose witness was heard, all that the lane had when the witness left its seat.
         ensures heard { HasHeard helper.new.view.history helper.old.view }
     {
         let place = self.count_place();

@@ -16,7 +16,10 @@ use std::alloc::Global;
 /// Refusals, as they are met: `TooMany` objects; then by field `UnknownObject` and `TooMany`; `Empty` for no object or no field;
 /// `NoMemory` at any time.
 pub fn declare(alloc: Global, objects: u32, rows: &[GuardRow]) -> Result<Schema, SchemaError>
+    // Guard rows make the schema of so many numbered objects and of the fields that they say, each transient where its
+    // row is marked.
     ensures ok { IfOk result (λ schema. schema ≡ numbered objects rows.now) }
+    // Guard rows are refused for what is wrong with them, or for want of memory.
     ensures refused { IfErr result (RefusesRows objects rows.now) }
 {
     let mut builder = SchemaBuilder::new(alloc);

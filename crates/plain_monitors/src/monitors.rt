@@ -66,6 +66,7 @@ impl Monitors {
         ensures lanes { IfOk result (λ m. lanes_of m ≡ lanes) }
         ensures schema { IfOk result (λ m. m.schema ≡ schema) }
         ensures last { IfOk result (λ m. m.last ≡ last) }
+        // At first all monitors are free, and the fields have the schema's first values.
         ensures state { IfOk result (λ m. state_of m ≡ initial_state (first_of schema)) }
     {
         match first_values(alloc, &schema) {
@@ -89,7 +90,9 @@ impl Monitors {
         ensures lanes { IfOk result (λ m. lanes_of m ≡ lanes) }
         ensures schema { IfOk result (λ m. m.schema ≡ schema) }
         ensures last { IfOk result (λ m. m.last ≡ last) }
+        // At first all monitors are free.
         ensures state { IfOk result (λ m. state_of m ≡ initial_state (slice_index m.values)) }
+        // At first the fields have the values of the heap that is given.
         ensures values { IfOk result (λ m. (f : ℕ) → f < field_count schema → slice_index m.values f ≡ slice_index heap.now f) }
     {
         match values_in(alloc, heap, schema.fields() as usize) {
@@ -175,6 +178,7 @@ impl Monitors {
     /// What it would be if the thread locked the object's monitor: a first lock of a free one, or one more of its own.
     pub fn may_enter(&self, thread: Lane, object: ObjectId) -> Result<Event, MonitorRefusal>
         requires { object.0 < object_count self.now.schema }
+        // An event that is answered is one that the model allows (JLS 17.1, 17.2).
         ensures allowed { (state_of self.now).waiting thread.0 ≡ Awake → IfOk result (MayDo (setting_of self.now) (state_of self.now) thread.0) }
         ensures kind { IfOk result (IsStepOf (setting_of self.now)) }
         ensures free { let s = state_of self.now in s.owner object.0 ≡ None → s.number object.0 < self.now.last
@@ -206,6 +210,7 @@ impl Monitors {
     /// What it would be if the thread gave up one lock of the object's monitor: the last one, or one of several.
     pub fn may_exit(&self, thread: Lane, object: ObjectId) -> Result<Event, MonitorRefusal>
         requires { object.0 < object_count self.now.schema }
+        // An event that is answered is one that the model allows (JLS 17.1, 17.2).
         ensures allowed { (state_of self.now).waiting thread.0 ≡ Awake → IfOk result (MayDo (setting_of self.now) (state_of self.now) thread.0) }
         ensures kind { IfOk result (IsStepOf (setting_of self.now)) }
         ensures last { let s = state_of self.now in s.owner object.0 ≡ Some thread.0 → s.count object.0 ≡ 1
@@ -236,8 +241,10 @@ impl Monitors {
     pub fn load(&self, thread: Lane, field: FieldId) -> Result<u64, MonitorRefusal>
         requires { field.0 < field_count self.now.schema }
         ensures allowed { (state_of self.now).waiting thread.0 ≡ Awake → IfOk result (λ v. MayDo (setting_of self.now) (state_of self.now) thread.0 (Load field v)) }
+        // A load gives the field's value to the thread that owns the field's guard.
         ensures ok { let s = state_of self.now in s.owner (guard_of self.now.schema field.0) ≡ Some thread.0
             → result ≡ Ok (s.value field.0) }
+        // A load is refused where the thread doesn't own the field's guard.
         ensures not_held { (state_of self.now).owner (guard_of self.now.schema field.0) ≢ Some thread.0
             → result ≡ Err MonitorRefusal.NotHeld }
     {
@@ -255,6 +262,7 @@ impl Monitors {
         after: u64,
     ) -> Result<Event, MonitorRefusal>
         requires { field.0 < field_count self.now.schema }
+        // An event that is answered is one that the model allows (JLS 17.1, 17.2).
         ensures allowed { (state_of self.now).waiting thread.0 ≡ Awake → IfOk result (MayDo (setting_of self.now) (state_of self.now) thread.0) }
         ensures kind { IfOk result (IsStepOf (setting_of self.now)) }
         ensures ok { let s = state_of self.now in s.owner (guard_of self.now.schema field.0) ≡ Some thread.0
@@ -275,6 +283,7 @@ impl Monitors {
         requires lane { thread.0 < lanes_of self.old }
         requires kind { IsStepOf (setting_of self.old) event.now }
         requires allowed { MayDo (setting_of self.old) (state_of self.old) thread.0 event.now }
+        // Performing an event makes the model's next state.
         ensures ok { OnOk result (IsAfter self.old thread.0 event.now self.new) }
         ensures err { OnErr result (self.new ≡ self.old) }
         ensures nested { OnErr result (logged (setting_of self.old) event.now ≡ None) }
@@ -318,6 +327,7 @@ impl Monitors {
     /// What it would be if the thread waited on the object's monitor.
     pub fn may_wait(&self, thread: Lane, object: ObjectId) -> Result<Event, MonitorRefusal>
         requires { object.0 < object_count self.now.schema }
+        // An event that is answered is one that the model allows (JLS 17.1, 17.2).
         ensures allowed { (state_of self.now).waiting thread.0 ≡ Awake → IfOk result (MayDo (setting_of self.now) (state_of self.now) thread.0) }
         ensures kind { IfOk result (IsStepOf (setting_of self.now)) }
         ensures ok { let s = state_of self.now in s.owner object.0 ≡ Some thread.0 → result ≡ Ok (Wait object (s.number object.0)) }

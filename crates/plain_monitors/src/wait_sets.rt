@@ -26,6 +26,7 @@ impl Monitors {
     /// What it would be if the thread took again the monitor in whose wait set it was.
     pub fn may_resume(&self, thread: Lane) -> Result<Event, MonitorRefusal>
         requires { thread.0 < lanes_of self.now }
+        // An event that is answered is one that the model allows (JLS 17.1, 17.2).
         ensures allowed { IfOk result (MayDo (setting_of self.now) (state_of self.now) thread.0) }
         ensures kind { IfOk result (IsStepOf (setting_of self.now)) }
         ensures not_waiting { (state_of self.now).waiting thread.0 ≡ Awake → result ≡ Err why.NotWaiting }
@@ -125,7 +126,9 @@ impl Monitors {
     ) -> Result<Vec<Lane>, AllocError>
         ensures allowed { let s = state_of self.old in s.waiting thread.0 ≡ Awake → s.owner object.0 ≡ Some thread.0
             → MayDo (setting_of self.old) s thread.0 (Notify object (least_of (wait_set (lanes_of self.old) s object.0))) }
+        // A notify wakes what the model says.
         ensures woken { IfOk result (λ v. v.items ≡ take 1 (wait_set (lanes_of self.old) (state_of self.old) object.0)) }
+        // A notify makes the model's next state.
         ensures after { IfOk result (λ v. IsAfter self.old thread.0
             (Notify object (least_of (wait_set (lanes_of self.old) (state_of self.old) object.0))) self.new) }
         ensures err { OnErr result (self.new ≡ self.old) }
@@ -145,7 +148,9 @@ impl Monitors {
     ) -> Result<Vec<Lane>, AllocError>
         ensures allowed { let s = state_of self.old in s.waiting thread.0 ≡ Awake → s.owner object.0 ≡ Some thread.0
             → MayDo (setting_of self.old) s thread.0 (NotifyAll object (wait_set (lanes_of self.old) s object.0)) }
+        // A notify wakes what the model says.
         ensures woken { IfOk result (λ v. v.items ≡ wait_set (lanes_of self.old) (state_of self.old) object.0) }
+        // A notify makes the model's next state.
         ensures after { IfOk result (λ v. IsAfter self.old thread.0 (NotifyAll object v.items) self.new) }
         ensures err { OnErr result (self.new ≡ self.old) }
     {

@@ -17,7 +17,9 @@ pub record Takes {F : Type 0} (p : Place) (k l : Knowledge F) (done : List Acces
   pub link : Reads found (cell_of p s) next read
   pub names_slot : next ≤ p.slots
   pub stored : Stores read p.head next (cell_of p s) TAKEN l
+  -- Where the known cells spell a list of distinct free slots, `take` answers the first of them and leaves the others.
   pub first : TakesFirst p read.value l.value s
+  -- A take of a slot makes two loads and two stores, and no others.
   pub no_more : done ≡ Stored (cell_of p s) TAKEN ∷ Stored p.head next ∷ Loaded (cell_of p s) next ∷ Loaded p.head (s + 1) ∷ []
 
 -- the list ends at the head
@@ -65,7 +67,9 @@ pub record Gives {F : Type 0} (p : Place) (k l : Knowledge F) (done : List Acces
   pub head : Reads found p.head link read
   pub names_slot : link ≤ p.slots
   pub stored : Stores read p.head (s + 1) (cell_of p s) link l
+  -- Where the known cells spell a list of distinct free slots, `give` puts its slot first.
   pub first : PutsFirst p read.value l.value s
+  -- A give of a slot makes two loads and two stores, and no others.
   pub no_more : done ≡ Stored (cell_of p s) link ∷ Stored p.head (s + 1) ∷ Loaded p.head link ∷ Loaded (cell_of p s) TAKEN ∷ []
 
 -- the slot isn't taken

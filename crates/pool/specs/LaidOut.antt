@@ -65,7 +65,9 @@ pub record LaysOut (d e : Declarations) (name : List ℕ) (n : ℕ) (p : Place) 
   pub new : IsNewPool d name n
   pub room : HasRoom d n
   pub place : p ≡ record { head = field_count d; slots = n }
+  -- A pool is declared with the documented names, guards and first values.
   pub declared : e ≡ with_part d name n n
+  -- The first values of a pool's fields spell all its slots free, in order.
   pub free : IsFreeList p (first_values e) (range_with_len 0 n)
 
 -- what was declared before memory was wanting: nothing, the object, or the head and some slots too

@@ -22,6 +22,8 @@ impl Pool {
     pub fn lay_out(builder: &mut SchemaBuilder, name: &str, slots: u32) -> Result<Pool, SchemaError>
         requires some { 0 < slots }
         requires few { slots ≤ MOST_SLOTS }
+        // A refused pool leaves the schema as it was, but after want of memory: then the schema has the first of the
+        // pool's declarations.
         ensures answer { LayOutAnswers builder.old builder.new name.now slots result }
     {
         test_names(builder, name, slots)?;

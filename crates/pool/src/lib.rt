@@ -1,9 +1,8 @@
 //! An object pool: numbered slots, of which some are taken and the others stand in a free list, kept in guarded fields.
 //!
-//! [`Pool::take`] and [`Pool::give`] work over any [`Cells`] that hold these fields, whose `store_two` does both stores or
-//! neither: so whatever ends a section, each slot is taken or stands in the list once. [`Pool::lay_out`] declares
-//! these fields in a schema, and makes the pool. A host that numbers its fields declares them itself, with the values of
-//! [`first_value`], and makes the pool by [`Pool::in_fields`].
+//! [`Pool::take`] and [`Pool::give`] work over any [`Cells`] that hold these fields. Their `store_two` does both stores or neither: so however
+//! a section ends, each slot is taken or stands in the list once. [`Pool::lay_out`] declares these fields in a schema, and makes the pool. A
+//! host that numbers its fields declares them itself, with the values of [`first_value`], and makes the pool by [`Pool::in_fields`].
 #![tactic(auto)]
 
 mod cells;

@@ -13,6 +13,8 @@ impl Pool {
 
     /// The pool whose head is kept in this field, and its slots in those that follow: where a heap may have so many fields.
     pub fn in_fields(head: FieldId, slots: u32) -> Option<Pool>
+        // A pool in numbered fields is that of the head and the slots named, exactly where a heap may have so many
+        // fields.
         ensures { MatchOption result (¬ FitsHeap head.0 slots) (λ pool. FitsHeap head.0 slots × (pool ≡ record { head = head.0; slots = slots })) }
     {
         if head.0 as usize + slots as usize >= MOST_FIELDS {
@@ -25,6 +27,7 @@ impl Pool {
 /// The value with which a field of a pool of so many slots begins: cell 0 is the head's, and cell s + 1 that of slot s.
 pub fn first_value(slots: u32, cell: u32) -> u64
     requires { cell ≤ slots }
+    // The answer is the value with which the cell begins.
     ensures { result ≡ cell_first slots cell }
 {
     if cell == 0 {

@@ -61,6 +61,8 @@ impl Pool {
     /// Refused, in this order: [`Damaged`](PoolError::Damaged) by the head; [`Empty`](PoolError::Empty);
     /// [`Damaged`](PoolError::Damaged) by the slot's link. Where the cells fail, [`Cells`](PoolError::Cells).
     pub fn take<C: Cells>(&self, cells: &mut C) -> Result<u32, PoolError<C::Fault>>
+        // A take answers a slot, or is refused where the cells show why, or passes on the cells' fault; a refusal
+        // leaves the cells as they were.
         ensures answer { (done : List Access) × TakeAnswers self.now (C.knows cells.old) (C.knows cells.new) done result × C.keeps cells.old cells.new done }
     {
         let link = match cells.load(self.head) {
@@ -94,6 +96,8 @@ impl Pool {
     /// cells fail, [`Cells`](PoolError::Cells).
     pub fn give<C: Cells>(&self, cells: &mut C, slot: u32) -> Result<(), PoolError<C::Fault>>
         requires { slot < self.now.slots }
+        // A give puts its slot back, or is refused where the cells show why, or passes on the cells' fault; a refusal
+        // leaves the cells as they were.
         ensures answer { (done : List Access) × GiveAnswers self.now (C.knows cells.old) (C.knows cells.new) done slot result × C.keeps cells.old cells.new done }
     {
         let cell = self.cell(slot);

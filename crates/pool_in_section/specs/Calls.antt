@@ -18,11 +18,15 @@ known_to h x = knowledge_in (plan h) (view_of x).events
 -- A slot is taken, or that is refused, and the session was told just the loads and stores that the answer names.
 pub record TakesSlot (h : Home) (x y : Session) (p : Place) (r : Result ℕ (PoolError SessionError)) : Type 0 where
   pub done : List Access
+  -- A session takes a slot as the pool does, by what it knows from its own events.
   pub answer : TakeAnswers p (known_to h x) (known_to h y) done r
+  -- A session that takes a slot is told just the loads and stores that the answer names.
   pub told : TellsOfFields (view_of x) (view_of y) done
 
 -- A slot is given, or that is refused.
 pub record GivesSlot (h : Home) (x y : Session) (p : Place) (slot : ℕ) (r : Result (Unit {0}) (PoolError SessionError)) : Type 0 where
   pub done : List Access
+  -- A session gives a slot as the pool does, by what it knows from its own events.
   pub answer : GiveAnswers p (known_to h x) (known_to h y) done slot r
+  -- A session that gives a slot is told just the loads and stores that the answer names.
   pub told : TellsOfFields (view_of x) (view_of y) done

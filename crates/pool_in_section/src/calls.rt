@@ -16,7 +16,9 @@ pub fn take(
     pool: &Pool,
 ) -> (Session, Result<u32, PoolError<SessionError>>)
     requires { IsSessionOf shared.now session }
+    // The session stays one of the same heap.
     ensures seat { IsSessionOf shared.now result.0 }
+    // The session keeps its end of its ring.
     ensures ring { SameRing session result.0 }
     ensures told { TakesSlot shared.now session result.0 pool.now result.1 }
 {
@@ -34,7 +36,9 @@ pub fn give(
 ) -> (Session, Result<(), PoolError<SessionError>>)
     requires session { IsSessionOf shared.now session }
     requires slot { slot < pool.now.slots }
+    // The session stays one of the same heap.
     ensures seat { IsSessionOf shared.now result.0 }
+    // The session keeps its end of its ring.
     ensures ring { SameRing session result.0 }
     ensures told { GivesSlot shared.now session result.0 pool.now slot result.1 }
 {

@@ -1,5 +1,7 @@
-//! Tests of pools by public calls alone: as a schema declares one, and in a plain row of cells; in the fields of a heap what its
-//! calls answer in sections, and threads that take and give its slots side by side.
+//! Tests of: pool, pool_in_section.
+//!
+//! Pools by public calls alone: as a schema declares one, and in a plain row of cells; in the fields of a heap, what its calls answer in
+//! sections; and threads that take and give its slots side by side.
 //!
 //! A scenario is a function that answers plain words, which its test compares once.
 #![tactic(auto)]

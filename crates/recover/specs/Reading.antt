@@ -64,6 +64,7 @@ pub record HasStrayMark (image : List ℕ) (l : Layout) (guards : List GuardRow)
   pub shows : Shows l image slot control
   pub version : control.version ≡ 1
   pub field : ℕ
+  -- An image of version 1 with a marked guard row is refused as a bad control.
   pub marked : is_transient_in guards field ≡ true
 
 -- nothing is wrong with the image's front, but that its control is of version 1

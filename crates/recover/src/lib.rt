@@ -1,11 +1,12 @@
 //! Recovery: what an image stands for after a crash, whatever its bytes are, and how it is made so.
 //!
-//! [`study`] reads an image of which nothing is known, and refuses it by the first thing that is wrong with it: header,
-//! guard rows, control, records, or logs that no threads can have left. Else it tells what the image holds, the heap that
-//! it stands for, and which sections are kept and dropped. [`recover`] puts that heap into the home cells and empties the
-//! logs; a crash at any moment of it leaves an image that stands for the same heap. An image of the version before, which had
-//! no transient fields, is read as one that has none, and refused by [`recover`]: [`upgrade`] does what recovery does of it
-//! too, and so makes it one of the current version, in place.
+//! [`study`] reads an image of which nothing is known, and refuses it by the first thing that is wrong with it: header, guard rows, control,
+//! records, or logs that no threads can have left. Otherwise it tells what the image holds, the heap that it stands for, and which sections are
+//! kept and dropped. [`recover`] puts that heap into the home cells and empties the logs. A crash at any moment of it leaves an image that
+//! stands for the same heap.
+//!
+//! An image of version 1 had no transient fields. It is read as one that has none, and [`recover`] refuses it. [`upgrade`] recovers it
+//! too, and so makes it one of version 2, in place.
 #![tactic(auto)]
 
 mod check;

@@ -39,18 +39,32 @@ use std::alloc::Global;
 /// - `NoMemory`: there was no room for what is read or found;
 /// - `Fault`: a call of the device failed. The image may be recovered again.
 pub fn recover<D: Disk>(alloc: Global, disk: D) -> Result<(Recovered<D>, Report), (D, RecoverError)>
+    // Recovery gives the heap and the report of the study, by a sync, a write for each field that takes an old value
+    // back, a sync and a commit.
     ensures ok { IfOk result (λ r. IsRecovery (D.device disk) (D.device r.0.disk) r.0 r.1) }
+    // An image of version 1 isn't recovered.
     ensures current { OnOk result (IsOfOldVersion (D.device disk).now.bytes → ⊥) }
+    // At every moment of recovery, from its first sync on, every image has the same study, report included, or that of
+    // the recovered image, which has the same heap.
     ensures any_moment { IfOk result (λ r. StaysOnTheWay (D.device disk) (D.device r.0.disk)) }
+    // Recovery refuses an image by the first of the documented reasons. An image of version 1 with nothing else wrong
+    // is refused as old.
     ensures refused { IfErr result (λ back. RefusesRecovery (D.device disk).now.bytes back.1) }
+    // A recovery that is refused has done nothing but a sync, unless it is refused by a fault.
     ensures untouched { IfErr result (λ back. (back.1 ≡ Fault)
         ⊎ SameMoments (synced (D.device disk)) (D.device back.0)) }
+    // Whatever a crash leaves of a recovery that was refused has the same study, or that of the recovered image. So
+    // another recovery gives the same heap.
     ensures interrupted { IfErr result (λ back. EndsOnTheWay (D.device disk) (D.device back.0)) }
+    // After a recovery that was refused nothing was done, or a sync alone, or only images on its way were left.
     ensures cut_off { IfErr result (λ back. IsCutOff (D.device disk) (D.device back.0)) }
+    // A recovery of an image of version 1 has done nothing but a sync, a fault included.
     ensures too_old { IfErr result (λ back. IsOfOldVersion (D.device disk).now.bytes
         → IsLeftAlone (D.device disk) (D.device back.0)) }
+    // Recovery answers a fault only where the device has failed.
     ensures cause { IfErr result (λ back. back.1 ≡ Fault
         → HasFailedSince (D.device disk) (D.device back.0)) }
+    // The count of the device's failures doesn't fall over a recovery.
     ensures failures { IfOk result (λ r. (D.device disk).failures ≤ (D.device r.0.disk).failures) }
 {
     recover_of(alloc, disk, Versions::Current)
@@ -66,12 +80,19 @@ pub fn recover<D: Disk>(alloc: Global, disk: D) -> Result<(Recovered<D>, Report)
 ///
 /// The refusals are those of [`recover`], in the same order and leaving the same, but that no image is of an old version.
 pub fn upgrade<D: Disk>(alloc: Global, disk: D) -> Result<(Recovered<D>, Report), (D, RecoverError)>
+    // An upgrade recovers an image of either version, with the calls of a recovery. Its last commit has version 2.
     ensures ok { IfOk result (λ r. IsRecovery (D.device disk) (D.device r.0.disk) r.0 r.1) }
+    // At every moment of an upgrade, from its first sync on, every image has the same study under the version that it
+    // had, or that of the upgraded image, with the same heap.
     ensures any_moment { IfOk result (λ r. StaysOnTheWay (D.device disk) (D.device r.0.disk)) }
+    // An upgrade refuses what recovery refuses, in the same order, but no image as too old.
     ensures refused { IfErr result (λ back. RefusesUpgrade (D.device disk).now.bytes back.1) }
     ensures untouched { IfErr result (λ back. (back.1 ≡ Fault)
         ⊎ SameMoments (synced (D.device disk)) (D.device back.0)) }
+    // Whatever a crash leaves of an upgrade that was refused has the same study, or that of the upgraded image. So it
+    // may be run again.
     ensures interrupted { IfErr result (λ back. EndsOnTheWay (D.device disk) (D.device back.0)) }
+    // After an upgrade that was refused nothing was done, or a sync alone, or only images on its way were left.
     ensures cut_off { IfErr result (λ back. IsCutOff (D.device disk) (D.device back.0)) }
     ensures cause { IfErr result (λ back. back.1 ≡ Fault
         → HasFailedSince (D.device disk) (D.device back.0)) }

@@ -48,9 +48,13 @@ use std::alloc::Global;
 /// `NoMemory` comes where there is no room for what is read or found, and `Fault` where a read fails. The time is linear
 /// in the fields and the live records.
 pub fn study<D: Disk>(alloc: Global, disk: &mut D) -> Result<Study, RecoverError>
+    // Any bytes are studied as an image, or refused by the first thing that is wrong with them, with the lane and the
+    // place. A study has the image's layout and heap, what is kept and what is dropped, and each reason.
     ensures exact { MatchResult result (IsStudyOf (D.device disk.old).now.bytes)
         (RefusesImage (D.device disk.old).now.bytes) }
+    // A study changes nothing of the device.
     ensures same { SameMoments (D.device disk.old) (D.device disk.new) }
+    // A study is refused by a fault only where the device has failed.
     ensures cause { HasCauseSince (D.device disk.old) (D.device disk.new) Fault result }
 {
     let front = read_front(alloc, disk)?;

@@ -1,3 +1,5 @@
+//! Tests of: recover, survival.
+//!
 //! Tests of recovery by its public calls: images with hand-made logs, stores that crashed, and the texts of refusals.
 //!
 //! They stand apart from the rooms that they test, since a crate with tests is proved twice.

@@ -29,7 +29,9 @@ use Rattle.trim_helper.specs.declared.ended.Ended.{Ended}
 -- of that history with all its sections: after it the persistent fields have these values, and the transient ones begin anew.
 pub record IsClosed (h : Home) (l : Layout) (ended : List Ended) (d : Device) : Type 0 where
   pub history : List (ℕ × Event)
+  -- After a closing the history of the sessions is legal.
   pub legal : IsLegalHistory (plan h) history
+  -- After a closing each session's told events are its lane's part of one history.
   pub told : All (λ e. lane (view e.seat).lane.0 history ≡ (view e.seat).events) ended
   pub no_other : (k : ℕ) → h.plan.lanes ≤ k → lane k history ≡ []
   -- The words as the threads left them: lock words, fat words, masks and fields.
@@ -38,16 +40,23 @@ pub record IsClosed (h : Home) (l : Layout) (ended : List Ended) (d : Device) : 
   pub spelled : Spelled h.plan words (state_after (plan h) history)
   pub now : Past
   pub logs : (k : ℕ) → lane k (applied now) ≡ lane k (log_of (plan h) history)
+  -- Whatever a crash leaves after a closing is what a store may leave, so that recovery accepts it.
   pub left : Always d (IsLeftBy l (plan h) now)
+  -- Whatever a crash leaves after a closing stands for the history's heap with all sections.
   pub stands : Always d (StandsForCut l (plan h) (log_of (plan h) history) (all_ended (actions (log_of (plan h) history))))
+  -- After a closing the heap has the last values of persistent fields, and the first values of transient fields.
   pub values : Always d (λ image. StandsFor l image (values_below (closed_value (plan h) (state_after (plan h) history).value) l.fields))
 
 -- The session was told of no more sections of its lane than are acknowledged, and of no place past what is trimmed. The count of sections
 -- that it last read, the helper had published, and some whole, closed cut of the log has so many of its lane.
 pub record WasTold (log : List (ℕ × Record)) (seat : Helping) (acknowledged trimmed : ℕ → ℕ) (e : Ended) : Type 0 where
+  -- No session was told more sections than were acknowledged when the closing began.
   pub stable : (view e.seat).stable ≤ acknowledged (view e.seat).lane.0
+  -- No session was told a place past what was trimmed when the closing began.
   pub trimmed_to : (view e.seat).trimmed ≤ trimmed (view e.seat).lane.0
+  -- The count of sections that a session last read as stable, the helper had published as acknowledged.
   pub published : WasCount seat (view e.seat).lane.0 (view e.seat).stable
+  -- The count of sections that a session last read as stable is that of a whole, closed cut of the history's log.
   pub in_cut : IsCutCount log (view e.seat).lane.0 (view e.seat).stable
 
 -- each of these sessions was
@@ -59,7 +68,9 @@ WereTold log seat acknowledged trimmed ended = All (WasTold log seat acknowledge
 -- and whatever a crash left since shows what some of the store calls that were made since make of that past.
 pub record IsClosedFrom (h : Home) (l : Layout) (ended : List Ended) (p : Past) (seat : Helping) (since d : Device) : Type 0 where
   pub closed : IsClosed h l ended d
+  -- The history of a closing goes on from the one that the helper had seen.
   pub later : GoesOn closed.history seat.view.history
+  -- A closing names the store calls that it made.
   pub ran : HasRun l (plan h) p since closed.now d false
   pub told : WereTold (log_of (plan h) closed.history) seat p.cut (trimmed_of p) ended
 

@@ -18,6 +18,7 @@ use trim_helper::{CloseError, Ended, Helper, close_down};
 /// Ends a session, for its helper to meet. It may still hold monitors; then its heap isn't closed.
 pub fn end(session: Session) -> Ended
     ensures seat { result.seat ≡ seat_of session }
+    // What a session leaves is what its helper needs to close.
     ensures ended { (h : Home) (capacity : ℕ) (rings : Rings) → IsJoined h capacity rings session → IsEnded h capacity rings result }
 {
     let ended = session.finish();
@@ -50,8 +51,12 @@ pub fn close<D: Disk>(
 ) -> Result<D, (D, CloseError)>
     requires helper { IsHelping D.device shared helper }
     requires ended { All (IsEnded shared helper.store.known.layout.capacity helper.rings) ended.items }
+    // After a closing one legal history has each session's told events as its part. Recovery accepts whatever a crash
+    // leaves of the device, and it stands for the history's heap with all sections.
     ensures ok { IfOk result (λ disk. IsClosed shared helper.store.known.layout ended.items (D.device disk)) }
     ensures from { (p : Past) → IsServing D.device helper (plan shared) p → IfOk result (ClosesFrom D.device shared ended.items p helper) }
+    // A closing that its sessions stop leaves the device as it was. Where they don't stop it and the store had failed,
+    // it answers `Failed`.
     ensures closes { (p : Past) → IsServing D.device helper (plan shared) p → Closes D.device shared ended.items p helper result }
 {
     close_down(shared, ended, helper)

@@ -38,15 +38,22 @@ pub fn open<D: Disk>(
     requires last { last < 2 ^ 40 }
     requires schema { FitsSchema schema recovered.layout recovered.guards }
     ensures plan { IfOk result (λ o. o.shared.plan ≡ record { schema = schema; first = recovered.heap; last = last; lanes = recovered.layout.lanes }) }
+    // Each new session is joined to the helper's ring of its lane.
     ensures joined { IfOk result (λ o. All (IsJoined o.shared recovered.layout.capacity o.helper.rings) o.sessions.items) }
+    // The sessions of a new heap are new, and come lane by lane.
     ensures fresh { IfOk result (λ o. AreNew 0 o.sessions.items) }
+    // A new heap has one session a lane.
     ensures count { IfOk result (λ o. length o.sessions.items ≡ recovered.layout.lanes) }
+    // The helper of a new heap is the heap's.
     ensures helping { IfOk result (λ o. IsHelping D.device o.shared o.helper) }
     ensures past { IfOk result (λ o. IsServing D.device o.helper (plan o.shared) no_past) }
+    // The store of a new heap hasn't failed.
     ensures running { IfOk result (λ o. o.helper.store.known.has_failed ≡ false) }
+    // The helper of a new heap is settled.
     ensures settled { IfOk result (λ o. o.helper.is_settled ≡ true) }
     ensures layout { IfOk result (λ o. o.helper.store.known.layout ≡ recovered.layout) }
     ensures disk { IfOk result (λ o. o.helper.store.disk ≡ recovered.disk) }
+    // After want of memory the device is given back as it was.
     ensures refused { IfErr result (λ back. back.0 ≡ recovered.disk) }
 {
     let layout = recovered.layout();

@@ -28,6 +28,8 @@ pub record GoesOnLegally (s : Setting) (seen later : List (ℕ × Event)) : Type
 -- that goes on from the one seen, they are whole sections, each with every section that it depends on, and the heap has what they stored.
 pub record KeepsRunning (l : Layout) (s : Setting) (p : Past) (seen : List (ℕ × Event)) (image : List ℕ) : Type 0 where
   pub legal : IsLegalHistory s seen
+  -- While threads run, a crash keeps whole, closed sections in each legal history that goes on from the one that the
+  -- helper has seen.
   pub kept : KeepsIn (GoesOnLegally s seen) l s p image
 
 -- What is kept stays so as more of the history is seen.

@@ -49,12 +49,15 @@ pub record IsSeated (now : Moment) (seat : Sitting) : Type 0 where
 pub record KeepsTold (h : Home) (l : Layout) (p : Past) (now : Moment) (image : List ℕ) : Type 0 where
   pub history : List (ℕ × Event)
   pub legal : IsLegalHistory (plan h) history
+  -- Each lane's part of the history is just what its session had been told at the moment of the crash.
   pub told : (seat : Sitting) → IsSeated now seat → lane (view seat).lane.0 history ≡ (view seat).events
+  -- What a crash keeps are whole, closed sections of that history.
   pub kept : KeepsOfHistory l (plan h) p history image
 
 -- Of this lane it keeps at least so many sections.
 pub record KeepsRead (h : Home) (l : Layout) (p : Past) (now : Moment) (image : List ℕ) (of_lane sections : ℕ) : Type 0 where
   pub told : KeepsTold h l p now image
+  -- What is kept has at least so many sections of the lane.
   pub least : sections ≤ counts_of told.kept.accepted.study.report.kept of_lane
 
 -- What is kept of each legal history that goes on from the one that the helper has seen, is kept of the one of the crash.

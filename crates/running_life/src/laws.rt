@@ -32,12 +32,24 @@ use trim_helper::seen_law;
 /// to the first release. A crash after its settling leaves the section kept, and the second taking counts for nothing, whether the
 /// history goes on with its release or never does.
 pub fn round_law<D: Disk>()
+    // While threads run, what a crash leaves at any moment of any run of store calls keeps whole sections of their
+    // history, and all that was acknowledged before the run.
     ensures run { CrashInRunLaw D.device }
+    // While threads run, recovery accepts whatever a crash leaves at any moment of a round. It keeps whole sections of
+    // the threads' history, each with all that it depends on, and all that was acknowledged before the round.
     ensures round { CrashInRoundLaw D.device }
+    // What a crash leaves at any moment from the opening of a heap to the end of a round keeps whole sections of the
+    // threads' history.
     ensures opened { CrashSinceLaw D.device }
+    // What a crash leaves between two rounds, of any moment since the opening, keeps whole sections of the threads'
+    // history.
     ensures between { CrashBetweenLaw D.device }
+    // What a crash leaves between two rounds keeps all that is acknowledged by then.
     ensures now { CrashNowLaw D.device }
+    // What a crash keeps stays so in each legal history that goes on from what was seen.
     ensures more { SeesMoreLaw }
+    // Once the heap is closed, what a crash kept is of the one history in which each session's part is what it was
+    // told.
     ensures told { ToldLaw }
 {
     log_law();
@@ -51,6 +63,8 @@ pub fn round_law<D: Disk>()
 /// A heap was closed at last. At whatever moment since its opening a crash had come, recovery would have accepted what it left, and kept
 /// whole sections of the history that the closing tells of, each with every section that it depends on.
 pub fn crash_law<D: Disk>()
+    // Whatever a crash had left at any moment of a heap that was closed later, recovery would have accepted. It would
+    // have kept whole, closed sections of the one history in which each session's part is what it was told.
     ensures { CrashLaw D.device }
 {
     life_law::<D>();
@@ -66,12 +80,23 @@ pub fn crash_law<D: Disk>()
 /// a round ([`halves_law`]). A moment is a state of the shared words between two steps of the threads, whose rule
 /// says so (`monitor`, `Kept`). No call is made at a moment, and no session meets the helper.
 pub fn stable_law<D: Disk>()
+    // What a crash keeps are whole sections of one legal history, in which each lane's part is just what its session
+    // had been told when the crash came.
     ensures keeps { KeepsToldLaw }
+    // What the helper has published by some moment it has noted at each later one, and no number falls.
     ensures rises { RisesLaw }
+    // While the helper rests, a count that a session last read was published, is acknowledged, and is that of a whole,
+    // closed cut of what is applied.
     ensures rest { RestLaw D.device }
+    // What a session has read as stable by some moment is acknowledged in the past that the helper serves, if the
+    // helper had published no more by that moment.
     ensures read { ReadLaw D.device }
+    // What a session has read as stable no crash takes back, though the heap is never closed. Whatever a crash leaves
+    // since, recovery accepts, and it keeps at least so many sections of the lane.
     ensures since { KeepsReadLaw D.device }
+    // What a session has read as stable is kept of a crash in a round, once the helper has heard its rings.
     ensures in_round { KeepsReadInRoundLaw D.device }
+    // What a session has read as stable is kept of a crash while the helper rests.
     ensures at_rest { KeepsReadAtRestLaw D.device }
 {
     round_law::<D>();

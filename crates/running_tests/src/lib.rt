@@ -1,9 +1,10 @@
-//! Tests of heaps that run, by their public calls alone: how far a session comes ahead of its helper, what
-//! closing answers, and what a device that fails leaves.
+//! Tests of: trim_helper, running_heap.
 //!
-//! And of heaps that crash while workers run: whatever a crash leaves at any call of the device, recovery keeps whole sections of
-//! what the workers did, as each of them noted it, and all that was acknowledged before; and of a pool's sections it finds a free
-//! list with no slot twice.
+//! Heaps that run, by their public calls alone: how far a session comes ahead of its helper, what closing answers, and what a device that fails
+//! leaves.
+//!
+//! And heaps that crash while workers run. Whatever a crash leaves at any call of the device, recovery keeps whole sections of what the workers
+//! did, as each of them noted it, and all that was acknowledged before. In a pool's fields it finds a free list with no slot twice.
 #![tactic(auto)]
 
 #[cfg(test)]

@@ -12,6 +12,7 @@ use crate::words::{Words, split_words};
 
 /// What a line asks for, if it has a form.
 pub fn parse(line: &[u8]) -> Option<Command<'_>>
+    // A line is read as the one command whose form it has, and no line of no form is read.
     ensures { (order : Order) → (option_map order_of result ≡ Some order) ↔ Asks order line.now }
 {
     command(split_words(line)?)

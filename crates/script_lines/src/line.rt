@@ -20,6 +20,7 @@ pub fn read_line(line: &[u8]) -> Result<Option<Command<'_>>, ScriptErrorKind>
     ensures ok { IfOk result (λ found. MatchOption found (IsSkipped line.now) (λ command. Asks (order_of command) line.now)) }
     ensures read { IfOk result (λ found. IfSome found (λ _. ¬ IsSkipped line.now)) }
     ensures own { IfOk result (λ found. IfSome found (λ command. AsksOnly (order_of command) line.now)) }
+    // The fault of a line that can't be read is the one that is told.
     ensures fault { IfErr result (λ kind. HasFault line.now kind) }
 {
     if line.len() > LONGEST_LINE {

@@ -9,6 +9,7 @@ const CARRIAGE_RETURN: u8 = b'\r';
 
 /// The first line, without its end, and what follows it: the other lines.
 pub fn cut_line(text: &[u8]) -> (&[u8], &[u8])
+    // A text is cut into its first line and the rest.
     ensures lines { 0 < length text.now → lines_of text.now ≡ result.0.now ∷ lines_of result.1.now }
     ensures first { result.0.now ≡ first_line text.now }
     ensures others { result.1.now ≡ other_lines text.now }

@@ -28,6 +28,7 @@ pub enum Ending {
 /// The lines to be played, as they were read, and how the text ended. Where it didn't end by itself, its last line is
 /// left out: the one that has the first byte past the text's length, or whose bytes could not be had.
 pub fn read_lines<R: Read>(alloc: Global, reader: &mut R) -> (Vec<u8>, Ending)
+    // A text is read to its end, or to what stops it, line by line.
     ensures { Reads (R.remaining reader.old) (R.remaining reader.new) result.0.items result.1 }
 {
     let mut text = Vec::new(alloc);

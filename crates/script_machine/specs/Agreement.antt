@@ -26,11 +26,17 @@ pub record Agrees (table : Table) (store : Parts Memory) : Type 0 where
   pub history : List (ℕ × Event)
   pub past : Past
   pub legal : IsLegalHistory (setting_from table first) history
+  -- While a script's machine runs, its monitors are in the state after a legal history of the threads' events.
   pub state : state_of table ≡ state_after (setting_from table first) history
+  -- While a script's machine runs, its store was told the logged events of that history.
   pub told : applied past ≡ log_of (setting_from table first) history
   pub tells : Tells store (setting_from table first) past
   pub lanes : store.known.layout.lanes ≡ lanes_of table
+  -- While a script's machine runs, its store hasn't failed.
   pub running : store.known.has_failed ≡ false
+  -- A script's disk has no image but of its schema. Whatever a crash leaves of it, at any write or sync since it was
+  -- made, has the schema's objects, fields, guards, marks and transient first values, if its header and guard rows can
+  -- be read.
   pub of_schema : IsDiskOf table.schema store.disk
 
 -- the store was told nothing, in a heap of this schema whose fields begin with the values of this heap: the transient ones
@@ -38,8 +44,12 @@ pub record Agrees (table : Table) (store : Parts Memory) : Type 0 where
 pub record BeginsWith (schema : Declarations) (heap : List ℕ) (store : Parts Memory) : Type 0 where
   pub tells : (first : ℕ → ℕ) → ((f : ℕ) → f < field_count schema → first f ≡ slice_index heap f)
       → Tells store (record (setting_in schema LAST_NUMBER) { first = first }) no_past
+  -- After `recover` a transient field has the schema's first value again.
   pub begun : (f : ℕ) → f < field_count schema → is_transient_of schema f ≡ true → slice_index heap f ≡ first_of schema f
   pub running : store.known.has_failed ≡ false
+  -- A script's disk has no image but of its schema. Whatever a crash leaves of it, at any write or sync since it was
+  -- made, has the schema's objects, fields, guards, marks and transient first values, if its header and guard rows can
+  -- be read.
   pub of_schema : IsDiskOf schema store.disk
 
 -- why the store may refuse the record of an event that the monitors allow

@@ -82,6 +82,7 @@ pub record IsFresh (schema : Declarations) (lanes : ℕ) (first : ℕ → ℕ) (
 pub record IsRestored (schema : Declarations) (lanes : ℕ) (heap : List ℕ) (table : Table) : Type 0 where
   pub first : ℕ → ℕ
   pub fresh_monitors : IsFresh schema lanes first table
+  -- After `recover` each field has the value of the recovered heap.
   pub values : (f : ℕ) → f < field_count schema → first f ≡ slice_index heap f
 
 -- the threads of the object's wait set, in order
@@ -91,6 +92,7 @@ waiters table o = wait_set (lanes_of table) (state_of table) o
 -- the store took the lane's record: it was the next that the lane may do, and there was room for it
 pub record Takes (old : Parts Memory) (lane : ℕ) (next : Record) (new : Parts Memory) : Type 0 where
   pub judged : (s : Setting) (p : Past) → Tells old s p → Answers s old.known.memory p lane next (Ok tt)
+  -- The store is told the record of a line's event. A store of a transient field has none.
   pub after : (s : Setting) (p : Past) → Tells old s p → Tells new s (after_apply p lane next)
   pub disk : new.disk ≡ old.disk
   pub layout : new.known.layout ≡ old.known.layout
@@ -108,7 +110,9 @@ RefusesRecord x s p lane (Some next) reason = RefusesApply x.known s p lane next
 
 -- the call takes one sequence of controls at most, and a crash inside it shows none beyond that
 pub record TakesSequence (m : Live) (store : Parts Memory) : Type 0 where
+  -- No line wears the control out. A `log`, `settle` or `trim` takes one sequence of controls at most.
   pub sequence : store.known.committed.sequence ≤ m.store.known.committed.sequence + 1
+  -- Whatever a crash leaves inside the line shows at most one sequence more than before.
   pub any_sequence : ShowsUpToMeanwhile device_of m.store store (m.store.known.committed.sequence + 1)
 
 module _ (old : MachineState) (answer : Answer) (new : MachineState) where
@@ -134,7 +138,11 @@ module _ (old : MachineState) (answer : Answer) (new : MachineState) where
     pub fresh_monitors : IsFresh d lanes (first_of d) live.monitors
     pub tells : Tells live.store (setting_of live.monitors) no_past
     pub running : live.store.known.has_failed ≡ false
+    -- `format` makes the disk that formatting so many zeros makes. `crash .. back` counts just these writes and syncs.
     pub made : device_of live.store.disk ≡ formatted_device d (layout_with d lanes capacity)
+    -- A script's disk has no image but of its schema. Whatever a crash leaves of it, at any write or sync since it was
+    -- made, has the schema's objects, fields, guards, marks and transient first values, if its header and guard rows
+    -- can be read.
     pub of_schema : IsDiskOf d live.store.disk
 
   -- an image is formatted where there is an object and a field, and lanes and capacity are within their limits
@@ -162,8 +170,10 @@ module _ (old : MachineState) (answer : Answer) (new : MachineState) where
 
   -- the event is allowed (JLS 17.1, 17.2). It is done, unless the store refuses its record
   pub record Does (m : Live) (thread : ℕ) (said : Answer) (event : Event) : Type 0 where
+    -- A line's event is one that the model allows (JLS 17.1, 17.2).
     pub allowed : MayDo (setting_of m.monitors) (state_of m.monitors) thread event
     pub named : IsEventOf (setting_of m.monitors) event
+    -- A line's event is done, in the monitors and in the store; or the store refuses its record, and neither changes.
     pub outcome : Completes m thread event said ⊎ IsRefusedByStore m (λ s p reason. RefusesRecord m.store s p thread (logged (setting_of m.monitors) event) reason)
 
   -- a lock of the object's monitor
@@ -264,8 +274,11 @@ module _ (old : MachineState) (answer : Answer) (new : MachineState) where
     pub records : ℕ
     pub call : Calls m (Logged records) store Logging
     pub takes : TakesSequence m store
+    -- A crash inside the line keeps exactly what was acknowledged.
     pub stands : KeepsAcknowledged m store
+    -- `log` prints how many records are newly logged.
     pub count : (s : Setting) (p : Past) → Tells m.store s p → records ≡ length p.fresh
+    -- `log` logs all that was applied.
     pub after : (s : Setting) (p : Past) → Tells m.store s p → Tells store s (after_log p)
 
   -- unless the control is worn
@@ -277,8 +290,11 @@ module _ (old : MachineState) (answer : Answer) (new : MachineState) where
     pub store : Parts Memory
     pub cells : ℕ
     pub call : Calls m (Wrote cells) store Nothing
+    -- `home` leaves the control's sequence.
     pub sequence : store.known.committed.sequence ≡ m.store.known.committed.sequence
+    -- A crash inside the line keeps exactly what was acknowledged.
     pub stands : KeepsAcknowledged m store
+    -- `home` writes home cells until no field is dirty, and prints how many.
     pub after : (s : Setting) (p : Past) → Tells m.store s p → BringsHome store s p cells
 
   -- the stable cut is acknowledged
@@ -293,12 +309,15 @@ module _ (old : MachineState) (answer : Answer) (new : MachineState) where
     pub shown : (s : Setting) (p : Past) → Tells m.store s p
         → LeavesOnly (device_of m.store.disk) (device_of store.disk) (ShowsStep m.store.known.layout s p Settling)
     pub takes : TakesSequence m store
-    -- a crash inside it leaves what stands for the sections that were acknowledged before, or for those that are now
+    -- A crash inside `settle` leaves what stands for the sections that were acknowledged before, or for those that it
+    -- acknowledges.
     pub stands : (s : Setting) (p : Past) (cut : ℕ → ℕ) → Tells m.store s p → IsStable (actions p.logged) cut
         → LeavesOnly (device_of m.store.disk) (device_of store.disk) (StandsForEither m.store.known.layout s p.logged p.cut cut)
     pub clean : (s : Setting) (p : Past) → Tells m.store s p → IsClean s p
     pub lanes : length sections ≡ m.store.known.layout.lanes
+    -- `settle` acknowledges the stable cut of what was logged.
     pub after : (s : Setting) (p : Past) (cut : ℕ → ℕ) → Tells m.store s p → IsStable (actions p.logged) cut → Tells store s (after_settle p cut)
+    -- `settle` prints the sections of the stable cut.
     pub counts : (s : Setting) (p : Past) (cut : ℕ → ℕ) → Tells m.store s p → IsStable (actions p.logged) cut
         → (l : ℕ) → l < m.store.known.layout.lanes → slice_index sections l ≡ cut l
 
@@ -311,8 +330,11 @@ module _ (old : MachineState) (answer : Answer) (new : MachineState) where
     pub store : Parts Memory
     pub call : Calls m Done store Trimming
     pub takes : TakesSequence m store
+    -- A crash inside the line keeps exactly what was acknowledged.
     pub stands : KeepsAcknowledged m store
+    -- After `trim` what was acknowledged is trimmed.
     pub after : (s : Setting) (p : Past) → Tells m.store s p → Tells store s (after_trim p)
+    -- Where nothing is to be trimmed, nothing changes.
     pub none : (s : Setting) (p : Past) → Tells m.store s p → IsTrimmed p → store ≡ m.store
 
   -- unless the control is worn
@@ -337,6 +359,9 @@ module _ (old : MachineState) (answer : Answer) (new : MachineState) where
     pub down : new ≡ Down (record { schema = m.monitors.schema; disk = fresh (crash_back fill back m.store.disk) })
     pub possible : Image (moment_after m.store.disk.first (done_at (begun_at back m.store.disk) m.store.disk.stops)) (crash_back fill back m.store.disk)
     pub any_moment : LeftSinceStop (begun_at back m.store.disk) m.store.disk (crash_back fill back m.store.disk)
+    -- A script's disk has no image but of its schema. Whatever a crash leaves of it, at any write or sync since it was
+    -- made, has the schema's objects, fields, guards, marks and transient first values, if its header and guard rows
+    -- can be read.
     pub of_schema : IsOfSchema m.monitors.schema (crash_back fill back m.store.disk)
 
   -- unless there were fewer writes and syncs
@@ -350,7 +375,9 @@ module _ (old : MachineState) (answer : Answer) (new : MachineState) where
     pub disk : Memory
     pub answers : answer ≡ Shown study
     pub stays : new ≡ Down (record w { disk = disk })
+    -- `show` prints the study of the image on the crashed device.
     pub studied : IsStudyOf (device_of w.disk).now.bytes study
+    -- After `show` the machine stays down, and the device reads as before.
     pub same : SameMoments (device_of w.disk) (device_of disk)
 
   -- there is none: the image is refused by the first thing that is wrong with it

@@ -48,13 +48,18 @@ pub record Reopens (recovered : Recovered Memory) (found : Found) (store : Parts
 pub record Restores (old : Memory) (store : Parts Memory) (told : Report) : Type 0 where
   pub recovered : Recovered Memory
   pub found : Found
+  -- The lines of `recover` tell of the very image that `crash` left.
   pub recovery : IsRecovery (device_of old) (device_of recovered.disk) recovered found
+  -- A crash inside `recover` leaves the same heap.
   pub any_moment : (s : Study) → IsStudyOf (device_of old).now.bytes s → LeavesOnly (synced (device_of old)) (device_of recovered.disk) (IsOnTheWay s)
   pub reopens : Reopens recovered found store told
 
 -- The bytes on the disk are refused for this reason, where these versions are taken, and it is told; the disk is then the second, and but for a sync nothing was done
 pub record RefusesDisk (versions : Versions) (old new : Memory) (told : Refusal) : Type 0 where
   pub reason : RecoverError
+  -- A refused image is told by the word of its reason.
   pub told_is : told_of_recovery reason ≡ Ok told
+  -- A refused image is refused for the first thing that is wrong with it.
   pub refused : RefusesOf versions (device_of old).now.bytes reason
+  -- A refused image was synced, and nothing else was done.
   pub untouched : SameMoments (synced (device_of old)) (device_of new)

@@ -50,6 +50,7 @@ impl Machine {
     /// ([`disk_law`](crate::disk_law)).
     pub fn down(schema: Schema, disk: MemDisk) -> Machine
         requires { IsDiskOf schema disk }
+        // A machine may begin down, on a disk with an image of its schema.
         ensures { result ≡ machine.Down (record { schema = schema; disk = disk }) }
     {
         Machine {
@@ -59,6 +60,7 @@ impl Machine {
 
     /// What a machine that is down has on its disk. In any other state there is nothing that a crash has left.
     pub fn image(&self) -> Option<&[u8]>
+        // What is on the disk of a machine that is down can be had.
         ensures { option_map (λ bytes. bytes.now) result ≡ image_in self.now }
     {
         self.phase.image()
@@ -66,6 +68,8 @@ impl Machine {
 
     /// Plays a line, and answers it. A refused line changes nothing. After want of memory the machine is spent.
     pub fn step(&mut self, alloc: Global, command: &Command<'_>) -> Result<Answer, AllocError>
+        // A line is refused by the first reason that is met, in the documented order. Else it does what the model's
+        // events allow and make (JLS 17.1).
         ensures ok { IfOk result (λ answer. Steps self.old (order_of command.now) answer self.new) }
         ensures err { OnErr result (self.new ≡ Spent) }
     {

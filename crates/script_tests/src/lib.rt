@@ -1,3 +1,5 @@
+//! Tests of: script_lines, declarations, script_machine, scripts.
+//!
 //! What scripts and schema files print and refuse, by public calls alone: whole runs, forms of lines, texts of answers,
 //! and readers and writers that fail.
 #![tactic(auto)]

@@ -7,9 +7,15 @@ ghost use Rattle.scripts.specs.Playing.{FormattedLaw, PlayLaw, RecoveredLaw};
 /// or sync of a `log`, `home` or `trim`, that of exactly the sections acknowledged before; of a `settle`, of these or of those
 /// that it acknowledges.
 pub fn crash_law()
+    // After a crash with all writes and syncs ended, `recover` gives the heap of the acknowledged sections and of no
+    // others, and tells just these as kept.
     ensures rest { RestLaw }
+    // After a crash with all writes and syncs ended, the kept sections are those of the threads' own legal history.
     ensures history { HistoryLaw }
+    // A crash at any write or sync of a `log`, `home` or `trim` leaves exactly what was acknowledged before it. One in
+    // a `settle` leaves that, or what it acknowledges.
     ensures call { CallLaw }
+    // What `settle` tells as acknowledged, `recover` tells as kept after a crash with all writes and syncs ended.
     ensures told { ToldLaw }
 {}
 
@@ -19,7 +25,11 @@ pub fn crash_law()
 /// lines which had ended when it came, or that the `settle` which it cut off was about to acknowledge. However these lines are
 /// told apart from the rest, none of the sections that they had acknowledged is lost.
 pub fn play_law()
+    // After `format` the fields have the values that were declared.
     ensures formatted { FormattedLaw }
+    // After `recover` the fields have the values that it told.
     ensures recovered { RecoveredLaw }
+    // A crash at any write or sync of any lines leaves the heap of the sections that the ended lines had acknowledged,
+    // or that the `settle` which it cut off was about to acknowledge.
     ensures played { PlayLaw }
 {}

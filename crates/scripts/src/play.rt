@@ -20,6 +20,8 @@ pub fn run_script<R: Read, W: Write>(
     reader: &mut R,
     writer: &mut W,
 ) -> Result<(), ScriptError>
+    // What a run prints is what its text means: one reading of the input, whose lines' texts are written in their
+    // order. A run stops at the first line that has a fault, isn't had, isn't written or wants memory.
     ensures { OfScript (R.remaining reader.old) (R.remaining reader.new)
         (λ lines ending. Ends lines ending result (W.contents writer.old) (W.contents writer.new)) }
 {

@@ -12,6 +12,7 @@ use std::fmt::Write;
 
 /// What a line prints that was answered so: whole lines, or nothing.
 pub fn text(alloc: Global, answer: &Answer) -> Result<Vec<u8>, AllocError>
+    // An answer prints the documented text.
     ensures { IfOk result (λ text. text.items ≡ text_of answer.now) }
 {
     match answer {

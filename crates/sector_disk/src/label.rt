@@ -27,7 +27,9 @@ impl Label {
     /// The label with which these first bytes of a device begin. `None` where they begin with none, or are fewer than 16: what lies
     /// there is no disk in two places.
     pub fn read(head: &[u8]) -> Option<Label>
+        // A label that is read is what the first bytes spell.
         ensures some { IfSome result (λ l. take 16 head.now ≡ label_bytes l.size l.count) }
+        // Where no label is read, the first bytes spell none.
         ensures none { IfNone result ((size : Size) (count : ℕ) → count < 2 ^ 64
             → take 16 head.now ≡ label_bytes size count → ⊥) }
     {
@@ -42,6 +44,7 @@ impl Label {
 
     /// The label's bytes.
     pub fn bytes(self) -> [u8; 16]
+        // A label's bytes are those of the documented layout.
         ensures { result ≡ label_bytes self.size self.count }
     {
         let mut bytes = [0; LABEL_BYTES];

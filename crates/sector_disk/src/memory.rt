@@ -55,9 +55,11 @@ impl MemSectors {
 
     /// Makes a sector unreadable, until it is written. `false` where there is none of this number.
     pub fn lose(&mut self, number: u64) -> bool
+        // Any sector in memory that there is can be made unreadable.
         ensures there { IsTrue result
             ↔ (place_of self.old.size number + bytes_in self.old.size ≤ length
             self.old.device.now.bytes) }
+        // A lost sector is unreadable until it is written.
         ensures lost { IsTrue result
             → self.new.device ≡ written (place_of self.old.size number)
             (replicate (bytes_in self.old.size) 256) self.old.device }

@@ -18,6 +18,7 @@ pub struct SectorsOf<D: Disk + Drop> {
 impl<D: Disk + Drop> SectorsOf<D> {
     /// The sectors of this disk. Bytes behind the last whole sector are never touched.
     pub fn new(disk: D, size: SectorSize) -> SectorsOf<D>
+        // The sectors of any disk are a device of sectors, over that disk.
         ensures disk { result.disk ≡ disk }
         ensures size { result.size ≡ size }
     {

@@ -53,6 +53,8 @@ pub trait Sectors {
         requires whole { length bytes.now ≡ bytes_in (of_size self.old) }
         requires fits { place_of (of_size self.old) number + bytes_in (of_size self.old) ≤ length
             (device self.old).now.bytes }
+        // A sector that is written may hold any bytes after a crash, or be unreadable, until the next flush. Every
+        // other sector stays.
         ensures ok { OnOk result (device self.new
             ≡ written (place_of (of_size self.old) number) bytes.now (device self.old)) }
         ensures fault { OnErr result
@@ -62,6 +64,7 @@ pub trait Sectors {
 
     /// Makes what was written durable: from then on a crash leaves what a read gives. `Fault` fixes nothing.
     fn flush(&mut self) -> Result<(), Fault>
+        // A flush that succeeds leaves nothing pending: a crash leaves each sector as it is.
         ensures ok { OnOk result (device self.new ≡ synced (device self.old)) }
         ensures fault { OnErr result (SameMoments (device self.old) (device self.new)) }
         ensures size { of_size self.new ≡ of_size self.old };

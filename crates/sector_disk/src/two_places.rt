@@ -68,16 +68,23 @@ impl<S: Sectors + Drop> TwoPlaces<S> {
         mut sectors: S,
         count: usize,
     ) -> Result<TwoPlaces<S>, (S, PlacesError)>
+        // An opened disk is what the device stands for.
         ensures ok { IfOk result (λ disk. disk.device
             ≡ new_device (shown (S.of_size sectors) count (S.device sectors).now.bytes)) }
         ensures size { IfOk result (λ disk. (disk.size ≡ S.of_size sectors)
             × (disk.count ≡ count)) }
+        // An opening flushes the device, and writes none of its sectors.
         ensures found { IfOk result (λ disk. IsAsFound (S.device sectors) disk.sectors) }
+        // A device with fewer sectors than the label, the gate and two areas take is refused as too small, before all
+        // else.
         ensures too_small { length (S.device sectors).now.bytes < room_of (S.of_size sectors) count
             → IsErrAnd result (λ back. back.1 ≡ TooSmall) }
+        // A device with room for the label, the gate and two areas isn't refused as too small.
         ensures room { room_of (S.of_size sectors) count ≤ length (S.device sectors).now.bytes
             → IfErr result (λ back. back.1 ≢ TooSmall) }
+        // A refused opening has written none of the sectors, and at most flushed them.
         ensures err { IfErr result (λ back. IsAsFound (S.device sectors) (S.device back.0)) }
+        // A refusal gives the sectors back, of the same size.
         ensures back { IfErr result (λ back. S.of_size back.0 ≡ S.of_size sectors) }
     {
         let size = sectors.sector_size();
@@ -98,22 +105,31 @@ impl<S: Sectors + Drop> TwoPlaces<S> {
         mut sectors: S,
         count: usize,
     ) -> Result<TwoPlaces<S>, (S, PlacesError)>
+        // A new disk has zeros.
         ensures ok { IfOk result (λ disk. disk.device
             ≡ new_device (replicate (place_of (S.of_size sectors) count) 0)) }
         ensures size { IfOk result (λ disk. (disk.size ≡ S.of_size sectors)
             × (disk.count ≡ count)) }
+        // A new disk begins with the label that tells the size and the number of its sectors.
         ensures labelled { IfOk result
             (λ disk. take 16 disk.sectors.now.bytes ≡ label_bytes (S.of_size sectors) count) }
+        // A new disk has nothing pending on its device.
         ensures durable { IfOk result (λ disk. disk.sectors.now.pending ≡ []) }
+        // A device with fewer sectors than the label, the gate and two areas take is refused as too small, before all
+        // else.
         ensures too_small { length (S.device sectors).now.bytes < room_of (S.of_size sectors) count
             → IsErrAnd result (λ back. back.1 ≡ TooSmall) }
+        // A device with room for the label, the gate and two areas isn't refused as too small.
         ensures room { room_of (S.of_size sectors) count ≤ length (S.device sectors).now.bytes
             → IfErr result (λ back. back.1 ≢ TooSmall) }
+        // A refused making has changed nothing, but where it answers `Fault`.
         ensures untouched { IfErr result (λ back. back.1 ≢ PlacesFault
             → S.device back.0 ≡ S.device sectors) }
+        // A refused making has changed no byte after those that the disk was to have.
         ensures beyond { IfErr result
             (λ back. ReadsSameBut (its_sectors (S.of_size sectors) count ∷ []) (S.device sectors)
             (S.device back.0)) }
+        // A refusal gives the sectors back, of the same size.
         ensures back { IfErr result (λ back. S.of_size back.0 ≡ S.of_size sectors) }
     {
         let size = sectors.sector_size();
@@ -154,6 +170,8 @@ impl<S: Sectors + Drop> TwoPlaces<S> {
 
     /// Whatever a crash may leave of the device now stands for what it may leave of the disk, and has the same first sector.
     pub fn possible_law(&self)
+        // Whatever a crash may leave of the device now stands for what a crash may leave of the disk now, under the
+        // device's own label.
         ensures { Always self.now.sectors
             (Shows self.now.size self.now.count
             (sector self.now.size 0 self.now.sectors.now.bytes) self.now.device.now) }
@@ -202,7 +220,9 @@ impl<S: Sectors + Drop> Disk for TwoPlaces<S> {
             → IsSameOrTorn at (length bytes.now) self.old.device self.new.device }
         ensures cause { IsErrOf result Fault → HasFailedSince self.old.device self.new.device }
         ensures counted { IsErrOf result Fault → CountsOneMore self.old.device self.new.device }
+        // A write never answers a fault.
         ensures no_fault { ¬ IsErrOf result Fault }
+        // A write leaves the device of sectors as it is.
         ensures sectors { self.new.sectors ≡ self.old.sectors }
         ensures count { (self.new.size ≡ self.old.size) × (self.new.count ≡ self.old.count) }
     {
@@ -231,7 +251,9 @@ impl<S: Sectors + Drop> Disk for TwoPlaces<S> {
         ensures any_moment { LeavesBut (unit_ranges count at) self.old.device self.new.device }
         ensures cause { OnErr result (HasFailedSince self.old.device self.new.device) }
         ensures counted { OnErr result (CountsOneMore self.old.device self.new.device) }
+        // A write never answers a fault.
         ensures no_fault { IsOk result }
+        // A write leaves the device of sectors as it is.
         ensures sectors { self.new.sectors ≡ self.old.sectors }
         ensures count { (self.new.size ≡ self.old.size) × (self.new.count ≡ self.old.count) }
     {
@@ -254,11 +276,16 @@ impl<S: Sectors + Drop> Disk for TwoPlaces<S> {
         ensures fault { IsErrOf result Fault → SameMoments self.old.device self.new.device }
         ensures cause { IsErrOf result Fault → HasFailedSince self.old.device self.new.device }
         ensures counted { IsErrOf result Fault → CountsOneMore self.old.device self.new.device }
+        // Whatever a crash leaves at any moment of a sync stands for what a crash of the disk might have left before
+        // the sync, whatever the sync answers.
         ensures any_moment { LeavesOnly self.old.sectors self.new.sectors
             (Shows self.old.size self.old.count
             (sector self.old.size 0 self.old.sectors.now.bytes) self.old.device.now) }
+        // Whatever a crash leaves at any moment of a sync differs from what one before might have left in the label,
+        // the gate and the areas alone.
         ensures within { LeavesBut (its_sectors self.old.size self.old.count ∷ []) self.old.sectors
             self.new.sectors }
+        // A sync writes no sector after the areas.
         ensures beyond { ReadsSameBut
             (its_sectors self.old.size self.old.count ∷ []) self.old.sectors self.new.sectors }
         ensures count { (self.new.size ≡ self.old.size) × (self.new.count ≡ self.old.count) }

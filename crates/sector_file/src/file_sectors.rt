@@ -58,6 +58,7 @@ impl<F: BackingFile + Drop> FileSectors<F> {
         count: usize,
     ) -> Result<FileSectors<F>, PlacesError>
         ensures size { IfOk result (λ sectors. sectors.size ≡ size) }
+        // Opening the sectors of a file settles the file, and leaves its bytes as they are.
         ensures file { IfOk result (λ sectors. sectors.file ≡ option_map settled (F.holds file)) }
     {
         if file.settle().is_err() {
@@ -98,6 +99,7 @@ impl<F: BackingFile + Drop> FileSectors<F> {
         count: usize,
     ) -> Result<FileSectors<F>, PlacesError>
         ensures size { IfOk result (λ sectors. sectors.size ≡ size) }
+        // New sectors are what the file reads, and has read since it was synced.
         ensures file { IfOk result (λ sectors. ReadsForGood sectors.device.now.bytes sectors.file) }
     {
         let Some(all) = sectors_for(count, i64::MAX as u64, size) else {
@@ -211,6 +213,7 @@ impl<F: BackingFile + Drop> Sectors for FileSectors<F> {
             → IsLost (sector self.old.size number self.old.device.now.bytes) }
         ensures same { SameMoments self.old.device self.new.device }
         ensures size { self.new.size ≡ self.old.size }
+        // Reading a sector leaves the file as it is.
         ensures file { self.new.file ≡ self.old.file }
     {
         if !is_among(number, self.first, self.area) {
@@ -236,8 +239,10 @@ impl<F: BackingFile + Drop> Sectors for FileSectors<F> {
             (IsSameOrTorn (place_of self.old.size number)
             (length bytes.now) self.old.device self.new.device) }
         ensures size { self.new.size ≡ self.old.size }
+        // A sector that is written is written in the file, and nothing else is.
         ensures file { OnOk result (self.new.file
             ≡ option_map (put_at (place_of self.old.size number) bytes.now) self.old.file) }
+        // A failed write of a sector changes no byte of the file outside the sector.
         ensures torn { OnErr result (TornFile (place_of self.old.size number)
             (length bytes.now) self.old.file self.new.file) }
     {
@@ -257,7 +262,9 @@ impl<F: BackingFile + Drop> Sectors for FileSectors<F> {
         ensures ok { OnOk result (self.new.device ≡ synced self.old.device) }
         ensures fault { OnErr result (SameMoments self.old.device self.new.device) }
         ensures size { self.new.size ≡ self.old.size }
+        // A flush that succeeds has settled the file.
         ensures file { OnOk result (self.new.file ≡ option_map settled self.old.file) }
+        // A flush that fails leaves what the file reads.
         ensures unsettled { OnErr result (ReadsAsBefore self.old.file self.new.file) }
     {
         if self.file.settle().is_err() {

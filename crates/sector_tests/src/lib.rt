@@ -1,7 +1,9 @@
+//! Tests of: sector_disk, sector_file.
+//!
 //! Crashes of disks on a device of sectors, by public calls.
 //!
-//! A disk is written by chance and synced; a crash comes in the sync or behind it, and what was in flight becomes what one of
-//! four models says. Then the disk is opened of what is left: each byte that wasn't written since the last sync must be there.
+//! A disk is written by chance and synced. A crash comes in the sync or after it, and what was in flight becomes what one of four models says.
+//! Then the disk is opened on what is left: each byte that wasn't written since the last sync must be there.
 #![tactic(auto)]
 
 #[cfg(test)]

@@ -235,6 +235,7 @@ pub record EntersWaiting (capacity : ℕ) (v w : View) (o : ObjectId) (x : Resul
   pub only : AreLooks o looks
   pub told : Lengthens v later looks
   pub enters : EntersFirst capacity later w o x
+  -- A monitor that an enter took after it had met another thread is fat then, or no slot was left.
   pub fat : looks ≢ [] → IfOk x (λ done. IsFatOrFull w o)
 
 -- an answer other than that the monitor is held
@@ -267,11 +268,18 @@ LeavesRing x y r = MatchResult r (λ _. SECTION_RECORDS ≤ free_of y + 1) (HasR
 
 -- An enter: one lock more of a monitor that is held, or a first lock, which begins a section where none was held.
 pub record Enters (h : Home) (x y : Session) (o : ObjectId) (r : Result (Unit {0}) SessionError) : Type 0 where
+  -- An enter of an object that there isn't is refused so, before all else, and nothing is told.
   pub unknown : (plan h).objects ≤ o.0 → Refuses x y error.UnknownObject r
+  -- An enter of a monitor that the thread holds adds one lock. It is refused as `NoFat` only where the monitor isn't
+  -- known to be fat and no slot is left.
   pub again : (k : Hold) → o.0 < (plan h).objects → Owns x o k → EntersAgain (view_of x) (view_of y) o k r
+  -- A first enter is refused as `Held` only where a look showed another thread's hold, or a try found another word than
+  -- the free one that the look had shown. So a monitor that stays free isn't refused again and again.
   pub first : o.0 < (plan h).objects → Lacks x o → EntersFirst (capacity_of x) (view_of x) (view_of y) o r
+  -- An enter that would begin a section is refused as `Behind` only where the ring isn't known to have the room, or the
+  -- lane lacks it by the published place, read in this call. Any other answer comes with room in the ring.
   pub ring_room : o.0 < (plan h).objects → Lacks x o → held_count (view_of x) ≡ 0 → LeavesRing x y r
-  -- a slot's name that was met is that of the monitor for good
+  -- A fat lock word that a refused enter showed is known whole from then on.
   pub lasting : IfErr r (IsLastingHeld (view_of y) o)
 
 -- An enter that waits while another thread has the monitor: it is never refused as held.
@@ -302,15 +310,21 @@ KnowsValue h x f value = known_value (plan h) (view_of x).events f.0 ≡ Some va
 
 -- A load, under the guard.
 pub record Loads (h : Home) (x y : Session) (f : FieldId) (r : Result ℕ SessionError) : Type 0 where
+  -- A load of a field that there isn't is refused so, before all else, and nothing is told.
   pub unknown : (plan h).fields ≤ f.0 → Refuses x y error.UnknownField r
+  -- A load of a field whose guard the thread doesn't hold is refused so, and nothing is told.
   pub not_held : f.0 < (plan h).fields → LacksGuard h x f → Refuses x y error.NotHeld r
   pub held : f.0 < (plan h).fields → HoldsGuard h x f → Tells x y (λ value. event.Load f value ∷ []) r
+  -- A load gives the value that the thread's own events tell of a field whose guard it holds.
   pub known : (value : ℕ) → f.0 < (plan h).fields → HoldsGuard h x f → KnowsValue h x f value → r ≡ Ok value
 
 -- A store of a value: under the guard, and where the section has room for its record, if it makes one.
 pub record StoresAs (h : Home) (x y : Session) (f : FieldId) (value : ℕ) (r : Result (Unit {0}) SessionError) : Type 0 where
+  -- A store to a field that there isn't is refused so, before all else, and nothing is told.
   pub unknown : (plan h).fields ≤ f.0 → Refuses x y error.UnknownField r
+  -- A store to a field whose guard the thread doesn't hold is refused so, and nothing is told.
   pub not_held : f.0 < (plan h).fields → LacksGuard h x f → Refuses x y error.NotHeld r
+  -- A store under the guard is told. It sends a record and needs room for it only where logs keep the field's stores.
   pub held : f.0 < (plan h).fields → HoldsGuard h x f → Stores (view_of x) (view_of y) f value r
 
 -- A notification of one: some lane leaves the wait set, or none where that is empty.
@@ -335,7 +349,9 @@ pub record NotifiesAll (h : Home) (x y : Session) (o : ObjectId) (r : Result (se
 
 -- these words are the monitor's, and the look that they show was told
 pub record Shows (x y : Session) (o : ObjectId) (lock : Shape) (fat : Option FatShape) : Type 0 where
+  -- A look shows a monitor as fat exactly where it is, with the word of its slot, and that slot is known from then on.
   pub whole : IsWhole (view_of y) o lock fat
+  -- A fat lock word that a look showed is known whole from then on.
   pub lasting : IsLasting (view_of y) o lock
   pub told : Lengthens (view_of x) (view_of y) (event.Look o (sight_of lock fat) ∷ [])
 
@@ -347,7 +363,9 @@ pub record Looks (h : Home) (x y : Session) (o : ObjectId) (r : Result (Shape ×
 -- A reading of how many sections of the lane were acknowledged at the last publication.
 pub record ReadsStable (x y : Session) (sections : ℕ) : Type 0 where
   pub quiet : IsQuiet (view_of x) (view_of y)
+  -- The number of acknowledged sections is read anew by each call.
   pub looked : (view_of x).stable_looks < (view_of y).stable_looks
+  -- The answer is the published count of the lane's acknowledged sections, as the view has read it now.
   pub read : (view_of y).stable ≡ sections
 
 -- the session comes back with this refusal, and nothing was told
@@ -369,8 +387,12 @@ LeavesRingToWait x r = MatchResult r (λ w. SECTION_RECORDS ≤ free_waiting w) 
 
 -- A wait that is begun, or refused.
 pub record AsksToWait (h : Home) (x : Session) (o : ObjectId) (r : Result Waiting (Session × SessionError)) : Type 0 where
+  -- A wait on an object that there isn't is refused so, before all else, and the session comes back as it was.
   pub unknown : (plan h).objects ≤ o.0 → ComesBack x error.UnknownObject r
+  -- A wait on a monitor that the thread doesn't hold is refused so, and the session comes back as it was.
   pub not_held : o.0 < (plan h).objects → Lacks x o → ComesBack x error.NotHeld r
+  -- A monitor on which a thread waits is fat. A wait is refused as `NoFat` only where the monitor isn't known to be fat
+  -- and no slot is left.
   pub held : (k : Hold) → o.0 < (plan h).objects → Owns x o k → AsksHeld x o k r
   pub ring_room : (k : Hold) → o.0 < (plan h).objects → Owns x o k → held_count (view_of x) ≡ 1 → LeavesRingToWait x r
 

@@ -21,5 +21,6 @@ StoresTwo v w f x g y (Err _) = ⊥
 pub record StoresBoth (h : Home) (x y : Session) (f g : FieldId) (a b : ℕ) (r : Result (Unit {0}) SessionError) : Type 0 where
   pub unknown : ((plan h).fields ≤ f.0) ⊎ ((plan h).fields ≤ g.0) → Refuses x y UnknownField r
   pub not_held : f.0 < (plan h).fields → g.0 < (plan h).fields → LacksGuard h x f ⊎ LacksGuard h x g → Refuses x y NotHeld r
+  -- Two stores are both done, in order, or neither; a field that is named twice takes the second value.
   pub held : f.0 < (plan h).fields → g.0 < (plan h).fields → HoldsGuard h x f → HoldsGuard h x g
       → StoresTwo (view_of x) (view_of y) f a g b r

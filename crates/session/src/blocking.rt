@@ -31,7 +31,8 @@ impl Session {
         requires seat { IsSessionOf shared.now self.old }
         ensures seat { IsSessionOf shared.now self.new }
         ensures ring { SameRing self.old self.new }
-        // As of an enter, but for looks before it, and never that another thread has the monitor.
+        // An enter that waits tells what an enter does, with the looks before it. It is never refused because another
+        // thread has the monitor.
         ensures told { WaitsToEnter shared.now self.old self.new object result }
     {
         if u64::from(object.0) >= steps::objects(shared) {
@@ -132,7 +133,8 @@ impl Session {
         requires seat { IsSessionOf shared.now self }
         ensures seat { MatchResult result (IsSessionOf shared.now) (λ e. IsSessionOf shared.now e.0) }
         ensures ring { MatchResult result (SameRing self) (λ e. SameRing self e.0) }
-        // The wait was begun, then there were looks alone, and then the thread took the monitor again.
+        // A whole wait tells that it began, then looks alone, and then that the thread has the monitor again. Or it is
+        // refused, and the session comes back.
         ensures told { WaitsFor shared.now self object result }
     {
         match self.begin_wait(shared, object) {

@@ -64,7 +64,9 @@ impl Ended {
         ensures parts { IsMadeOf self result.0 result.1 result.2 }
         ensures all_sent { sent result.1 ≡ sent_in (view result.0) }
         ensures held { result.3 ≡ held_count (view result.0) }
+        // An ended session is within the limits of a lane's log.
         ensures limits { IsWithinLimits (actions_in (view result.0)) }
+        // Each of an ended session's sections began where the lane had room for it.
         ensures began { BeganBelow ((view result.0).trimmed + result.2) (actions_in (view result.0)) }
     {
         let Ended {

@@ -36,7 +36,7 @@ impl Session {
         requires seat { IsSessionOf shared.now self.old }
         ensures seat { IsSessionOf shared.now self.new }
         ensures ring { SameRing self.old self.new }
-        // What the answer says of monitor and section, and that nothing else was told.
+        // An enter tells of the monitor and the section just what its answer says.
         ensures told { Enters shared.now self.old self.new object result }
     {
         if u64::from(object.0) >= steps::objects(shared) {

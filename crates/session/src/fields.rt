@@ -26,7 +26,7 @@ impl Session {
         requires seat { IsSessionOf shared.now self.old }
         ensures seat { IsSessionOf shared.now self.new }
         ensures ring { SameRing self.old self.new }
-        // The value is the field's in one legal history of all threads: the one that the thread knows, where it knows one.
+        // A load tells the event of its value. A refused load tells nothing.
         ensures told { Loads shared.now self.old self.new field result }
     {
         if u64::from(field.0) >= steps::fields(shared) {
@@ -54,7 +54,7 @@ impl Session {
         requires seat { IsSessionOf shared.now self.old }
         ensures seat { IsSessionOf shared.now self.new }
         ensures ring { SameRing self.old self.new }
-        // What was told is the store, with the value that it found; refused, nothing.
+        // A store tells the value that it found and the one that it left; a refused store tells nothing.
         ensures told { StoresAs shared.now self.old self.new field value result }
     {
         if u64::from(field.0) >= steps::fields(shared) {

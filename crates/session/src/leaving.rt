@@ -24,7 +24,7 @@ impl Session {
         requires seat { IsSessionOf shared.now self.old }
         ensures seat { IsSessionOf shared.now self.new }
         ensures ring { SameRing self.old self.new }
-        // What the answer says of the monitor, and that nothing else was told.
+        // An exit tells what it leaves of the monitor, and nothing else.
         ensures told { Exits shared.now self.old self.new object result }
     {
         if u64::from(object.0) >= steps::objects(shared) {

@@ -17,6 +17,7 @@ impl Session {
 
     /// How many sections have ended since the session was opened.
     pub fn sections(&self) -> u64
+        // The answer is how many sections of the session have ended.
         ensures { result ≡ sections_ended (view_of self.now) }
     {
         self.parts.sections
@@ -53,7 +54,9 @@ impl Session {
     pub fn stands(&self)
         // What the session was told is its lane's part of one legal history: the history that it has seen, or one that goes on from it.
         ensures history { Stands (seat_of self.now).view }
+        // What a session has sent is the log of what it was told, also while its thread waits.
         ensures sent { sent (ring_of self.now) ≡ sent_in (view_of self.now) }
+        // A section that has begun has room in the ring and in the lane for all that it may still log.
         ensures room { 0 < held_count (view_of self.now) → HasRoomLeft self.now }
     {
         self.parts.seat.stands();
@@ -71,7 +74,7 @@ impl Session {
         requires seat { IsSessionOf shared.now self.old }
         ensures seat { IsSessionOf shared.now self.new }
         ensures ring { SameRing self.old self.new }
-        // The words are the monitor's at one moment of the history.
+        // A look tells the words of the monitor at one moment of the history.
         ensures told { Looks shared.now self.old self.new object result }
     {
         if u64::from(object.0) >= steps::objects(shared) {

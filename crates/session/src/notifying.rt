@@ -22,7 +22,7 @@ impl Session {
         requires seat { IsSessionOf shared.now self.old }
         ensures seat { IsSessionOf shared.now self.new }
         ensures ring { SameRing self.old self.new }
-        // Just this lane left the wait set, by one legal history of all threads.
+        // A notify tells which one lane left the wait set, if one did.
         ensures told { Notifies shared.now self.old self.new object result }
     {
         if u64::from(object.0) >= steps::objects(shared) {
@@ -45,7 +45,7 @@ impl Session {
         requires seat { IsSessionOf shared.now self.old }
         ensures seat { IsSessionOf shared.now self.new }
         ensures ring { SameRing self.old self.new }
-        // Just these lanes left the wait set, and none is left in it.
+        // A notify of all tells which lanes left the wait set: all that were in it.
         ensures told { NotifiesAll shared.now self.old self.new object result }
     {
         if u64::from(object.0) >= steps::objects(shared) {

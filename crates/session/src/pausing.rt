@@ -55,7 +55,8 @@ impl Session {
         requires seat { IsSessionOf shared.now self }
         ensures seat { MatchResult result (IsWaitingOf shared.now) (λ e. IsSessionOf shared.now e.0) }
         ensures ring { MatchResult result (SameRingWaiting self) (λ e. SameRing self e.0) }
-        // The thread is in the wait set and the monitor free; or the session comes back, and nothing was told.
+        // A wait is begun, with the thread in the wait set and the monitor free; or the session comes back, with
+        // nothing told.
         ensures told { AsksToWait shared.now self object result }
     {
         let mut session = self;

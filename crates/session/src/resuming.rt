@@ -23,6 +23,7 @@ impl Waiting {
     pub fn stands(&self)
         // What the thread was told is its lane's part of one legal history: the history that it has seen, or one that goes on from it.
         ensures history { Stands (seat_waiting self.now).view }
+        // What a session has sent is the log of what it was told, also while its thread waits.
         ensures sent { sent (ring_waiting self.now) ≡ sent_in (view_waiting self.now) }
     {
         self.parts.seat.stands();
@@ -34,7 +35,8 @@ impl Waiting {
         requires seat { IsWaitingOf shared.now self }
         ensures seat { MatchResult result (IsSessionOf shared.now) (λ e. IsWaitingOf shared.now e.0) }
         ensures ring { MatchResult result (SameRingResumed self) (λ e. SameRingStill self e.0) }
-        // The thread has the monitor as before its wait; or it waits on for the same one, and is told why.
+        // A resume gives the thread its monitor back as before the wait. Or the thread waits on, and is told why: it
+        // wasn't notified, or which word of the slot it met.
         ensures told { AsksToResume self result }
     {
         let mut waiting = self;

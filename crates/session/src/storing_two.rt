@@ -27,7 +27,7 @@ impl Session {
         requires seat { IsSessionOf shared.now self.old }
         ensures seat { IsSessionOf shared.now self.new }
         ensures ring { SameRing self.old self.new }
-        // Both stores were told, the first and then the second; refused, neither.
+        // Two stores are both told, in order, or neither is.
         ensures told { StoresBoth shared.now self.old self.new first second one two result }
     {
         let fields = steps::fields(shared);

@@ -1,3 +1,5 @@
+//! Tests of: session.
+//!
 //! Tests of sessions, by their public calls alone: the words that they leave, where each limit lies, and threads that share
 //! a heap.
 #![tactic(auto)]

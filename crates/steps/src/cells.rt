@@ -16,7 +16,9 @@ pub fn read_field(shared: &Shared, seat: &mut Seat, field: FieldId) -> u64
     requires free { IsClear (view seat.old) × IsAwake (view seat.old) }
     ensures seat { IsSeatOf shared.now seat.new }
     ensures clear { IsClear (view seat.new) }
+    // The call adds just its event to the thread's view, with what the answer tells.
     ensures told { Lengthens (view seat.old) (view seat.new) (event.Load field result ∷ []) }
+    // A load gives the value that the thread's own events tell of the field.
     ensures known { (value : ℕ) → known_value (plan shared.now) (view seat.old).events field.0 ≡ Some value → result ≡ value }
     ensures grips { KeepsEach (view seat.old) (view seat.new) }
 {
@@ -31,6 +33,7 @@ pub fn write_field(shared: &Shared, seat: &mut Seat, field: FieldId, value: u64)
     requires free { IsClear (view seat.old) × IsAwake (view seat.old) }
     ensures seat { IsSeatOf shared.now seat.new }
     ensures clear { IsClear (view seat.new) }
+    // The call adds just its event to the thread's view, with what the answer tells.
     ensures told { Lengthens (view seat.old) (view seat.new) (event.Store field result value ∷ []) }
     ensures grips { KeepsEach (view seat.old) (view seat.new) }
 {

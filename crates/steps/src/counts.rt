@@ -25,6 +25,7 @@ pub fn read_stable(shared: &Shared, seat: &mut Seat) -> u64
     ensures seat { IsSeatOf shared.now seat.new }
     ensures mark { (view seat.new).mark ≡ (view seat.old).mark }
     ensures told { Lengthens (view seat.old) (view seat.new) [] }
+    // A view counts how often it has read the number.
     ensures looked { (view seat.old).stable_looks < (view seat.new).stable_looks }
     ensures read { (view seat.new).stable ≡ result }
     ensures grips { KeepsEach (view seat.old) (view seat.new) }
@@ -38,6 +39,7 @@ pub fn read_trimmed(shared: &Shared, seat: &mut Seat) -> u64
     ensures seat { IsSeatOf shared.now seat.new }
     ensures mark { (view seat.new).mark ≡ (view seat.old).mark }
     ensures told { Lengthens (view seat.old) (view seat.new) [] }
+    // A view counts how often it has read the number.
     ensures looked { (view seat.old).trimmed_looks < (view seat.new).trimmed_looks }
     ensures read { (view seat.new).trimmed ≡ result }
     ensures grips { KeepsEach (view seat.old) (view seat.new) }

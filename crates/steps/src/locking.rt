@@ -23,6 +23,7 @@ pub fn look(shared: &Shared, seat: &mut Seat, object: ObjectId) -> Sighted
     ensures told { Lengthens (view seat.old) (view seat.new) (event.Look object (sight_of result.lock result.fat) ∷ []) }
     ensures whole { IsWhole (view seat.new) object result.lock result.fat }
     ensures agrees { AgreesWith (view seat.new) object (sight_of result.lock result.fat) }
+    // A fat lock word that was seen is known whole, for good.
     ensures lasting { IsLasting (view seat.new) object result.lock }
     ensures grips { KeepsEach (view seat.old) (view seat.new) }
 {
@@ -66,9 +67,14 @@ pub fn try_take(
     requires slot { IsSlot (view seat.old) object slot }
     ensures seat { IsSeatOf shared.now seat.new }
     ensures clear { IsClear (view seat.new) }
+    // A take adds just its event. A missed take tells a thin word only of a monitor that isn't known to be fat. It
+    // tells a word that names a slot only where that was met last.
     ensures told { MatchResult result (Takes (view seat.old) (view seat.new) (event.Enter object number) object 1 number) (Misses (view seat.old) (view seat.new) object number) }
+    // The grip has the monitor's slot, as it was known before the call.
     ensures slot { IfOk result (λ g. g.slot ≡ slot) }
+    // A missed try found the word of the slot that is known, or the lock word where none is.
     ensures found { IfErr result (λ x. IsOfSlot slot x) }
+    // A fat lock word that was seen is known whole, for good.
     ensures lasting { IfErr result (λ x. IsLastingSeen (view seat.new) object x) }
     ensures grips { KeepsOthers (view seat.old) (view seat.new) object.0 }
 {
@@ -108,7 +114,9 @@ pub fn nest(shared: &Shared, seat: &mut Seat, grip: Grip) -> Grip
     requires room { grip.count < room_of grip.slot }
     ensures seat { IsSeatOf shared.now seat.new }
     ensures clear { IsClear (view seat.new) }
+    // The call adds just its event to the thread's view, with what the answer tells.
     ensures told { Takes (view seat.old) (view seat.new) (event.NestedEnter grip.object) grip.object (grip.count + 1) grip.number result }
+    // The grip has the monitor's slot, as it was known before the call.
     ensures slot { result.slot ≡ grip.slot }
     ensures grips { KeepsOthers (view seat.old) (view seat.new) grip.object.0 }
 {
@@ -144,7 +152,9 @@ pub fn unnest(shared: &Shared, seat: &mut Seat, grip: Grip) -> Grip
     requires several { 1 < grip.count }
     ensures seat { IsSeatOf shared.now seat.new }
     ensures clear { IsClear (view seat.new) }
+    // The call adds just its event to the thread's view, with what the answer tells.
     ensures told { Takes (view seat.old) (view seat.new) (event.NestedExit grip.object) grip.object (grip.count - 1) grip.number result }
+    // The grip has the monitor's slot, as it was known before the call.
     ensures slot { result.slot ≡ grip.slot }
     ensures grips { KeepsOthers (view seat.old) (view seat.new) grip.object.0 }
 {
@@ -180,7 +190,9 @@ pub fn release(shared: &Shared, seat: &mut Seat, grip: Grip)
     requires one { grip.count ≡ 1 }
     ensures seat { IsSeatOf shared.now seat.new }
     ensures clear { IsClear (view seat.new) }
+    // The call adds just its event to the thread's view, with what the answer tells.
     ensures told { Lengthens (view seat.old) (view seat.new) (event.Exit grip.object grip.number ∷ []) }
+    // What is known of the monitor's slot stays when the monitor is left.
     ensures slot { IsSlot (view seat.new) grip.object grip.slot }
     ensures grips { KeepsOthers (view seat.old) (view seat.new) grip.object.0 }
 {

@@ -18,6 +18,7 @@ pub fn notify_one(shared: &Shared, seat: &mut Seat, grip: Grip) -> Option<Lane>
     requires free { IsClear (view seat.old) × IsAwake (view seat.old) }
     ensures seat { IsSeatOf shared.now seat.new }
     ensures clear { IsClear (view seat.new) }
+    // The call adds just its event to the thread's view, with what the answer tells.
     ensures told { Lengthens (view seat.old) (view seat.new) (event.Notify grip.object result ∷ []) }
     ensures grips { KeepsEach (view seat.old) (view seat.new) }
 {
@@ -31,6 +32,7 @@ pub fn notify_all(shared: &Shared, seat: &mut Seat, grip: Grip) -> WaitMask
     requires free { IsClear (view seat.old) × IsAwake (view seat.old) }
     ensures seat { IsSeatOf shared.now seat.new }
     ensures clear { IsClear (view seat.new) }
+    // The call adds just its event to the thread's view, with what the answer tells.
     ensures told { (woken : List Lane) × Lengthens (view seat.old) (view seat.new) (event.NotifyAll grip.object woken ∷ [])
         × ((l : Lane) → Contains woken l ↔ (set.contains result l.0 ≡ true)) }
     ensures grips { KeepsEach (view seat.old) (view seat.new) }

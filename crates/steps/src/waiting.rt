@@ -20,6 +20,7 @@ pub fn join_wait(shared: &Shared, seat: &mut Seat, grip: Grip)
     requires fat { (i : ℕ) × (grip.slot ≡ Some i) }
     ensures seat { IsSeatOf shared.now seat.new }
     ensures clear { IsClear (view seat.new) }
+    // The call adds just its event to the thread's view, with what the answer tells.
     ensures told { Lengthens (view seat.old) (view seat.new) (event.Wait grip.object grip.number ∷ []) }
     ensures grips { KeepsOthers (view seat.old) (view seat.new) grip.object.0 }
 {
@@ -37,6 +38,8 @@ pub fn poll_wait(shared: &Shared, seat: &mut Seat, object: ObjectId) -> bool
     requires clear { IsClear (view seat.old) }
     requires waits { (count : ℕ) × IsPaused (view seat.old) object count }
     ensures seat { IsSeatOf shared.now seat.new }
+    // The call tells that the thread is still in the wait set; or it tells nothing, where the thread was removed from
+    // it.
     ensures told { MatchBool result
         (Lengthens (view seat.old) (view seat.new) (event.Look object StillInSet ∷ []) × IsClear (view seat.new))
         (Lengthens (view seat.old) (view seat.new) [] × IsRemoved (view seat.new) object) }
@@ -66,7 +69,9 @@ pub fn try_retake(
     ensures seat { IsSeatOf shared.now seat.new }
     ensures mark { MatchResult result (λ _. IsClear (view seat.new)) (λ _. IsRemoved (view seat.new) object) }
     ensures told { MatchResult result (Takes (view seat.old) (view seat.new) (event.Resume object number) object count number) (Misses (view seat.old) (view seat.new) object number) }
+    // The grip has the monitor's slot, as it was known before the call.
     ensures slot { IfOk result (λ g. g.slot ≡ Some slot) }
+    // A missed try found the word of the slot that is known, or the lock word where none is.
     ensures found { IfErr result (λ x. IsOfSlot (Some slot) x) }
     ensures grips { KeepsOthers (view seat.old) (view seat.new) object.0 }
 {

@@ -1,9 +1,9 @@
 //! The image of a store: the steps by which what a store was told reaches its device.
 //!
-//! [`format`] makes an image. [`log_records`] makes new records durable, [`write_home`] brings a logged value to its home
-//! cell, [`settle`] acknowledges the stable cut, and [`trim`] frees the places of what is acknowledged; [`settle_and_trim`]
-//! does both by one commit. Each says which past the device agrees with afterwards, and what every image that a crash may
-//! leave stands for at every moment until then. [`standing_law`] says what such an image is worth.
+//! [`format`] makes an image. [`log_records`] makes new records durable, [`write_home`] brings a logged value to its home cell, [`settle`]
+//! acknowledges the stable cut, and [`trim`] frees the places of what is acknowledged; [`settle_and_trim`] does both by one commit. Each says
+//! which past the device agrees with afterwards, and what every image that a crash may leave stands for at every moment until then.
+//! [`standing_law`] says what that is worth.
 #![tactic(auto)]
 
 mod formatting;

@@ -55,6 +55,8 @@ pub record TellsGraph (m : Logged) (base : ℕ → ℕ) (log : List (ℕ × Reco
   pub within : (l : ℕ) → base_of m.graph l ≤ base l
   pub closed : IsClosed (actions log) (base_of m.graph)
   pub since_is : m.graph.log ≡ on_monitors (since (base_of m.graph) (actions log))
+  -- The graph of sections has at most as many records as stay in the lanes, as many again, and 4,096 more; beyond those
+  -- that stay it has no more than the lanes have room for.
   pub few : length m.graph.log ≤ length (since base (actions log)) + most_beyond m (length (since base (actions log)))
 
 -- what is known of the logged sections is true of this log, of which the base was trimmed

@@ -1,7 +1,7 @@
 //! Where the sections of the lanes end.
 //!
-//! Each lane has an area in a table, of a slot more than it may have records since what was trimmed. The place
-//! behind its section n is in slot n mod the slots of an area; slot 0 is that of the lane's beginning at first.
+//! Each lane has an area in a table, of a slot more than it may have records since what was trimmed. Where its section n ends stands in slot n
+//! mod the slots of an area; slot 0 is that of the lane's beginning at first.
 
 ghost use Rattle.std.specs.Prelude.{◌≡◌, ◌+◌, ◌-◌, ◌*◌, ◌^◌, ◌<◌, ◌≤◌, ℕ, length, slice_index, slice_set, nat_lt, IsTrue, ◌↔◌};
 ghost use Rattle.dependence.specs.Trace.{in_all, sections_of};

@@ -158,7 +158,10 @@ impl LoggedSections {
     /// sections forgotten changes no answer.
     pub fn forget_to(&mut self, cut: &Cut)
         requires may { (base : ℕ → ℕ) × (log : List (ℕ × AnyRecord)) × MayForget self.old base log (counts_of cut.now) }
+        // What is forgotten changes no stable cut.
         ensures tells { (base : ℕ → ℕ) (log : List (ℕ × AnyRecord)) → MayForget self.old base log (counts_of cut.now) → TellsSections self.new (counts_of cut.now) log }
+        // Where the graph forgets, it leaves out at least as many records as stay in it and 4,096 more, or as the lanes
+        // have room for. So over many trims its walks take time in what was forgotten.
         ensures paid { IsPaid self.old self.new }
         ensures lanes { self.new.lanes ≡ self.old.lanes }
         ensures capacity { self.new.capacity ≡ self.old.capacity }

@@ -19,10 +19,14 @@ use Rattle.survival.specs.WholeRun.{MayBeLeft}
 -- Recovery accepts the image, and keeps one set of sections. It includes every section that was acknowledged in this past. In each of these
 -- histories they are whole sections, each with every section that it depends on, and the heap has what they stored, in the history's order.
 pub record KeepsIn (histories : List (ℕ × Event) → Type 0) (l : Layout) (s : Setting) (p : Past) (image : List ℕ) : Type 0 where
+  -- Recovery accepts the image.
   pub accepted : IsTaken image
   pub cut : ℕ → ℕ
+  -- What is kept includes every section that was acknowledged in the past.
   pub stays : (lane : ℕ) → p.cut lane ≤ cut lane
   pub kept_are : (lane : ℕ) → lane < l.lanes → counts_of accepted.study.report.kept lane ≡ cut lane
+  -- In each of these histories what is kept are whole sections, each with all that it depends on, and the heap is that
+  -- of their stores, in the history's order.
   pub keeps : (history : List (ℕ × Event)) → histories history → KeepsHistory l s history cut accepted.study.heap.items
 
 -- So it does in this one history.

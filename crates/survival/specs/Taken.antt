@@ -10,4 +10,6 @@ use Rattle.survival.specs.WholeRun.{CannotRecover}
 pub record IsTaken (image : List ℕ) : Type 0 where
   pub study : Study
   pub of : IsStudyOf image study
+  -- Recovery accepts the image, unless one of its own calls fails, memory runs out, or the sequence of controls is at
+  -- its end.
   pub taken : (e : RecoverError) → RefusesRecovery image e → CannotRecover image e

@@ -53,11 +53,15 @@ module _ {D : Type 0} (device : D → Device) where
   -- A drain, in memory alone: the rings are looked at, a few times at most, and each time each lane goes on as far as it can. It is refused
   -- only where the store had failed, and what was applied before stands.
   pub record Drains (x y : Parts D) (answer : Result ℕ StoreError) : Type 0 where
+    -- A drain looks at the rings at most 16 times, and applies what each lane can go on with.
     pub rings : DrainsRings device LOOKS (taking_of x) (taking_of y) answer
+    -- A drain is refused only where the store had failed.
     pub failed : IfErr answer (λ e. (e ≡ Failed) × (x.store.known.has_failed ≡ true))
     -- all stays settled where it was and nothing came, and nowhere else
     pub settled : IfOk answer (λ n. y.is_settled ≡ true → (x.is_settled ≡ true) × (n ≡ 0))
+    -- A drain that applies nothing leaves a settled helper settled.
     pub stays : IfOk answer (λ n. n ≡ 0 → x.is_settled ≡ true → y.is_settled ≡ true)
+    -- A helper whose drain failed no longer counts as settled.
     pub unsettled : OnErr answer (y.is_settled ≡ false)
     pub seat : y.seat ≡ x.seat
     pub layout : y.store.known.layout ≡ x.store.known.layout
@@ -148,16 +152,23 @@ module _ {D : Type 0} (device : D → Device) where
   -- is applied, made durable and acknowledged.
   pub record Closes (h : Home) (ended : List Ended) (p : Past) (x : Parts D) (answer : Result D (D × CloseError)) : Type 0 where
     pub ok : IfOk answer (λ disk. IsClosedDown h.plan x.store.known.layout (parts_of ended) p x.seat (device x.store.disk) (device disk))
+    -- A closing that answers Ok had each session, and none held a monitor. Its sessions stop it only where one is
+    -- missing or holds a monitor.
     pub refused : MatchResult answer (λ disk. HoldNone ended × IsComplete x.store.known.layout.lanes ended) (λ back. RefusesClosing x.store.known.layout.lanes ended back.1)
+    -- A closing that its sessions don't stop answers `Failed` where the store had failed.
     pub failed : x.store.known.has_failed ≡ true → HoldNone ended → IsComplete x.store.known.layout.lanes ended → IsErrAnd answer (λ back. back.1 ≡ close.Failed)
+    -- A closing that the store stops has its cause: the store had failed, the control is at its last sequence, or the
+    -- device has failed since.
     pub why : IfErr answer (λ back. IsCloseWhy x.store.known (device x.store.disk) (device back.0) back.1)
-    -- where the sessions stop it the device is as it was; whatever stops it, a crash leaves what some store calls make of the past
+    -- A closing that its sessions stop leaves the device as it was.
     pub untouched : IfErr answer (λ back. IsOfSessions back.1 → back.0 ≡ x.store.disk)
     -- The device of a store that had failed comes back as it was.
     pub still : x.store.known.has_failed ≡ true → disk_of answer ≡ x.store.disk
+    -- Whatever a crash leaves while closing shows what some store calls make of the past, whatever stops the closing.
     pub stood : Stood x.store.known.layout (setting_of h.plan) p ended (device x.store.disk) (device (disk_of answer))
+    -- Over a closing that answers Ok the count of the device's failures doesn't fall.
     pub later : IfOk answer (λ disk. (device x.store.disk).failures ≤ (device disk).failures)
-    -- it commits twice at most: so far the control of each image is that a crash left meanwhile
+    -- A closing takes at most two of the control's sequences, in whatever a crash leaves.
     pub shown : LeavesOnly (device x.store.disk) (device (disk_of answer)) (ShowsUpTo x.store.known.layout (x.store.known.committed.sequence + 2))
 
   -- Sessions that are complete and hold nothing meet the rings of a helper of this past: what they sent is applied, made durable and

@@ -35,21 +35,32 @@ use Rattle.trim_helper.specs.Taken.{trimmed_of}
 -- last read, the helper had published, and it is that of a whole, closed cut of the history's log.
 pub record IsClosedDown (k : Plan) (l : Layout) (parts : List Part) (p : Past) (seat : Helping) (since d : Device) : Type 0 where
   pub history : List (ℕ × Event)
+  -- After a closing one legal history has each session's events as its lane's part.
   pub one : IsOneHistory (setting_of k) k.lanes parts history
   -- The words as the threads left them: lock words, fat words, masks and fields.
   pub words : Words
   -- They spell the state after that history.
   pub spelled : Spelled k words (state_after (setting_of k) history)
+  -- The history of a closing goes on from the one that the helper had seen.
   pub later : GoesOn history seat.view.history
   pub now : Past
+  -- A closing names the store calls that it made.
   pub ran : HasRun l (setting_of k) p since now d false
+  -- After a closing the store has applied that history's logs, lane by lane.
   pub logs : (i : ℕ) → lane i (applied now) ≡ lane i (log_of (setting_of k) history)
+  -- Whatever a crash leaves after a closing is what a store may leave, so that recovery accepts it.
   pub left : Always d (IsLeftBy l (setting_of k) now)
+  -- Whatever a crash leaves after a closing stands for the history's heap with all sections.
   pub stands : Always d (StandsForCut l (setting_of k) (log_of (setting_of k) history) (all_ended (actions (log_of (setting_of k) history))))
+  -- After a closing the heap has the last values of persistent fields, and the first values of transient fields.
   pub values : Always d (λ image. StandsFor l image (values_below (closed_value (setting_of k) (state_after (setting_of k) history).value) l.fields))
+  -- No session was told more sections than were acknowledged when the closing began.
   pub told : (x : Part) → Among parts x → x.lane < k.lanes → x.count ≤ p.cut x.lane
+  -- No session was told a place past what was trimmed when the closing began.
   pub places : (x : Part) → Among parts x → x.lane < k.lanes → x.place ≤ trimmed_of p x.lane
+  -- Each count of sections that a session last read, the helper had published.
   pub published : (x : Part) → Among parts x → x.lane < k.lanes → WasCount seat x.lane x.count
+  -- Each count of sections that a session last read is that of a whole, closed cut of the history's log.
   pub counts : (x : Part) → Among parts x → x.lane < k.lanes → IsCutCount (log_of (setting_of k) history) x.lane x.count
 
 -- So it is, and these are the words.
@@ -74,6 +85,8 @@ AreSent ended log = All (WasSent log) ended
 pub record Stood (l : Layout) (s : Setting) (p : Past) (ended : List Ended) (since now : Device) : Type 0 where
   pub newer : List (ℕ × Record)
   pub legal : IsLegal s (newer ++ applied p)
+  -- Once the sessions are complete and hold nothing, what is applied of each lane is the beginning of what its session
+  -- had sent.
   pub sent : HoldNone ended → IsComplete l.lanes ended → AreSent ended (newer ++ applied p)
   pub then : Past
   pub same : applied then ≡ newer ++ applied p

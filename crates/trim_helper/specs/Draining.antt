@@ -63,9 +63,11 @@ module _ {D : Type 0} (device : D → Device) where
 
   -- So many records were applied of what the rings held in so many looks at them: of each lane at most a ring's a look.
   pub record Drained (looks : ℕ) (x y : Taking D) (n : ℕ) : Type 0 where
+    -- The records that a drain applied are as many as it answers.
     pub made : (s : Setting) (p : Past) → HasTaken device x s p → (newer : List (ℕ × Record)) × (length newer ≡ n) × HasTaken device y s (applied_more newer p)
     -- more may be known of the rings, and what was known before is in its place
     pub whole : (l : ℕ) → (more : List Record) × (received_of y.rings l ++ known_of y.rings l ≡ (received_of x.rings l ++ known_of x.rings l) ++ more)
+    -- A drain takes of each lane at most a ring's records for each look at it.
     pub most : (l : ℕ) → length (received_of y.rings l) ≤ length (received_of x.rings l) + looks * RING_RECORDS
     -- a ring's a look, and the one that waits, of each of 32 lanes
     pub few : n ≤ looks * (32 * (RING_RECORDS + 1))
@@ -83,8 +85,11 @@ module _ {D : Type 0} (device : D → Device) where
   -- The rings are looked at, at most so often, and each time the lanes go on until none can.
   pub record DrainsRings (looks : ℕ) (x y : Taking D) (answer : Result ℕ StoreError) : Type 0 where
     pub ok : IfOk answer (λ n. Drained looks x y n)
+    -- What a refused drain had applied stands.
     pub kept : OnErr answer ((n : ℕ) × Drained looks x y n)
     pub stuck : OnOk answer (AllStuck device y)
+    -- A drain that isn't refused empties rings that hold the logs of one legal history within limits, in whatever order
+    -- the lanes come.
     pub whole : OnOk answer (HasAll y)
     pub failed : IfErr answer (λ e. e ≡ Failed)
     pub why : (s : Setting) (p : Past) → HasTaken device x s p → OnErr answer (x.store.known.has_failed ≡ true)

@@ -109,6 +109,6 @@ IsOfSessions _ = ⊥
 pub record IsCloseWhy (old : Known) (before now : Device) (e : CloseError) : Type 0 where
   pub failed : e ≡ Failed → old.has_failed ≡ true
   pub worn : e ≡ Worn → IsWornOut now
-  -- it commits twice at most, so that it was nearly there before
+  -- A closing answers `Worn` only where it began at most two sequences before the end.
   pub soon : e ≡ Worn → 2 ^ 64 ≤ old.committed.sequence + 3
   pub fault : e ≡ Fault → HasFailed before.failures now.failures

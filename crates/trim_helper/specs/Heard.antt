@@ -18,7 +18,9 @@ use Rattle.trim_helper.specs.Seen.{BeginsLog}
 -- The history that the helper has seen is legal; and of each lane, what was taken up to the last release is the beginning of what that history
 -- logs of the lane.
 pub record HasSeen {D : Type 0} (h : Home) (y : Parts D) : Type 0 where
+  -- The history that the helper has seen is legal.
   pub legal : IsLegalHistory (setting_of h.plan) y.seat.view.history
+  -- What was taken of each lane, up to the last release, is the beginning of what the seen history logs of the lane.
   pub logs : (l : ℕ) → l < length y.rings → BeginsLog h.plan l y.seat.view.history (to_release (received_of y.rings l))
 
 -- The rings were heard, and nothing else was done: the helper has seen more of the history, or as much.

@@ -36,12 +36,19 @@ module _ {D : Type 0} (device : D → Device) where
   -- store hasn't failed. Each count that was ever published as acknowledged is that of a whole, closed cut of what was applied.
   pub record IsServing (x : Parts D) (s : Setting) (p : Past) : Type 0 where
     pub taken : HasTaken device (taking_of x) s p
+    -- A published count of sections is at most what is acknowledged of the lane.
     pub counts : (l : ℕ) → l < x.store.known.layout.lanes → count_published x.seat l ≤ p.cut l
+    -- A published place is at most what is trimmed of the lane.
     pub places : (l : ℕ) → l < x.store.known.layout.lanes → place_published x.seat l ≤ trimmed_of p l
     pub running : x.is_settled ≡ true → x.store.known.has_failed ≡ false
+    -- Where nothing was applied since the last good round, the acknowledged cut is the stable cut of all that was
+    -- applied.
     pub settled : x.is_settled ≡ true → IsSettled s p
+    -- Where nothing was applied since the last good round, all that is acknowledged is trimmed.
     pub trimmed : x.is_settled ≡ true → IsTrimmed p
+    -- Where nothing was applied since the last good round, all that is acknowledged and trimmed is published.
     pub published : x.is_settled ≡ true → IsPublished x.seat x.store.known.layout.lanes p
+    -- Each count of sections that was ever published is that of some whole, closed cut of what was applied.
     pub stand : StandForCuts x.seat x.store.known.layout.lanes p
 
   -- so many records were applied of what its rings held in a drain's looks at them

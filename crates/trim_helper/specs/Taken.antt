@@ -46,6 +46,7 @@ module _ {D : Type 0} (device : D → Device) where
   -- The records applied of a lane are those that its consumer took, in order, but for at most one that waits to be next.
   pub record HasTaken (x : Taking D) (s : Setting) (p : Past) : Type 0 where
     pub has : HasPast x.store.known s p (device x.store.disk)
+    -- The records applied of a lane are those taken from its ring, in order, but for at most one that waits.
     pub taken : (l : ℕ) → received_of x.rings l ≡ stream l (applied p) ++ held_back (waiting_in x.waiting l)
 
   -- So many records were applied, those of each lane in the order in which they were sent, and nothing was read of the rings but what was known.

@@ -55,5 +55,7 @@ pub fn catch_up(shared: &Shared, rings: &mut [Receiver], seat: &mut HelperSeat)
 /// What a helper has seen of what it took it has seen of what it applied: of each lane, up to its last release, that is the beginning of
 /// what the history that it has seen logs of the lane. This does nothing at run time.
 pub fn seen_law<D: Disk>()
+    // What was applied of each lane, up to the last release, is the beginning of what the seen history logs of the
+    // lane.
     ensures { SeenLaw D.device }
 {}

@@ -66,6 +66,7 @@ impl<D: Disk> Helper<D> {
         requires running { store.known.has_failed ≡ false }
         ensures serves { (s : Setting) → HasPast store.known s no_past (D.device store.disk) → IsServing D.device result s no_past }
         ensures parts { (result.store ≡ store) × (result.rings ≡ rings.items) × (result.seat ≡ seat) }
+        // A new helper is settled.
         ensures settled { result.is_settled ≡ true }
     {
         Helper {
@@ -123,6 +124,8 @@ impl<D: Disk> Helper<D> {
     pub fn settle(&mut self, shared: &Shared) -> Result<u64, StoreError>
         requires seat { IsHelper shared.now self.old.seat }
         requires lanes { shared.now.plan.lanes ≡ self.old.store.known.layout.lanes }
+        // Settling makes durable what was applied, acknowledges its stable cut and trims that, by store calls that are
+        // named.
         ensures settles { (s : Setting) (p : Past) → IsServing D.device self.old s p → SettlesAll D.device s p self.old self.new result }
         // After Ok, what is acknowledged may be published.
         ensures ready { OnOk result (MayBePublished D.device self.new) }
@@ -131,6 +134,7 @@ impl<D: Disk> Helper<D> {
         ensures goes_on { HasGoneOn shared.now self.old self.new }
         // What is applied, the helper has seen: it hears the rings before anything of it is logged.
         ensures seen { self.old.store.known.has_failed ≡ false → HasSeen shared.now self.new }
+        // The history that settling sees goes on from the one that the helper had seen before.
         ensures later { GoesOn self.new.seat.view.history self.old.seat.view.history }
     {
         let count = match self.drain() {
@@ -174,8 +178,11 @@ impl<D: Disk> Helper<D> {
         requires lanes { shared.now.plan.lanes ≡ self.old.store.known.layout.lanes }
         ensures rounds { (s : Setting) (p : Past) → IsServing D.device self.old s p → Rounds D.device s p self.old self.new result }
         ensures goes_on { HasGoneOn shared.now self.old self.new }
-        // What is applied, the helper has seen: it hears the rings before anything of it is logged.
+        // While threads go on, a round sees one legal history. What it took of each lane, up to the last release, is
+        // the beginning of what that history logs of the lane. So it is whatever the round answers, where the store
+        // hadn't failed.
         ensures seen { self.old.store.known.has_failed ≡ false → HasSeen shared.now self.new }
+        // The history that a round sees goes on from the one that the helper had seen before.
         ensures later { GoesOn self.new.seat.view.history self.old.seat.view.history }
     {
         match self.settle(shared) {

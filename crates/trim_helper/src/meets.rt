@@ -16,6 +16,7 @@ impl<D: Meets> Helper<D> {
         ensures serves { (s : Setting) (p : Past) → IsServing D.device self.old s p → IsServing D.device self.new s p }
         ensures pair { D.is_peer self.new.store.disk peer.new }
         ensures met { D.have_met self.new.store.disk peer.new }
+        // A helper stays as it was while its device meets its host.
         ensures stays { D.stays peer.old peer.new }
     {
         self.store.meet(peer);

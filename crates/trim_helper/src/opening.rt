@@ -37,12 +37,15 @@ pub fn open_heap<D: Disk>(
 ) -> Result<Opened<D>, (Recovered<D>, AllocError)>
     requires last { last < 2 ^ 40 }
     requires schema { FitsSchema schema recovered.layout recovered.guards }
+    // The shared words and the store begin with one recovered heap.
     ensures plan { IfOk result (λ o. o.shared.plan ≡ plan_of schema recovered.heap last recovered.layout.lanes) }
     ensures seats { IfOk result (λ o. All (IsSeatOf o.shared) o.seats.items) }
     ensures views { IfOk result (λ o. map (λ s. s.view) o.seats.items ≡ fresh_views o.shared.plan recovered.layout.lanes) }
     ensures helper { IfOk result (λ o. IsHelper o.shared o.seat) }
     ensures silent { IfOk result (λ o. o.seat.view ≡ helper_at o.shared.plan recovered.layout.lanes) }
+    // The store of a new heap was told nothing.
     ensures past { IfOk result (λ o. HasPast o.store.known (setting_of o.shared.plan) no_past (D.device o.store.disk)) }
+    // The store of a new heap hasn't failed.
     ensures running { IfOk result (λ o. o.store.known.has_failed ≡ false) }
     ensures layout { IfOk result (λ o. o.store.known.layout ≡ recovered.layout) }
     ensures disk { IfOk result (λ o. o.store.disk ≡ recovered.disk) }

@@ -7,6 +7,7 @@ use block_disk::Disk;
 impl<D: Disk> Helper<D> {
     /// Its device, to look at.
     pub fn disk(&self) -> &D
+        // The device of a helper can be looked at.
         ensures { result.now ≡ self.now.store.disk }
     {
         self.store.disk()

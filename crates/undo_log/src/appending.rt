@@ -1,4 +1,4 @@
-//! Records written behind the last of their lane.
+//! Records written after the last of their lane.
 ghost use Rattle.std.specs.Prelude.{◌≡◌, ◌⊎◌, ◌↔◌, ◌+◌, ◌-◌, ◌*◌, ◌%◌, ◌<◌, ◌≤◌, ◌^◌, length, All, IfErr, IsErrOf, OnOk};
 ghost use Rattle.block_disk.specs.Since.{AlwaysBut, HasCauseSince, LeavesBut};
 ghost use Rattle.image.specs.Calls.{after};
@@ -40,14 +40,19 @@ pub fn append<D: Disk>(
     ensures written { OnOk result
         (D.device disk.new ≡ after (record_writes layout.now lane.0 row.now.logged records.now)
         (D.device disk.old)) }
+    // After an append that answers Ok the lane's records stand after those before, in their order.
     ensures ok { OnOk result (HasRecords layout.now lane.0 row.now.logged
         (D.device disk.new).now.bytes records.now) }
+    // An append is refused as `LogFull` exactly where the lane's area hasn't room for the records.
     ensures log_full { IsErrOf result (LogFull lane)
         ↔ (layout.now.capacity < row.now.logged - row.now.start + length records.now) }
+    // An append that is refused as `LogFull` makes no call.
     ensures no_call { IsErrOf result (LogFull lane) → D.device disk.new ≡ D.device disk.old }
     ensures no_other { IfErr result (λ e. (e ≡ Fault) ⊎ (e ≡ LogFull lane)) }
+    // After an append each image differs from what reads in the places of the new records alone.
     ensures crash { AlwaysBut (record_ranges layout.now lane.0 row.now.logged (length records.now))
         (D.device disk.old) (D.device disk.new) }
+    // While records are appended each image differs from one of before in the places of the new records alone.
     ensures any_moment { LeavesBut
         (record_ranges layout.now lane.0 row.now.logged (length records.now))
         (D.device disk.old) (D.device disk.new) }

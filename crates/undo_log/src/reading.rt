@@ -41,6 +41,8 @@ pub fn read<D: Disk>(
     requires lane { lane.0 < layout.now.lanes }
     requires order { from ≤ to }
     requires few { to ≤ from + layout.now.capacity }
+    // Bytes are read as the lane's records between two places exactly where they spell them, and are else refused with
+    // the place.
     ensures exact { MatchResult result
         (λ records. HasSpan layout.now lane.0 from to (D.device disk.old).now.bytes records.items)
         (RefusesRead layout.now lane from to (D.device disk.old).now.bytes) }

@@ -10,6 +10,7 @@ pub const RECORD_BYTES: usize = 16;
 
 /// The one spelling of a record.
 pub fn encode_record(entry: &UndoRecord) -> [u8; 16]
+    // A record's bytes are those of the documented format.
     ensures { result ≡ record_bytes entry.now }
 {
     let mut bytes = [0; RECORD_BYTES];
@@ -22,6 +23,7 @@ pub fn encode_record(entry: &UndoRecord) -> [u8; 16]
 /// The record that these bytes spell. `None` where they spell none: the kind is another, a middle byte isn't zero, or
 /// the object is 4,096 or more, the field 16,384 or more, or the number 2^40 - 1 or more.
 pub fn decode_record(bytes: &[u8; 16]) -> Option<UndoRecord>
+    // Bytes are read as a record exactly where they are its encoding, in range.
     ensures { (r : AnyRecord) → (result ≡ Some r) ↔ Spells bytes.now r }
 {
     let entry = candidate(bytes)?;

@@ -1,3 +1,5 @@
+//! Tests of: command_words, commands.
+//!
 //! Tests of the program's words, each read and obeyed as the program does it, over files of the system: one word's work is told
 //! from another's, and wrong words are answered.
 //!

@@ -1,4 +1,4 @@
-//! The word `run` over an image file: what a script leaves in memory behind a crash, it leaves in the file.
+//! The word `run` over an image file: what a script leaves in memory after a crash, it leaves in the file.
 
 use crate::playing::{Does, FORMAT, FORMATTED, Fails, Line, first_other};
 use std::fs;

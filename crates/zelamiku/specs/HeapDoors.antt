@@ -188,11 +188,19 @@ RoundsAt applied other after status = (status ≡ WRONG_KIND) × (after ≡ behi
 -- How many sections of the lane are acknowledged, where each call was made, or why that isn't told. Recovery takes whatever a crash of the
 -- host's device leaves then, or after whatever calls since, and keeps so many sections.
 pub record HasAcknowledged (x y : Hosting) (lane : ℕ) (answer : Result ℕ AcknowledgedError) : Type 0 where
+  -- What is told as acknowledged is the acknowledged cut's count of the lane.
   pub acknowledged : (p : Past) → IsServing hosted_device x.helper (plan x.home) p → IfOk answer (λ n. n ≡ p.cut lane)
+  -- What is told as acknowledged no crash of the host's device loses, right then. Recovery accepts whatever a crash
+  -- leaves, and keeps at least so many sections of the lane.
   pub safe : OnOk answer (KeepsNow x y)
+  -- What is told as acknowledged no later crash of the host's device loses, provided the host makes exactly the calls
+  -- that it is given.
   pub kept : OnOk answer (KeepsFrom x y)
+  -- What is acknowledged is told only where each call was made.
   pub all_made : OnOk answer (AreAllMade y.calls)
+  -- `BAD_LANE` is answered exactly for a lane that the heap hasn't.
   pub bad_lane : (answer ≡ Err BadLane) ↔ (x.helper.store.known.layout.lanes ≤ lane)
+  -- `CALLS_LEFT` is answered exactly where the heap has the lane and a call is left.
   pub calls_left : IsErrOf answer CallsLeft ↔ (lane < x.helper.store.known.layout.lanes) × (¬ AreAllMade y.calls)
   pub fetches : lane < x.helper.store.known.layout.lanes → FetchesAll x.calls y.calls
   pub met : lane < x.helper.store.known.layout.lanes → HaveMet y.helper.store.disk y.calls

@@ -131,8 +131,11 @@ ReadsStableAt sections s t status = (status ≡ OK) × ReadsStable s.session t.s
 
 -- the session's lane, and how many sections of it have ended; the session is as it was
 pub record TellsLaneAt (lane sections : ℕ) (s t : Seated) (status : ℕ) : Type 0 where
+  -- A session's lane is told.
   pub lane_is : lane ≡ (view_of s.session).lane.0
+  -- The answer tells how many sections of the session have ended since the opening.
   pub ended : sections ≡ sections_ended (view_of s.session)
+  -- A session whose lane is told stays as it was.
   pub same : t ≡ s
   pub ok : status ≡ OK
 

@@ -17,8 +17,12 @@ pub extern "C" fn zelamiku_copy(
     bytes: &mut [u8],
     copied: &mut u64,
 ) -> u32
+    // A copy gets the bytes of the heap's image from a place on, as many as there are and the buffer has room for, and
+    // tells how many. The heap stays as it was.
     ensures told { Answers (CopiesAt at bytes.old bytes.new copied.new) place.old.handle.state place.new.handle.state result }
+    // Where nothing is copied it is told that 0 bytes were.
     ensures refused { result ≢ OK → copied.new ≡ 0 }
+    // Where nothing is copied the buffer stays as it was.
     ensures kept { result ≢ OK → bytes.new ≡ bytes.old }
 {
     *copied = 0;

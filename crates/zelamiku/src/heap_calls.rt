@@ -1,4 +1,4 @@
-//! The calls of a heap, on what is behind a handle.
+//! The calls of a heap, on the heap of a handle.
 ghost use Rattle.std.specs.Prelude.{◌≡◌, ◌≢◌, Some, None, IfErr, IfOk, if◌then◌else◌};
 ghost use Rattle.std.specs.Option.{option_copied};
 ghost use Rattle.hosted_heap.specs.Opening.{IsMade};

@@ -1,4 +1,4 @@
-//! What C calls of a heap. Each export is one call of `heap_calls` on what is behind the handle.
+//! What C calls of a heap. Each export is one call of `heap_calls` on the heap of the handle.
 ghost use Rattle.std.specs.Prelude.{◌≡◌, ◌≢◌, None};
 ghost use Rattle.zelamiku.specs.Behind.{Answers};
 ghost use Rattle.zelamiku.specs.Ended.{still_behind};
@@ -24,7 +24,11 @@ pub extern "C" fn zelamiku_format_marked(
     capacity: u32,
     size: &mut u64,
 ) -> u32
+    // A heap is made of exactly the objects and fields that C declares, each with its owner, its guard and its first
+    // value, and the image's size is told. More than 255 lanes are refused before all else but `OPEN`. A handle with
+    // something behind it is answered `OPEN` and keeps it.
     ensures told { PutsNew (FormatsAt objects fields.now lanes capacity size.new) (still_behind place.old.handle.state) place.new.handle.state result }
+    // Where no heap is made the size is 0.
     ensures refused { result ≢ OK → size.new ≡ 0 }
 {
     *size = 0;
@@ -52,7 +56,10 @@ pub extern "C" fn zelamiku_open(
     image: &[u8],
     found: &mut Found,
 ) -> u32
+    // A heap is opened with what recovery finds in the bytes. Its layout is told, with how many sections were dropped
+    // and how many fields took an old value back. A handle with something behind it is answered `OPEN` and keeps it.
     ensures told { PutsNew (OpensAt Current image.now found.new) (still_behind place.old.handle.state) place.new.handle.state result }
+    // Where no heap is opened all that is told is 0.
     ensures refused { result ≢ OK → found.new ≡ nothing_found }
 {
     open_at(alloc, place, Versions::Current, image, found)
@@ -66,7 +73,9 @@ pub extern "C" fn zelamiku_upgrade(
     image: &[u8],
     found: &mut Found,
 ) -> u32
+    // An upgrade opens a heap as an opening does, from an image of either version.
     ensures told { PutsNew (OpensAt Both image.now found.new) (still_behind place.old.handle.state) place.new.handle.state result }
+    // Where no heap is opened all that is told is 0.
     ensures refused { result ≢ OK → found.new ≡ nothing_found }
 {
     open_at(alloc, place, Versions::Both, image, found)
@@ -102,7 +111,11 @@ fn open_at(
 /// Hands out a session.
 #[unsafe(no_mangle)]
 pub extern "C" fn zelamiku_session(alloc: Global, place: &mut Slot, session: &mut Slot) -> u32
+    // Sessions are handed out lane by lane, and nothing was told to them. Once each lane's was handed out, a session
+    // that has ended and holds no monitor is handed out again. `NONE_LEFT` is answered only where there is none of
+    // either. A handle with something behind it is answered `OPEN` and keeps it.
     ensures told { HandsOut (still_behind session.old.handle.state) session.new.handle.state place.old.handle.state place.new.handle.state result }
+    // Where no session is handed out the session's handle is as it was.
     ensures refused { result ≢ OK → session.new.handle.state ≡ still_behind session.old.handle.state }
 {
     if is_taken(alloc, session) {
@@ -124,8 +137,12 @@ pub extern "C" fn zelamiku_next_call(
     call: &mut Call,
     bytes: &mut [u8],
 ) -> u32
+    // What the host is told is the first of the calls that are left: its kind, its place, how many bytes, and as many
+    // of them as there is room for. Calls are fetched just where none is left.
     ensures told { Answers (TellsNextAt call.new bytes.old bytes.new) place.old.handle.state place.new.handle.state result }
+    // Where no call is told, it is told that there is none.
     ensures refused { result ≢ OK → call.new ≡ told_of None }
+    // Where no call is told the buffer stays as it was.
     ensures kept { result ≢ OK → bytes.new ≡ bytes.old }
 {
     *call = heap_calls::no_call();
@@ -141,6 +158,8 @@ pub extern "C" fn zelamiku_next_call(
 /// The host has made that call.
 #[unsafe(no_mangle)]
 pub extern "C" fn zelamiku_call_done(alloc: Global, place: &mut Slot) -> u32
+    // A call that is done is the first of those that are left, and goes over to those that were made. Where none is
+    // left, that is told.
     ensures { Answers MakesCallAt place.old.handle.state place.new.handle.state result }
 {
     let Some(mut state) = take(alloc, place) else {
@@ -154,7 +173,10 @@ pub extern "C" fn zelamiku_call_done(alloc: Global, place: &mut Slot) -> u32
 /// A round of the helper.
 #[unsafe(no_mangle)]
 pub extern "C" fn zelamiku_round(alloc: Global, place: &mut Slot, applied: &mut u64) -> u32
+    // A round does what the heap's round does, and tells how many records it applied or why it stopped. `CALLS_LEFT` is
+    // answered exactly where there may be no room for its calls, and nothing was done.
     ensures told { Answers (RoundsAt applied.new) place.old.handle.state place.new.handle.state result }
+    // A round that isn't good tells 0 records.
     ensures refused { result ≢ OK → applied.new ≡ 0 }
 {
     *applied = 0;
@@ -175,7 +197,10 @@ pub extern "C" fn zelamiku_acknowledged(
     lane: u32,
     sections: &mut u64,
 ) -> u32
+    // A closed heap is answered `CLOSED`, one that has stopped `STOPPED`, another kind of handle `WRONG_KIND`, and an
+    // empty one `NOTHING`. What is there stays.
     ensures told { Answers (AcknowledgesAt lane sections.new) place.old.handle.state place.new.handle.state result }
+    // Where nothing is told as acknowledged the count is 0.
     ensures refused { result ≢ OK → sections.new ≡ 0 }
 {
     *sections = 0;
@@ -191,6 +216,8 @@ pub extern "C" fn zelamiku_acknowledged(
 /// Closes a heap.
 #[unsafe(no_mangle)]
 pub extern "C" fn zelamiku_close(alloc: Global, place: &mut Slot) -> u32
+    // A closed heap's sessions have ended, one a lane, holding no monitor, and its disk stands for the heap of their
+    // one history. A heap that isn't closed goes on, or has stopped for the reason that is told.
     ensures { Answers ClosesAt place.old.handle.state place.new.handle.state result }
 {
     let Some(mut state) = take(alloc, place) else {
@@ -204,6 +231,7 @@ pub extern "C" fn zelamiku_close(alloc: Global, place: &mut Slot) -> u32
 /// Lets go of what is behind a handle. The handle has nothing behind it then.
 #[unsafe(no_mangle)]
 pub extern "C" fn zelamiku_free(alloc: Global, place: &mut Slot)
+    // A handle that is freed has nothing behind it.
     ensures { place.new.handle.state ≡ None }
 {
     *place = Slot::none(alloc);

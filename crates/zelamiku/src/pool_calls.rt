@@ -1,4 +1,4 @@
-//! The calls of a pool, on what is behind a session's handle.
+//! The calls of a pool, on the session of a handle.
 ghost use Rattle.std.specs.Prelude.{◌≡◌, ◌≢◌, ◌<◌, ◌≤◌, ◌+◌, Some, length};
 ghost use Rattle.std.specs.Result.{result_unwrap_or};
 ghost use Rattle.pool.specs.declared.pool.TheConstants.{MOST_SLOTS};

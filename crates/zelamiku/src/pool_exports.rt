@@ -1,4 +1,4 @@
-//! What C calls of a pool: of the fields in which it is kept, and on what is behind a session's handle.
+//! What C calls of a pool: of the fields in which it is kept, and on the session of a handle.
 ghost use Rattle.std.specs.Prelude.{◌≡◌, ◌≢◌};
 ghost use Rattle.zelamiku.specs.PoolDoors.{AreFreeAnywhere, GivesAt, LaysOutAt, TakesAt};
 ghost use Rattle.zelamiku.specs.SessionDoors.{AnswersAs};
@@ -13,7 +13,10 @@ use std::alloc::Global;
 /// Lays out the fields of a pool of this object, for a heap to be made: the head's, and one for each slot.
 #[unsafe(no_mangle)]
 pub extern "C" fn zelamiku_pool_fields(object: u32, fields: &mut [Field]) -> u32
+    // The fields of a pool that C is told are persistent, of its object and guarded by it. No slot, or too many, leaves
+    // them as they were.
     ensures laid { LaysOutAt object fields.old fields.new result }
+    // Wherever a pool's fields stand among a heap's fields, their first values spell all slots free, in order.
     ensures free { result ≡ OK → AreFreeAnywhere fields.new }
 {
     pool_calls::lay_out(object, fields)
@@ -28,7 +31,10 @@ pub extern "C" fn zelamiku_pool_take(
     slots: u32,
     slot: &mut u32,
 ) -> u32
+    // A pool's slot is taken as by a session, of the pool of that head and of so many slots. A pool for which no heap
+    // has room is refused first.
     ensures told { AnswersAs (TakesAt head slots slot.new) place.old.handle.state place.new.handle.state result }
+    // Where no slot is taken `NO_SLOT` is told.
     ensures refused { result ≢ OK → slot.new ≡ NO_SLOT }
 {
     *slot = pool_calls::NO_SLOT;
@@ -50,6 +56,8 @@ pub extern "C" fn zelamiku_pool_give(
     slots: u32,
     slot: u32,
 ) -> u32
+    // A pool's slot is given as by a session. A pool for which no heap has room, and a slot that the pool hasn't, are
+    // refused first.
     ensures told { AnswersAs (GivesAt head slots slot) place.old.handle.state place.new.handle.state result }
 {
     let Some(mut state) = take(alloc, place) else {

@@ -21,7 +21,10 @@ pub extern "C" fn zelamiku_open_telling(
     told: &mut Told,
     dropped: &mut [Dropped],
 ) -> u32
+    // An opening may tell what recovery did: how many sections of each lane were kept, and each dropped one with its
+    // number and why, as far as there is room. Of a refusal for a record it tells the record's lane and place.
     ensures told { PutsNew (OpensTelling Current image.now told.new dropped.new) (still_behind place.old.handle.state) place.new.handle.state result }
+    // Where something was behind the handle nothing is told.
     ensures refused { IsSome (still_behind place.old.handle.state) → TellsNothing told.new dropped.new }
 {
     open_at(alloc, place, Versions::Current, image, told, dropped)
@@ -36,7 +39,10 @@ pub extern "C" fn zelamiku_upgrade_telling(
     told: &mut Told,
     dropped: &mut [Dropped],
 ) -> u32
+    // An opening may tell what recovery did: how many sections of each lane were kept, and each dropped one with its
+    // number and why, as far as there is room. Of a refusal for a record it tells the record's lane and place.
     ensures told { PutsNew (OpensTelling Both image.now told.new dropped.new) (still_behind place.old.handle.state) place.new.handle.state result }
+    // Where something was behind the handle nothing is told.
     ensures refused { IsSome (still_behind place.old.handle.state) → TellsNothing told.new dropped.new }
 {
     open_at(alloc, place, Versions::Both, image, told, dropped)

@@ -1,4 +1,4 @@
-//! What C calls of a session. Each export is one call of `session_calls` on what is behind the handle.
+//! What C calls of a session. Each export is one call of `session_calls` on the session of the handle.
 ghost use Rattle.std.specs.Prelude.{◌≡◌, ◌≢◌};
 ghost use Rattle.zelamiku.specs.Behind.{Answers};
 ghost use Rattle.zelamiku.specs.SessionDoors.{AnswersAs, AnswersUnlessStopped, Ends, EntersAt, ExitsAt, LoadsAt, LooksAt, NotifiesAllAt, NotifiesAt, ReadsStableAt, Resumes, StoresAt, TellsLaneAt, WaitsAt, free_sight};
@@ -13,6 +13,8 @@ use std::alloc::Global;
 /// Takes the monitor, or one lock more of it.
 #[unsafe(no_mangle)]
 pub extern "C" fn zelamiku_try_enter(alloc: Global, place: &mut Slot, object: u32) -> u32
+    // An enter is the session's own, by the object that C gave. It is answered `STOPPED` only where the session has
+    // seen its heap's word written, and then nothing else is done.
     ensures told { AnswersUnlessStopped (EntersAt object) place.old.handle.state place.new.handle.state result }
 {
     let Some(mut state) = take(alloc, place) else {
@@ -26,6 +28,8 @@ pub extern "C" fn zelamiku_try_enter(alloc: Global, place: &mut Slot, object: u3
 /// Gives one lock back, and with the last one the monitor.
 #[unsafe(no_mangle)]
 pub extern "C" fn zelamiku_exit(alloc: Global, place: &mut Slot, object: u32) -> u32
+    // Each call of a session is the one of its name, for the object, field and value that C gave, and the session is
+    // behind the handle again. A session that waits is answered `WAITING`, a heap `WRONG_KIND`, and both stay.
     ensures told { AnswersAs (ExitsAt object) place.old.handle.state place.new.handle.state result }
 {
     let Some(mut state) = take(alloc, place) else {
@@ -39,7 +43,10 @@ pub extern "C" fn zelamiku_exit(alloc: Global, place: &mut Slot, object: u32) ->
 /// Loads a field.
 #[unsafe(no_mangle)]
 pub extern "C" fn zelamiku_load(alloc: Global, place: &mut Slot, field: u32, value: &mut u64) -> u32
+    // Each call of a session is the one of its name, for the object, field and value that C gave, and the session is
+    // behind the handle again. A session that waits is answered `WAITING`, a heap `WRONG_KIND`, and both stay.
     ensures told { AnswersAs (LoadsAt field value.new) place.old.handle.state place.new.handle.state result }
+    // Where the status isn't `OK` the value is 0.
     ensures refused { result ≢ OK → value.new ≡ 0 }
 {
     *value = 0;
@@ -55,6 +62,8 @@ pub extern "C" fn zelamiku_load(alloc: Global, place: &mut Slot, field: u32, val
 /// Stores a field.
 #[unsafe(no_mangle)]
 pub extern "C" fn zelamiku_store(alloc: Global, place: &mut Slot, field: u32, value: u64) -> u32
+    // Each call of a session is the one of its name, for the object, field and value that C gave, and the session is
+    // behind the handle again. A session that waits is answered `WAITING`, a heap `WRONG_KIND`, and both stay.
     ensures told { AnswersAs (StoresAt field value) place.old.handle.state place.new.handle.state result }
 {
     let Some(mut state) = take(alloc, place) else {
@@ -68,6 +77,7 @@ pub extern "C" fn zelamiku_store(alloc: Global, place: &mut Slot, field: u32, va
 /// Joins the monitor's wait set and frees the monitor.
 #[unsafe(no_mangle)]
 pub extern "C" fn zelamiku_begin_wait(alloc: Global, place: &mut Slot, object: u32) -> u32
+    // A wait leaves a session that waits behind the handle, or the session that was refused.
     ensures told { Answers (WaitsAt object) place.old.handle.state place.new.handle.state result }
 {
     let Some(mut state) = take(alloc, place) else {
@@ -81,6 +91,7 @@ pub extern "C" fn zelamiku_begin_wait(alloc: Global, place: &mut Slot, object: u
 /// Takes the monitor again, once the thread is out of the wait set.
 #[unsafe(no_mangle)]
 pub extern "C" fn zelamiku_try_resume(alloc: Global, place: &mut Slot) -> u32
+    // A resume leaves the session behind the handle, or one that waits on.
     ensures told { Answers Resumes place.old.handle.state place.new.handle.state result }
 {
     let Some(mut state) = take(alloc, place) else {
@@ -99,7 +110,10 @@ pub extern "C" fn zelamiku_notify(
     object: u32,
     lane: &mut u32,
 ) -> u32
+    // Each call of a session is the one of its name, for the object, field and value that C gave, and the session is
+    // behind the handle again. A session that waits is answered `WAITING`, a heap `WRONG_KIND`, and both stay.
     ensures told { AnswersAs (NotifiesAt object lane.new) place.old.handle.state place.new.handle.state result }
+    // Where the status isn't `OK` it is told that there is no lane.
     ensures refused { result ≢ OK → lane.new ≡ NOBODY }
 {
     *lane = session_calls::NOBODY;
@@ -120,7 +134,10 @@ pub extern "C" fn zelamiku_notify_all(
     object: u32,
     lanes: &mut u64,
 ) -> u32
+    // Each call of a session is the one of its name, for the object, field and value that C gave, and the session is
+    // behind the handle again. A session that waits is answered `WAITING`, a heap `WRONG_KIND`, and both stay.
     ensures told { AnswersAs (NotifiesAllAt object lanes.new) place.old.handle.state place.new.handle.state result }
+    // Where the status isn't `OK` no lane is told.
     ensures refused { result ≢ OK → lanes.new ≡ 0 }
 {
     *lanes = 0;
@@ -141,7 +158,10 @@ pub extern "C" fn zelamiku_look(
     object: u32,
     sight: &mut Sight,
 ) -> u32
+    // Each call of a session is the one of its name, for the object, field and value that C gave, and the session is
+    // behind the handle again. A session that waits is answered `WAITING`, a heap `WRONG_KIND`, and both stay.
     ensures told { AnswersAs (LooksAt object sight.new) place.old.handle.state place.new.handle.state result }
+    // Where the status isn't `OK` the monitor is told to be free, never freed.
     ensures refused { result ≢ OK → sight.new ≡ free_sight 0 }
 {
     *sight = session_calls::nobodys(0);
@@ -161,7 +181,10 @@ pub extern "C" fn zelamiku_round_sections(
     place: &mut Slot,
     sections: &mut u64,
 ) -> u32
+    // Each call of a session is the one of its name, for the object, field and value that C gave, and the session is
+    // behind the handle again. A session that waits is answered `WAITING`, a heap `WRONG_KIND`, and both stay.
     ensures told { AnswersAs (ReadsStableAt sections.new) place.old.handle.state place.new.handle.state result }
+    // Where the status isn't `OK` the count of sections is 0.
     ensures refused { result ≢ OK → sections.new ≡ 0 }
 {
     *sections = 0;
@@ -183,6 +206,7 @@ pub extern "C" fn zelamiku_lane(
     sections: &mut u64,
 ) -> u32
     ensures told { AnswersAs (TellsLaneAt lane.new sections.new) place.old.handle.state place.new.handle.state result }
+    // Where the status isn't `OK` it is told that there is no lane, and 0 sections.
     ensures refused { result ≢ OK → (lane.new ≡ NOBODY) × (sections.new ≡ 0) }
 {
     *lane = session_calls::NOBODY;
@@ -200,6 +224,8 @@ pub extern "C" fn zelamiku_lane(
 /// Ends the session. Its handle keeps what is left of it, until it is used again or freed.
 #[unsafe(no_mangle)]
 pub extern "C" fn zelamiku_end(alloc: Global, place: &mut Slot) -> u32
+    // A session that is ended has come back to its heap. The handle keeps the end of the ring by which it came back,
+    // until it is opened again or freed.
     ensures told { Answers Ends place.old.handle.state place.new.handle.state result }
 {
     let Some(mut state) = take(alloc, place) else {

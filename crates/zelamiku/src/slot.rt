@@ -19,6 +19,7 @@ pub struct Slot {
 impl Slot {
     /// Nothing is behind it.
     pub fn none(alloc: Global) -> Slot
+        // A new handle has nothing behind it.
         ensures { result.handle.state ≡ None }
     {
         Slot {
@@ -29,6 +30,7 @@ impl Slot {
 
     /// This is behind it.
     pub fn of(state: Box<Inner>) -> Slot
+        // What is behind a handle is what was put there.
         ensures { result.handle.state ≡ Some state.value }
     {
         Slot {
@@ -39,6 +41,7 @@ impl Slot {
 
     /// Whether something is behind it.
     pub fn is_open(&self) -> bool
+        // A handle is open exactly where something is behind it.
         ensures { IsTrue result ↔ IsSome self.now.handle.state }
     {
         self.is_open
@@ -46,6 +49,7 @@ impl Slot {
 
     /// What is behind it, if something is.
     pub fn into_state(self) -> Option<Box<Inner>>
+        // What is behind a handle is taken out whole, and a handle with nothing behind it gives nothing.
         ensures { MatchOption result (self.handle.state ≡ None) (λ b. self.handle.state ≡ Some b.value) }
     {
         let Slot { handle, is_open } = self;
@@ -96,6 +100,7 @@ fn sendable<T: Send>(value: T) -> T
 
 /// Puts it behind the handle.
 pub fn put(place: &mut Slot, state: Box<Inner>)
+    // What is behind a handle is what was put there.
     ensures { place.new.handle.state ≡ Some state.value }
 {
     *place = Slot::of(sendable(state));

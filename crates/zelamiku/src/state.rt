@@ -1,4 +1,4 @@
-//! What is behind a handle.
+//! What a handle has: a heap, a session, or one of what is left of them.
 ghost use Rattle.std.specs.Prelude.{◌≡◌, IfOk};
 ghost use Rattle.zelamiku.specs.Ended.{is_ended};
 ghost use Rattle.zelamiku.specs.declared.state.Open.TheVariants as kind;

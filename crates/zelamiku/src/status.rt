@@ -129,6 +129,7 @@ pub const OLD_VERSION: u32 = 40;
 
 /// The status of a session's refusal.
 pub fn of_session(refusal: SessionError) -> u32
+    // Each refusal of a session has one number, by a table.
     ensures { result ≡ refusal_status refusal }
 {
     match refusal {
@@ -157,6 +158,7 @@ pub fn of_answer(answer: Result<(), SessionError>) -> u32
 
 /// The status of a session that waits on.
 pub fn of_still(still: Still) -> u32
+    // Each refusal of a session has one number, by a table.
     ensures { result ≡ still_status still }
 {
     match still {
@@ -167,6 +169,7 @@ pub fn of_still(still: Still) -> u32
 
 /// The status of a round's refusal.
 pub fn of_round(refusal: RoundError) -> u32
+    // Each reason of a heap has one number, by a table.
     ensures { result ≡ round_status refusal }
 {
     match refusal {
@@ -189,6 +192,7 @@ fn of_store(refusal: StoreError) -> u32
 
 /// The status of a heap that isn't made or opened.
 pub fn of_host(refusal: HostError) -> u32
+    // Each reason of a heap has one number, by a table.
     ensures { result ≡ host_status refusal }
 {
     match refusal {
@@ -242,6 +246,7 @@ fn of_recover(refusal: RecoverError) -> u32
 
 /// The status of a lane of which nothing is told.
 pub fn of_acknowledged(refusal: AcknowledgedError) -> u32
+    // Each reason of a heap has one number, by a table.
     ensures { result ≡ acknowledged_status refusal }
 {
     match refusal {
@@ -252,6 +257,7 @@ pub fn of_acknowledged(refusal: AcknowledgedError) -> u32
 
 /// The status of a heap that has stopped in place of being closed.
 pub fn of_close(refusal: CloseRefusal) -> u32
+    // Each reason of a heap has one number, by a table.
     ensures { result ≡ close_status refusal }
 {
     match refusal {

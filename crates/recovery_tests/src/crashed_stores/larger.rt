@@ -1,4 +1,4 @@
-//! A device that is larger than its image: format, the steps of a store and recovery write nothing behind that.
+//! A device that is larger than its image: format, the steps of a store and recovery write nothing past the image.
 use super::rounds::round;
 use super::runs::{acq, one, put, rel, store_on, stored};
 use block_disk::{Fill, MemDisk};

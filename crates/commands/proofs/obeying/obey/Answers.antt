@@ -40,7 +40,7 @@ returns-in-Format o c =
       refl,
       subst (λ (s : Option SectorSize). Formats (on lanes capacity forced s) c.on_format.result (had path) (has path) (lies path) written now) c.size_of.ensures
           (subst (λ (r : Result (Unit {0}) WorkFault). Formats asked r (had path) (has path) (lies path) written now) (sym c.on_format.ensures)
-              (made asked c.format_at.result (had path) (has path) (lies path) written now c.format_at.ensures.ok c.format_at.ensures.kept c.format_at.ensures.bad_header c.format_at.ensures.silent c.format_at.ensures.part)),
+          (made asked c.format_at.result (had path) (has path) (lies path) written now c.format_at.ensures.ok c.format_at.ensures.kept c.format_at.ensures.bad_header c.format_at.ensures.silent c.format_at.ensures.part)),
     )
 
 pub returns-in-Show : goal.returns-in-Show
