@@ -82,9 +82,8 @@ pub(crate) fn tell_stopped_script<R: Files + Eprint>(
     trouble: &Trouble,
 ) {
     let text = match error.kind {
-        ScriptErrorKind::Syntax => {
-            "that line is no line of scripts; docs/SCRIPTS.md, \"Lines\", has them all"
-        }
+        // The fixed text of such a fault is one line (docs/SCRIPTS.md, "The program's fault texts").
+        ScriptErrorKind::Syntax => return,
         ScriptErrorKind::NotText => "that line has a byte past ASCII; take it out",
         ScriptErrorKind::TooLong => "that line, or the script, is too long; shorten it",
         ScriptErrorKind::Read => "it can't be read to its end",
