@@ -105,6 +105,7 @@ int main(int argc, char **argv) {
     ended = true;
     pthread_join(helper, NULL);
     must(zelamiku_end(&session), "end");
+    zelamiku_free(&session);
     must(zelamiku_close(&heap), "close");
     zelamiku_free(&heap);
     return 0;

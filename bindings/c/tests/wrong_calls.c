@@ -484,6 +484,7 @@ static void hosts(void) {
     IS(zelamiku_heap_start(&heap, "host", &session, no_calls, NULL, NULL), WRONG_KIND, "host: ");
     IS(zelamiku_heap_start(&heap, "host", &handle, no_calls, NULL, NULL), RUNNING, "host: ");
     MUST(handle.is_open && zelamiku_end(&session) == ZELAMIKU_OK);
+    zelamiku_free(&session); /* it keeps what the session came back by */
     int file = open("calls", O_RDWR | O_CREAT | O_APPEND | O_CLOEXEC, 0600);
     calls += 4;
     MUST(zelamiku_make_calls(&handle, file, &made) == ZELAMIKU_DEVICE && errno == EBADF && made == 0 && close(file) == 0);
