@@ -36,15 +36,15 @@ KeepsEach h l history old new = (image : List ℕ) → MayBeLeft old new image �
 abbrev pub KeepsSeen : Home → Layout → (seen : List (ℕ × Event)) → (old new : Device) → Type 0
 KeepsSeen h l seen old new = (image : List ℕ) → MayBeLeft old new image → KeepsRunning l (plan h) no_past seen image
 
--- so it does, by a history that a helper had seen
+-- so it does, by some list of events
 pub record KeepsSome (h : Home) (l : Layout) (old new : Device) : Type 0 where
   pub seen : List (ℕ × Event)
-  -- Where a round, a worker or want of memory stopped the run, recovery keeps one set of sections: whole ones of each
-  -- legal history that goes on from one that a helper had seen.
+  -- Where a round, a worker or want of memory stopped the run, there is a list of events, and recovery keeps one set of sections: whole
+  -- ones of each legal history that goes on from it.
   pub each : KeepsSeen h l seen old new
 
--- Calls of a store that had been told nothing have made the one device of the other; the last of them may be cut off. What they have applied is a legal log.
--- Recovery takes whatever a crash left meanwhile.
+-- Calls of a store that had been told nothing have made the one device of the other; the last of them may be cut off. What they have
+-- applied is a legal log. Recovery takes whatever a crash left meanwhile.
 pub record IsLeftByCalls (h : Home) (l : Layout) (opened new : Device) : Type 0 where
   pub began : Known
   pub nothing : HasPast began (plan h) no_past opened

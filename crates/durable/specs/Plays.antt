@@ -1,5 +1,6 @@
 -- What a list of calls makes of a store: one record for a call, and one for the list, over the whole store before it (x) and after it
--- (y). Each part holds whatever past the store has (this project's own).
+-- (y). Each part holds whatever past the store has. A new image is one that a crash during the calls may leave, and that a crash before
+-- them couldn't have left (this project's own).
 use Rattle.std.specs.Prelude.{ℕ, ◌≡◌, ◌+◌, ◌≤◌, true, Some, List, Result, length, slice_get, IfErr, OnOk}
 use Rattle.heap_model.specs.Setting.{Setting}
 use Rattle.block_disk.specs.Device.{Device, HasFailed}
@@ -37,10 +38,10 @@ pub record Plays {D : Type 0} (device : D → Device) (x y : Parts D) (calls : L
       → Reached s p calls x.known (device x.disk) (device y.disk) n
   -- If no call has anything to write, the device isn't called.
   pub quiet : (s : Setting) (p : Past) → IsPastOf device x s p → AreQuiet s p calls → device y.disk ≡ device x.disk
-  -- At every moment, each image that a crash may leave shows what some of the calls make of the past.
+  -- Each new image shows what the first calls make of the past, with the next one in doubt.
   pub shown : (s : Setting) (p : Past) → IsPastOf device x s p
       → LeavesOnly (device x.disk) (device y.disk) (ShowsAfterSome x.known.layout s p calls)
-  -- At every moment, each such image stands for the heap acknowledged after some of the calls.
+  -- Each new image stands for the heap acknowledged after the first calls, or for the one that the next call was acknowledging.
   pub any_moment : (s : Setting) (p : Past) → IsPastOf device x s p
       → LeavesOnly (device x.disk) (device y.disk) (StandsAfterSome x.known.layout s p calls)
   -- After a `Fault`, the store has failed.
@@ -51,7 +52,7 @@ pub record Plays {D : Type 0} (device : D → Device) (x y : Parts D) (calls : L
   pub cause : IfErr result (λ e. e.1 ≡ Fault → HasFailed (device x.disk).failures (device y.disk).failures)
   -- The control's sequence rises by the number of the calls at most.
   pub sequence : y.known.committed.sequence ≤ x.known.committed.sequence + length calls
-  -- At every moment, each image that a crash may leave shows a control of such a sequence.
+  -- Each new image shows a control of such a sequence.
   pub any_sequence : ShowsUpToMeanwhile device x y (x.known.committed.sequence + length calls)
   -- The calls write only the slots of the control, home cells and the lanes' areas.
   pub within : WritesWithin device x y

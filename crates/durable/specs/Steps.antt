@@ -1,5 +1,6 @@
 -- What each call that writes promises: one record a call, over the whole store before it (x) and after it (y). Each part holds
--- whatever past the store has (this project's own).
+-- whatever past the store has. A new image is one that a crash during the call may leave, and that a crash before it couldn't have left
+-- (this project's own).
 use Rattle.std.specs.Prelude.{ℕ, ◌≡◌, ◌≢◌, ◌-◌, ◌+◌, ◌≤◌, ◌^◌, ◌⊎◌, true, false, List, [], length, Result, Ok, IfErr, IfOk, IsErrOf, OnErr, OnOk, MatchResult}
 use Rattle.heap_model.specs.declared.record.Record.{Record}
 use Rattle.heap_model.specs.Setting.{Setting}
@@ -28,7 +29,7 @@ module _ {D : Type 0} (device : D → Device) where
   abbrev pub IsPastOf : Parts D → Setting → Past → Type 0
   IsPastOf x s p = HasPast x.known s p (device x.disk)
 
-  -- each image that a crash may leave, at any moment since x, shows a control of this sequence or of a lower one
+  -- each new image shows a control of this sequence or of a lower one
   abbrev pub ShowsUpToMeanwhile : (x y : Parts D) → (last : ℕ) → Type 0
   ShowsUpToMeanwhile x y last = LeavesOnly (device x.disk) (device y.disk) (ShowsUpTo x.known.layout last)
 
@@ -36,18 +37,18 @@ module _ {D : Type 0} (device : D → Device) where
   abbrev pub WritesWithin : (x y : Parts D) → Type 0
   WritesWithin x y = LeavesOnly (device x.disk) (device y.disk) (ImageBut (device x.disk) (step_ranges x.known.layout))
 
-  -- each image that a crash may leave, at any moment since x, stands for the heap of the sections acknowledged before
+  -- each new image stands for the heap of the sections acknowledged before
   abbrev pub StandsMeanwhile : (x y : Parts D) → Type 0
   StandsMeanwhile x y = (s : Setting) (p : Past) → IsPastOf x s p
       → LeavesOnly (device x.disk) (device y.disk) (StandsForCut x.known.layout s p.logged p.cut)
 
-  -- each such image stands for the heap of the sections acknowledged before, or for the heap of the stable cut
+  -- each new image stands for the heap of the sections acknowledged before, or for the heap of the stable cut
   abbrev pub StandsForOneOf : (x y : Parts D) → Type 0
   StandsForOneOf x y = (s : Setting) (p : Past) (cut : ℕ → ℕ) → IsPastOf x s p → IsStable (actions p.logged) cut
       → LeavesOnly (device x.disk) (device y.disk) (StandsForEither x.known.layout s p.logged p.cut cut)
 
--- What all calls that write have in common. `call` is what a fault of the call leaves in doubt. `Shows` is what each image that a crash
--- may leave during the call shows. `last` is the highest sequence that the call may give the control.
+-- What all calls that write have in common. `call` is what a fault of the call leaves in doubt. `Shows` is what each new image shows.
+-- `last` is the highest sequence that the call may give the control.
 pub record Writes {D A : Type 0} (device : D → Device) (call : Doubt) (Shows : Layout → Setting → Past → List ℕ → Type 0) (last : ℕ)
     (x y : Parts D) (result : Result A StoreError) : Type 0 where
   -- A call succeeds only on a store that hasn't failed, and leaves it so.
@@ -58,29 +59,28 @@ pub record Writes {D A : Type 0} (device : D → Device) (call : Doubt) (Shows :
   pub refused : IfErr result (λ e. (e ≡ Fault) ⊎ (y ≡ x))
   -- After a `Fault`, the store has failed.
   pub failed : IsErrOf result Fault → y.known.has_failed ≡ true
-  -- After a `Fault`, only this call is in doubt.
+  -- After a `Fault`, what this call leaves in doubt is in doubt, and nothing else.
   pub in_doubt : IsErrOf result Fault → y.known.doubt ≡ call
-  -- At every moment of the call, each image that a crash may leave shows the past, or what the call in doubt makes of it.
+  -- Each new image shows the past, or what the call in doubt makes of it.
   pub shown : (s : Setting) (p : Past) → IsPastOf device x s p → LeavesOnly (device x.disk) (device y.disk) (Shows x.known.layout s p)
   -- The call answers `Fault` only if a call of the device has failed since it began.
   pub cause : HasCause (device x.disk).failures (device y.disk).failures Fault result
-  -- The control's sequence stays at or below `last`.
+  -- The control's sequence stays at or below the highest that the call may give it.
   pub sequence : y.known.committed.sequence ≤ last
-  -- At every moment of the call, each image that a crash may leave shows a control of the sequence `last` or of a lower one.
+  -- Each new image shows a control of at most the highest sequence that the call may give it.
   pub any_sequence : ShowsUpToMeanwhile device x y last
   -- The call writes only the slots of the control, home cells and the lanes' areas.
   pub within : WritesWithin device x y
   -- The layout of the image stays.
   pub layout : y.known.layout ≡ x.known.layout
 
--- A call that commits a control takes one sequence at most, and each image that a crash may leave during it shows the past or what the
--- call makes of it.
+-- A call that commits a control takes one sequence at most, and each new image shows the past or what the call makes of it.
 abbrev pub Commits : {D A : Type 0} → (device : D → Device) → Doubt → (x y : Parts D) → Result A StoreError → Type 0
 Commits device call x y result = Writes device call (λ l s p. ShowsStep l s p call) (x.known.committed.sequence + 1) x y result
 
 -- `apply`: the store is told the lane's next record.
 pub record Applies {D : Type 0} (device : D → Device) (x y : Parts D) (lane : ℕ) (next : Record) (result : Result (Unit {0}) StoreError) : Type 0 where
-  -- The call succeeds exactly where the record may come next; each refusal has its own reason.
+  -- A record that is taken may come next in its lane; each refusal has its own reason, in the order of the call's doc.
   pub answer : (s : Setting) (p : Past) → IsPastOf device x s p
       → MatchResult result (λ done. Answers s x.known.memory p lane next (Ok done)) (RefusesApply x.known s p lane next)
   -- After a success, the record is the newest that was applied.
@@ -112,12 +112,12 @@ pub record Logs {D : Type 0} (device : D → Device) (x y : Parts D) (result : R
   -- If there is a record to log and the control's sequence is at its last value, a running store answers `Worn`.
   pub worn : (s : Setting) (p : Past) → IsPastOf device x s p → x.known.has_failed ≡ false → p.fresh ≢ []
       → x.known.committed.sequence ≡ 2 ^ 64 - 1 → IsErrOf result Worn
-  -- At every moment of the call, each image that a crash may leave stands for the heap of the acknowledged sections.
+  -- Each new image stands for the heap of the acknowledged sections.
   pub any_moment : StandsMeanwhile device x y
 
 -- `home_step`: one dirty field's logged value goes to its home cell.
 pub record GoesHome {D : Type 0} (device : D → Device) (x y : Parts D) (result : Result Home StoreError) : Type 0 where
-  -- It is a call that writes, but commits no control: a crash leaves the past as it was, and no fault leaves anything in doubt.
+  -- It is a call that writes, but commits no control: each new image shows the past, and no fault leaves anything in doubt.
   pub writes : Writes device Nothing ShowsPast x.known.committed.sequence x y result
   -- After a success, the field that it names is no longer dirty.
   pub ok : (s : Setting) (p : Past) → IsPastOf device x s p → IfOk result (λ home. IsPastOf device y s (after_home_step p home))
@@ -128,7 +128,7 @@ pub record GoesHome {D : Type 0} (device : D → Device) (x y : Parts D) (result
   pub done : result ≡ Ok Done → y ≡ x
   -- If no field is dirty, nothing changes.
   pub none : (s : Setting) (p : Past) → IsPastOf device x s p → IsClean s p → y ≡ x
-  -- At every moment of the call, each image that a crash may leave stands for the heap of the acknowledged sections.
+  -- Each new image stands for the heap of the acknowledged sections.
   pub any_moment : StandsMeanwhile device x y
   -- The control's sequence stays.
   pub sequence : y.known.committed.sequence ≡ x.known.committed.sequence
@@ -137,7 +137,7 @@ pub record GoesHome {D : Type 0} (device : D → Device) (x y : Parts D) (result
 pub record Acknowledges {D : Type 0} (device : D → Device) (call : Doubt) (after : Past → (ℕ → ℕ) → Past) (x y : Parts D) (result : Result (Unit {0}) StoreError) : Type 0 where
   -- It is a call that commits a control.
   pub writes : Commits device call x y result
-  -- After a success, the stable cut of all that is logged is acknowledged.
+  -- After a success, the stable cut of all that is logged is acknowledged, and with `settle_and_trim` forgotten.
   pub ok : (s : Setting) (p : Past) (cut : ℕ → ℕ) → IsPastOf device x s p → IsStable (actions p.logged) cut → OnOk result (IsPastOf device y s (after p cut))
   -- It succeeds only if no field is dirty; each refusal has its own reason.
   pub answer : (s : Setting) (p : Past) → IsPastOf device x s p
@@ -145,8 +145,7 @@ pub record Acknowledges {D : Type 0} (device : D → Device) (call : Doubt) (aft
   -- If no field is dirty and the control's sequence is at its last value, a running store answers `Worn`.
   pub worn : (s : Setting) (p : Past) → IsPastOf device x s p → x.known.has_failed ≡ false → IsClean s p
       → x.known.committed.sequence ≡ 2 ^ 64 - 1 → IsErrOf result Worn
-  -- At every moment of the call, each image that a crash may leave stands for the heap of the sections acknowledged before, or for that
-  -- of the stable cut.
+  -- Each new image stands for the heap of the sections acknowledged before, or for that of the stable cut.
   pub any_moment : StandsForOneOf device x y
 
 -- `settle`: the acknowledged sections stay in the log.
@@ -170,5 +169,5 @@ pub record Trims {D : Type 0} (device : D → Device) (x y : Parts D) (result : 
   -- If there is something to forget and the control's sequence is at its last value, a running store answers `Worn`.
   pub worn : (s : Setting) (p : Past) → IsPastOf device x s p → x.known.has_failed ≡ false → ¬ IsTrimmed p
       → x.known.committed.sequence ≡ 2 ^ 64 - 1 → IsErrOf result Worn
-  -- At every moment of the call, each image that a crash may leave stands for the heap of the acknowledged sections.
+  -- Each new image stands for the heap of the acknowledged sections.
   pub any_moment : StandsMeanwhile device x y

@@ -113,13 +113,13 @@ impl<D: Disk> Store<D> {
     /// Refusals, in this order: `Failed`; `BadLane`; `BadId` (also a store of a transient field, which no log keeps); `Worn` (the release number is the last or more, or a section would
     /// begin at place 2^62 or later); `NotNext`; `TooLong`; `LogFull`. A refusal changes nothing.
     #[inline(always)]
-    pub fn apply(&mut self, lane: Lane, record: Record) -> Result<(), StoreError>
-        ensures { Applies D.device self.old self.new lane.0 «record» result }
+    pub fn apply(&mut self, lane: Lane, next: Record) -> Result<(), StoreError>
+        ensures { Applies D.device self.old self.new lane.0 next result }
     {
         if self.has_failed {
             return Err(StoreError::Failed);
         }
-        self.applied.apply(lane, record)
+        self.applied.apply(lane, next)
     }
 
     /// Makes all applied records of all lanes durable, and answers how many there were.

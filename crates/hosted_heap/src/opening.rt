@@ -36,7 +36,7 @@ pub fn format(
     // A heap is made of exactly these objects and fields, each field with its owner, its guard and its first value.
     ensures ok { IfOk result (IsMade objects rows.now lanes capacity) }
     // A heap is refused by its schema only where it has no object, no field or too many, or a field names an object
-    // that there isn't; and by its header only where lanes or records are past their limits.
+    // that there isn't; by its header only where lanes or records are past their limits; and else for want of memory.
     ensures refused { IfErr result (RefusesMaking objects rows.now lanes capacity) }
 {
     let schema = match declare(alloc, objects, rows) {

@@ -10,10 +10,10 @@ use heap_model::{Lane, ObjectId, Record};
 
 // The object on which the lane waits after the record.
 #[inline(always)]
-fn awaited_after(record: Record) -> Option<ObjectId>
-    ensures { result ≡ awaited_after_record «record» }
+fn awaited_after(next: Record) -> Option<ObjectId>
+    ensures { result ≡ awaited_after_record next }
 {
-    match record {
+    match next {
         Record::WaitRel { object, .. } => Some(object),
         _ => None,
     }
@@ -21,47 +21,42 @@ fn awaited_after(record: Record) -> Option<ObjectId>
 
 // The lane after the record.
 #[inline(always)]
-fn lane_after(record: Record, state: LaneState) -> LaneState
+fn lane_after(next: Record, state: LaneState) -> LaneState
     requires place { state.place + 1 < 2 ^ 64 }
     requires held { state.held + 1 < 2 ^ 32 }
     requires section { state.section + 1 < 2 ^ 32 }
-    ensures { result ≡ lane_after_record «record» state }
+    ensures { result ≡ lane_after_record next state }
 {
-    let held = held_after(record, state.held);
+    let held = held_after(next, state.held);
     LaneState {
         start: state.start,
         place: state.place + 1,
         section: if held == 0 { 0 } else { state.section + 1 },
         held,
-        awaited: awaited_after(record),
+        awaited: awaited_after(next),
     }
 }
 
 /// Notes the record of its lane.
 #[inline(always)]
-pub fn note_lane(lanes: &mut [LaneState], lane: Lane, record: Record)
+pub fn note_lane(lanes: &mut [LaneState], lane: Lane, next: Record)
     requires lane { lane.0 < length lanes.old }
     requires place { (lane_in lanes.old lane.0).place + 1 < 2 ^ 64 }
     requires held { (lane_in lanes.old lane.0).held + 1 < 2 ^ 32 }
     requires section { (lane_in lanes.old lane.0).section + 1 < 2 ^ 32 }
-    ensures { lanes.new ≡ slice_set lanes.old lane.0 (lane_after_record «record» (lane_in lanes.old lane.0)) }
+    ensures { lanes.new ≡ slice_set lanes.old lane.0 (lane_after_record next (lane_in lanes.old lane.0)) }
 {
-    lanes[lane.0 as usize] = lane_after(record, lane_at(lanes, lane));
+    lanes[lane.0 as usize] = lane_after(next, lane_at(lanes, lane));
 }
 
 /// Notes who holds the record's monitor.
 #[inline(always)]
-pub fn note_monitor(
-    monitors: &mut [MonitorState],
-    fields: &[FieldState],
-    lane: Lane,
-    record: Record,
-)
-    requires named { IsNamed (length monitors.old) fields.now «record» }
-    requires fits { NumberFits «record» }
-    ensures { monitors.new ≡ monitors_after lane «record» monitors.old }
+pub fn note_monitor(monitors: &mut [MonitorState], fields: &[FieldState], lane: Lane, next: Record)
+    requires named { IsNamed (length monitors.old) fields.now next }
+    requires fits { NumberFits next }
+    ensures { monitors.new ≡ monitors_after lane next monitors.old }
 {
-    match record {
+    match next {
         Record::Acq { object, .. } => monitors[object.0 as usize].holder = Some(lane),
         Record::Rel { object, number } | Record::WaitRel { object, number } => {
             monitors[object.0 as usize] = MonitorState {
@@ -75,11 +70,11 @@ pub fn note_monitor(
 
 /// Notes the value that the record stores.
 #[inline(always)]
-pub fn note_store(fields: &mut [FieldState], objects: usize, record: Record)
-    requires named { IsNamed objects fields.old «record» }
-    ensures { fields.new ≡ fields_after «record» fields.old }
+pub fn note_store(fields: &mut [FieldState], objects: usize, next: Record)
+    requires named { IsNamed objects fields.old next }
+    ensures { fields.new ≡ fields_after next fields.old }
 {
-    if let Record::Put { field, after, .. } = record {
+    if let Record::Put { field, after, .. } = next {
         fields[field.0 as usize].value = after;
     }
 }

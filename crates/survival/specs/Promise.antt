@@ -33,8 +33,9 @@ abbrev pub GivesSurvivors : {E : Type 0} → Known → Setting → Past → List
 GivesSurvivors x s p calls image told = MatchResult told (λ r. Survives x s p calls r.0.heap (counts_of r.1.kept)) (λ back. CannotRecover image back.1)
 
 pub record SurvivesCrash {D : Type 0} (device : D → Device) (x y : Parts D) (calls : List StoreCall) {E : Type 0} (image : List ℕ) (told : Answer E) : Type 0 where
-  -- Whatever image a crash leaves at any moment of the run, recovery gives the heap that was acknowledged after some of the calls, unless
-  -- a call of its device fails, memory runs out, or the control's sequence is at its last value.
+  -- Whatever image a crash leaves at any moment of the run, recovery gives the heap that was acknowledged after some of the calls, or the
+  -- one that a settling was acknowledging when it was cut off, unless a call of its device fails, memory runs out, or the control's
+  -- sequence is at its last value.
   pub heap : (s : Setting) (p : Past) → IsPastOf device x s p → MayBeLeft (device x.disk) (device y.disk) image → GivesSurvivors x.known s p calls image told
 
 -- At which moment.

@@ -78,7 +78,7 @@ module _ {D : Type 0} (device : D → Device) where
     pub count : IfOk answer (λ n. length newer ≡ n)
     -- It takes at most a ring's fill of each lane for each look at the rings.
     pub most : (l : ℕ) → length (received_of y.rings l) ≤ length (received_of x.rings l) + LOOKS * RING_RECORDS
-    -- Whatever it answers, it leaves no record that could be applied, unless the store had failed.
+    -- Whatever it answers, no record that waits, or that is known to be in a ring, could be applied, unless the store had failed.
     pub stuck : x.store.known.has_failed ≡ false → AreStuck x.store.known.layout (device x.store.disk) y.rings y.waiting s (applied_more newer p)
     -- The past that the helper's store has afterwards.
     pub now : Past
@@ -88,7 +88,7 @@ module _ {D : Type 0} (device : D → Device) where
     pub cut : (l : ℕ) → p.cut l ≤ now.cut l
     -- What was trimmed stays trimmed.
     pub places : (l : ℕ) → trimmed_of p l ≤ trimmed_of now l
-    -- Store calls make the past afterwards of the past before.
+    -- Store calls make the past afterwards of the past before; what a crash leaves meanwhile shows what some of them make of it.
     pub ran : HasRun y.store.known.layout s p (device x.store.disk) now (device y.store.disk) y.store.known.has_failed
     -- The helper serves the past afterwards.
     pub serves : IsServing device y s now

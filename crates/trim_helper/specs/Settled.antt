@@ -35,13 +35,13 @@ pub record IsSettled (s : Setting) (p : Past) : Type 0 where
   pub clean : (f : ℕ) → f < s.fields → p.is_dirty f ≡ false
   pub stable : IsStable (actions (applied p)) p.cut
 
--- What was applied is durable, so that it may be published, where a store of this past runs.
+-- What was applied is durable, where a store of this past runs: it may be published.
 pub record IsDurable (x : Known) (s : Setting) (p : Past) : Type 0 where
-  -- The store hasn't failed.
+  -- Where what was applied is durable, the store hasn't failed.
   pub running : x.has_failed ≡ false
-  -- All that was applied is logged and at home, and its stable cut is acknowledged.
+  -- Where what was applied is durable, all of it is logged and at home, and its stable cut is acknowledged.
   pub settled : IsSettled s p
-  -- All that is acknowledged is trimmed.
+  -- Where what was applied is durable, all that is acknowledged is trimmed.
   pub trimmed : IsTrimmed p
 
 -- why a helper stops

@@ -132,7 +132,7 @@ impl<D: Disk> Helper<D> {
         // Settling publishes nothing: what the sessions may have read is what was published before.
         ensures noted { IsNoted self.old.seat self.new.seat }
         ensures goes_on { HasGoneOn shared.now self.old self.new }
-        // What is applied, the helper has seen: it hears the rings before anything of it is logged.
+        // Unless the store had failed, the helper has seen what it took of each ring, up to the last release of its lane.
         ensures seen { self.old.store.known.has_failed ≡ false → HasSeen shared.now self.new }
         // The history that settling sees goes on from the one that the helper had seen before.
         ensures later { GoesOn self.new.seat.view.history self.old.seat.view.history }
