@@ -70,7 +70,7 @@
 extern "C" {
 #endif
 
-/* Of this header and the library that it came with; and of the images that they read and write. */
+/* The versions of this header and its library, and of the images that they read and write. */
 #define ZELAMIKU_VERSION "0.1.0"
 #define ZELAMIKU_VERSION_NUMBER 100 /* 10,000 times the first, 100 times the second, and the third */
 #define ZELAMIKU_IMAGE_VERSION 2
@@ -342,12 +342,12 @@ ZELAMIKU_MUST_USE zelamiku_status zelamiku_copy(zelamiku_handle *heap, uint64_t 
  * WORN: the control's sequence is at its end, and zelamiku_open answers WORN too. CLOSED, by an earlier call: nothing was done. */
 ZELAMIKU_MUST_USE zelamiku_status zelamiku_close(zelamiku_handle *heap);
 
-/* Lets go of what is behind a handle. A heap stops, as if the process had: what was acknowledged stays. The handle is as at the
- * beginning. A session that is freed never ends, so that its heap isn't closed any more (RUNNING). What it holds stays held: others that
- * want those monitors are answered HELD for as long as the heap is open, and no section that has seen what its last one had freed
- * before is ever acknowledged, so that in the end their sessions are BEHIND. zelamiku_look tells, of each object, the lane that holds
- * it: where that is a lane whose thread is gone, free the handles and open the heap again. The section that was cut off is dropped
- * then, with those that have seen it. A thread that may be ended by force, or end by itself in a section, costs its heap an opening. */
+/* Lets go of what a handle holds, which is as at the beginning then. A heap stops, as if the process had: what was acknowledged stays.
+ * A session that is freed never ends, so its heap can't be closed any more (RUNNING). What it holds stays held: others that want those
+ * monitors are answered HELD for as long as the heap is open. No section that depends on its last one is ever acknowledged, so that in
+ * the end their sessions are BEHIND. zelamiku_look tells the lane that holds an object. If that lane's thread is gone, free the handles
+ * and open the heap again. The section that was cut off is dropped then, with those that depend on it. A thread that may be ended by
+ * force, or end by itself in a section, costs its heap an opening. */
 void zelamiku_free(zelamiku_handle *handle);
 
 /* ---- a session: one thread's use of the heap ---- */
@@ -404,13 +404,13 @@ ZELAMIKU_MUST_USE zelamiku_status zelamiku_lane(zelamiku_handle *session, uint32
 
 /* ---- a pool, by a session: slots that are taken and given back ---- */
 
-/* A pool has slots, numbered from 0. It lies in persistent fields of one object, which guards them: the head, and behind it a field for
+/* A pool has slots, numbered from 0. It lies in persistent fields of one object, which guards them: the head, and after it a field for
  * each slot. What a program keeps in a slot lies in fields of its own, as field BASE + slot, and may link to others by their numbers: so
  * lists and trees are built. A slot that a section takes or gives back is taken or free after a crash as that section is there or not.
  * Nothing else stores to the pool's fields. Where a heap has a pool the program knows: it is no part of the image. */
 
 /* Tells the fields of a pool of `count - 1` slots, all of which are free: `fields` gets the head's and then those of the slots, to be
- * declared to zelamiku_format behind one another.
+ * declared to zelamiku_format one after another.
  * EMPTY: there are fewer than 2. TOO_MANY: there are more than ZELAMIKU_MOST_SLOTS + 1. `fields` is as it was. */
 ZELAMIKU_MUST_USE zelamiku_status zelamiku_pool_fields(uint32_t object, zelamiku_field *fields, size_t count);
 

@@ -104,7 +104,7 @@ class Plan:
         return _few([f"{count} of {name}" for name, count in counts.items()])
 
 
-# The place behind the last field of an object, among its numbers: no member has that name.
+# The place after the last field of an object, among its numbers: no member has that name.
 _END = ""
 
 # ZELAMIKU_DIFFERENT_..

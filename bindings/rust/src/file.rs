@@ -88,7 +88,7 @@ fn lock(file: &File) -> Result<(), FileError> {
 }
 
 // Closes the gate of an image that the file may have, durably, before anything else of it goes: a system may keep a file's beginning
-// longer than what lies behind it, and a header over zeros would be a heap of zeros.
+// longer than what lies after it, and a header over zeros would be a heap of zeros.
 fn close_gate(file: &File) -> io::Result<()> {
     if file.metadata()?.len() == 0 {
         return Ok(());

@@ -137,7 +137,7 @@ impl Device for std::fs::File {
     }
 }
 
-// What is behind a handle of a heap.
+// What a handle of a heap holds.
 struct Hosted {
     handle: Owned,
     // The bytes of the call that is made.

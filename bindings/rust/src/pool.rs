@@ -3,7 +3,7 @@ use crate::{answer, raw, Field, Refusal};
 
 /// A pool of slots, numbered from 0: where it lies in a heap's fields.
 ///
-/// It has the field of its head, and behind it one for each slot. One object has and guards them, and only the pool's calls store to
+/// It has the field of its head, and after it one for each slot. One object has and guards them, and only the pool's calls store to
 /// them: [`Session::take`](crate::Session::take) and [`give`](crate::Session::give), or those of the service's
 /// [`Held`](crate::service::Held). What a program keeps in a slot lies in fields of its own, as field `base + slot`, and links to others
 /// by their numbers: so lists and trees are built. A slot that a section takes or gives back is taken or free after a crash as that
@@ -42,7 +42,7 @@ pub struct Pool {
 }
 
 impl Pool {
-    /// The pool whose head is this field, and which has so many slots: 1 to 16,383, with as many fields behind the head's.
+    /// The pool whose head is this field, and which has so many slots: 1 to 16,383, with as many fields after the head's.
     ///
     /// ```
     /// const JOBS: zelamiku::Pool = zelamiku::Pool::new(0, 64);

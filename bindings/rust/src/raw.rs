@@ -4,7 +4,7 @@ use std::ffi::c_void;
 #[cfg(unix)]
 pub mod threads;
 
-/// Of the statuses, which are named in `Refusal`: the call was made.
+/// The status of a call that was made. `Refusal` names the others.
 pub const OK: u32 = 0;
 
 pub const NO_CALL: u32 = 0;
@@ -22,7 +22,7 @@ const LOCK_EX: i32 = 2;
 #[cfg(unix)]
 const LOCK_NB: i32 = 4;
 
-// Of the system's C library. `File::try_lock`, which calls it, came with Rust 1.89.
+// From the system's C library. `File::try_lock`, which calls it, came with Rust 1.89.
 #[cfg(unix)]
 extern "C" {
     fn flock(descriptor: i32, how: i32) -> i32;
@@ -194,7 +194,7 @@ extern "C" {
     fn zelamiku_version() -> u32;
 }
 
-/// A handle, whose memory only this value has. What is behind it is let go with it.
+/// A handle, whose memory only this value has. What it holds is let go with it.
 pub struct Owned(Handle);
 
 impl Drop for Owned {

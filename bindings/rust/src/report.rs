@@ -78,7 +78,7 @@ impl Report {
     }
 }
 
-// Of a process that has died few sections are dropped.
+// After a process has died few sections are dropped.
 const FEW: usize = 256;
 
 // Each opens the heap of these bytes. Where more sections were dropped than there was room for, it opens it again: nothing was asked of
