@@ -7,9 +7,21 @@
 #![tactic(auto)]
 
 #[cfg(test)]
+mod commits;
+#[cfg(test)]
+mod controls;
+#[cfg(test)]
+mod faults;
+#[cfg(test)]
 mod images;
 #[cfg(test)]
 mod logs;
+#[cfg(test)]
+mod marks;
+#[cfg(test)]
+mod parts;
+#[cfg(test)]
+mod reading;
 #[cfg(test)]
 mod records;
 #[cfg(test)]

@@ -1,7 +1,8 @@
 //! Commits that turn one gate each, at each of their stops.
 ghost use Rattle.image.specs.Layout.{IsLayout};
 
-use crate::images::{put, shown, steady};
+use crate::commits::shown;
+use crate::images::{put, steady};
 use block_disk::{Disk, Fill, MemDisk};
 use image::{Layout, Slot, choose_control, commit_by_turning, steady_law};
 use std::alloc::Global;

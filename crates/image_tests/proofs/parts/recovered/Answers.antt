@@ -14,7 +14,7 @@ use Rattle.image.proofs.Reading.{cell_is_read}
 use Rattle.image.specs.Slots.{Shows}
 use Rattle.image.specs.declared.layout.Layout.{Layout}
 use Rattle.image.specs.declared.slot.Slot.TheVariants.{A}
-use Rattle.image_tests.proofs.images.recovered.Goals as goal
+use Rattle.image_tests.proofs.parts.recovered.Goals as goal
 
 -- what is read of a fresh image is what its field has at home
 home_is : (schema : Declarations) (l : Layout) (b : List ℕ) (rows : List GuardRow) (f v : ℕ) (d : GuardRow) → f < l.fields → IsFresh schema l b → HasGuards l b rows → HasCell l f b v

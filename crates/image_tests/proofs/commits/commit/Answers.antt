@@ -1,6 +1,6 @@
 use Rattle.std.proofs.Common.{refl}
 use Rattle.image.specs.Control.{empty_control}
-use Rattle.image_tests.proofs.images.commit.Goals as goal
+use Rattle.image_tests.proofs.commits.commit.Goals as goal
 
 pub commit_control-requires-clause-rows : goal.commit_control-requires-clause-rows
 commit_control-requires-clause-rows c = c.empty_rows_law.ensures c.args.layout.now

@@ -2,7 +2,7 @@ use Rattle.std.proofs.Common.{sym, subst}
 use Rattle.block_disk.specs.Memory.{Memory, device_of}
 use Rattle.image.specs.Commit.{IsSteady}
 use Rattle.image.specs.Control.{empty_control}
-use Rattle.image_tests.proofs.images.failed_commit.Goals as goal
+use Rattle.image_tests.proofs.commits.failed_commit.Goals as goal
 
 pub commit-requires-clause-steady : goal.commit-requires-clause-steady
 commit-requires-clause-steady c =
