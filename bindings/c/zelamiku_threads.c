@@ -41,14 +41,13 @@
 #define COLD __attribute__((noinline, cold)) static
 
 enum {
-    BUCKETS = 64,
+    BUCKETS = sizeof((zelamiku_news *)NULL)->waiting / sizeof(uint32_t),
     TRIES = 40,           /* before a thread sleeps for a monitor */
     DEMANDS = 3,          /* rounds that one without room asks for; a later one follows the end of another section */
     PART = 8,             /* of the time that a round's calls take: so long those without room look while the next takes records */
     GATHER = 16,          /* of that time: so long a round waits at most for those that the last one has told */
     MOST_PART = 20000000, /* nanoseconds, of such a part, also after calls that hung */
     NAP = 20000,          /* nanoseconds between two looks, for each thread that waits for a round, where many do */
-    RECORDS = 1000,       /* of a lane, after which a round is asked for at a section's end: about a quarter of a ring */
     SECOND = 1000000000
 };
 
@@ -65,14 +64,15 @@ typedef struct {
     uint64_t before;                     /* mutex: the sections that the lane had ended when it was lent */
     _Alignas(128) _Atomic uint64_t number; /* the handle that it is lent by; 0: calls look at `known` and the heap */
     _Atomic uint64_t open;               /* the same while a section is open, so that one look is enough for a load */
-    _Atomic uint64_t known;              /* the handle, also after the heap's end */
     _Atomic uint64_t ended;              /* how many sections the lane has ended */
-    _Atomic uint32_t is_busy;            /* a section is open, or it waits: nobody else touches the session */
-    uint32_t lane;
-    heap *of;
-    zelamiku_handle session;             /* own; freed by who ends the heap where the thread isn't busy */
-    uint64_t records;                    /* own: about how many it has sent since it last asked for a round */
     uint32_t locks;                      /* own: by how many monitors are held, all together */
+    _Atomic uint32_t is_busy;            /* a section is open, or it waits: nobody else touches the session */
+    zelamiku_handle session;             /* own; freed by who ends the heap where the thread isn't busy */
+    zelamiku_news *news;                 /* the heap's */
+    uint32_t records;                    /* own: about how many it has sent since it last asked for a round */
+    uint32_t lane;
+    _Atomic uint64_t known;              /* the handle, also after the heap's end */
+    heap *of;
 } seat;
 
 struct heap {
@@ -103,8 +103,8 @@ struct heap {
     uint32_t left;           /* mutex: how many threads are to free their sessions */
     uint64_t turns;          /* mutex: how many were given */
     zelamiku_stats stats;    /* mutex */
-    _Alignas(64) _Atomic uint32_t has_work; /* a section has ended since the last round began */
-    _Atomic uint32_t waiting[BUCKETS];      /* how many wait for monitors, by the object modulo the buckets */
+    _Alignas(64) _Atomic uint32_t waiting[BUCKETS]; /* how many wait for monitors, by the object modulo the buckets */
+    _Atomic uint32_t has_work;              /* a section has ended since the last round began */
     _Alignas(64) _Atomic uint32_t over;     /* the status that all calls answer; 0 while the heap goes on */
     _Atomic uint32_t is_settled;            /* nothing more will be acknowledged */
     _Atomic uint32_t told, bell, watches;   /* see above; the helper's next look is due */
@@ -116,23 +116,39 @@ struct heap {
     _Atomic int error;                      /* errno of the last of these, or of what the heap has ended with */
 };
 
-/* A handle is a number: a count of all that were handed out, from bit 24 on; the seat's place in `seats`, in bytes, or the heap's in
+/* A handle is a number: a count of all that were handed out, from bit 24 on; the seat's place in `zelamiku_seats`, in bytes, or the heap's in
  * `heaps`, in bits 8 to 20; and 1 in bit 0 of a heap's. No heap has place 0: so the handle of zeros finds a seat without a session. They are
  * never freed, so that a handle of yesterday is looked up as one of today. */
-static seat seats[ZELAMIKU_MOST_HEAPS * ZELAMIKU_MOST_LANES];
+#define SEATS ((size_t)ZELAMIKU_MOST_HEAPS * ZELAMIKU_MOST_LANES)
+#define PLACE ((SEATS - 1) * sizeof(seat))
+_Alignas(256) char zelamiku_seats[SEATS * sizeof(seat)];
 static heap heaps[ZELAMIKU_MOST_HEAPS];
-_Static_assert(sizeof(seat) == 256, "a handle has the seat's place in bytes");
-#define PLACE (ZELAMIKU_MOST_HEAPS * ZELAMIKU_MOST_LANES * 256 - 256)
+
+/* What zelamiku_inline.h says of a seat. */
+#define IS_OWN(name) (offsetof(seat, name) == offsetof(seat, number) + offsetof(zelamiku_own, name))
+_Static_assert(IS_OWN(open) && IS_OWN(ended) && IS_OWN(records) && IS_OWN(locks) && IS_OWN(is_busy) && IS_OWN(session) && IS_OWN(news),
+               "zelamiku_own");
+_Static_assert(offsetof(heap, has_work) == offsetof(heap, waiting) + offsetof(zelamiku_news, has_work), "zelamiku_news");
+_Static_assert(sizeof(seat) == 256 && offsetof(seat, number) == 128 && PLACE == 2096896, "ZELAMIKU_OWN_OF");
 
 static pthread_mutex_t registry = PTHREAD_MUTEX_INITIALIZER;
 static _Atomic uint64_t handed_out;
 
 static inline seat *seat_of(zelamiku_thread thread) {
-    return (seat *)((char *)seats + (thread.number & PLACE));
+    return (seat *)(void *)(zelamiku_seats + (thread.number & PLACE));
+}
+
+/* What zelamiku_inline.h has of it. */
+static inline zelamiku_own *own_of(seat *own) {
+    return (zelamiku_own *)(void *)&own->number;
 }
 
 static inline seat *seat_at(heap *of, uint32_t lane) {
-    return &seats[(size_t)(of - heaps) * ZELAMIKU_MOST_LANES + lane];
+    return (seat *)(void *)zelamiku_seats + (size_t)(of - heaps) * ZELAMIKU_MOST_LANES + lane;
+}
+
+static inline bool is_open(seat *own, zelamiku_thread thread) {
+    return zelamiku_is_open(own_of(own), thread);
 }
 
 static uint64_t new_number(size_t place) {
@@ -358,7 +374,7 @@ COLD void hand_on(seat *own, uint32_t object) {
 
 /* A section has ended that the helper may not know of. While its look is due within the linger nobody has to wake it. */
 COLD void tell_of_work(heap *of, seat *own) {
-    if (own->records >= RECORDS) {
+    if (own->records >= ZELAMIKU_ENOUGH) {
         own->records = 0;
         of->has_work = 1;
         demand(of, ZELAMIKU_ROUND_FULL);
@@ -373,16 +389,13 @@ COLD void tell_of_work(heap *of, seat *own) {
  * stands in the one order of all, as the library's step that has freed the monitor does. So one that waits for the monitor was put down
  * before, or finds it free; and who leads learns of the section by the count, which it reads when it takes all work to be known, or by the
  * word. */
-static inline void freed(seat *own, uint32_t object, bool waits) {
+COLD void tell_and_wake(seat *own, uint32_t object, bool waits) {
     heap *of = own->of;
-    own->records += 2; /* it was taken before */
-    if (own->locks == 0) {
-        if (!waits) atomic_store_explicit(&own->open, 0, memory_order_relaxed);
-        own->ended = atomic_load_explicit(&own->ended, memory_order_relaxed) + 1;
-        if (SELDOM(of->has_work == 0 || own->records >= RECORDS)) tell_of_work(of, own);
+    if (own->locks == 0 && own->is_busy) {
+        if (of->has_work == 0 || own->records >= ZELAMIKU_ENOUGH) tell_of_work(of, own);
         if (!waits) atomic_store_explicit(&own->is_busy, 0, memory_order_release);
     }
-    if (SELDOM(of->waiting[object % BUCKETS] > 0)) hand_on(own, object);
+    if (of->waiting[object % BUCKETS] > 0) hand_on(own, object);
 }
 
 /* ---- waiting for a round ---- */
@@ -749,6 +762,7 @@ static zelamiku_status take_lanes(heap *of, zelamiku_handle *handle) {
         seat *own = seat_at(of, lane);
         memset(own, 0, sizeof *own);
         own->of = of;
+        own->news = (zelamiku_news *)(void *)of->waiting;
         own->lane = lane;
         own->session = session;
         own->ended = ended;
@@ -761,11 +775,11 @@ static zelamiku_status take_lanes(heap *of, zelamiku_handle *handle) {
 
 static void mark_atomics(heap *of) {
     ARE_ATOMIC(of->number, sizeof of->number);
-    ARE_ATOMIC(of->has_work, sizeof *of - offsetof(heap, has_work));
+    ARE_ATOMIC(of->waiting, sizeof *of - offsetof(heap, waiting));
     for (uint32_t lane = 0; lane < of->lanes; lane++) {
         seat *own = seat_at(of, lane);
         ARE_ATOMIC(own->bell, offsetof(seat, wanted));
-        ARE_ATOMIC(own->number, offsetof(seat, lane) - offsetof(seat, number));
+        ARE_ATOMIC(own->number, sizeof *own - offsetof(seat, number));
     }
 }
 
@@ -784,6 +798,22 @@ static void clear_place(heap *of, const zelamiku_plan *plan) {
     of->has_work = of->is_settled = of->awaiting = of->arrivals = of->expected = of->watches = 0;
     of->steps = of->haste = of->rounds = of->troubles = 0;
     (void)pthread_mutex_init(&of->mutex, NULL);
+}
+
+/* A place for a heap of this path and plan; NULL: why not. */
+static heap *place_for(const char *path, const zelamiku_plan *plan, const char *call, zelamiku_status *status) {
+    heap *of = new_place();
+    if (of == NULL) {
+        *status = fail(path, ZELAMIKU_NONE_LEFT, 0, "256 heaps are open", "close one", "%s", call);
+        return NULL;
+    }
+    free(of->path);
+    of->path = strdup(path);
+    clear_place(of, plan);
+    if (of->path != NULL) return of;
+    free_place(of);
+    *status = fail(path, ZELAMIKU_NO_MEMORY, 0, NULL, NULL, "%s", call);
+    return NULL;
 }
 
 /* Starts the helper, where no signal is handled. */
@@ -822,17 +852,15 @@ zelamiku_status zelamiku_heap_start(zelamiku_heap *heap_, const char *name, zela
     static const zelamiku_plan NO_PLAN;
     if (heap_ != NULL) heap_->number = 0;
     if (heap_ == NULL || name == NULL || handle == NULL || calls == NULL) return nothing("start", "give each");
-    heap *of = new_place();
-    if (of == NULL) return fail(name, ZELAMIKU_NONE_LEFT, 0, "256 heaps are open", "close one", "start");
-    free(of->path);
-    of->path = strdup(name);
+    zelamiku_status status = ZELAMIKU_OK;
+    heap *of = place_for(name, plan != NULL ? plan : &NO_PLAN, "start", &status);
+    if (of == NULL) return status;
     of->make_calls = calls;
     of->device = device;
-    clear_place(of, plan != NULL ? plan : &NO_PLAN);
     of->size = 0;
     of->objects = ZELAMIKU_MOST_OBJECTS;
     of->fields = ZELAMIKU_MOST_FIELDS;
-    zelamiku_status status = of->path != NULL ? begin(of, handle, heap_) : fail(name, ZELAMIKU_NO_MEMORY, 0, NULL, NULL, "start");
+    status = begin(of, handle, heap_);
     if (status != ZELAMIKU_OK) {
         free_place(of);
         return status;
@@ -1225,16 +1253,10 @@ zelamiku_status zelamiku_heap_open(zelamiku_heap *heap_, const char *path, const
     door at = {.path = path, .plan = plan, .report = report};
     at.lanes = plan->lanes != 0 ? plan->lanes : ZELAMIKU_DEFAULT_LANES;
     at.capacity = plan->capacity != 0 ? plan->capacity : ZELAMIKU_DEFAULT_CAPACITY;
-    at.of = new_place();
-    if (at.of == NULL) return fail(path, ZELAMIKU_NONE_LEFT, 0, "256 heaps are open", "close one", "open");
-    free(at.of->path);
-    at.of->path = strdup(path);
-    if (at.of->path == NULL) {
-        free_place(at.of);
-        return refuse(&at, ZELAMIKU_NO_MEMORY, 0);
-    }
-    clear_place(at.of, plan);
-    zelamiku_status status = open_door(&at, heap_);
+    zelamiku_status status = ZELAMIKU_OK;
+    at.of = place_for(path, plan, "open", &status);
+    if (at.of == NULL) return status;
+    status = open_door(&at, heap_);
     if (status != ZELAMIKU_OK) return status;
     const char *how = report->is_made != 0 ? "made" : report->is_upgraded != 0 ? "upgraded and recovered" : "recovered";
     tell_log(at.of, ZELAMIKU_LOG_INFO, "%s: %llu bytes, %u lanes; %llu sections were dropped", how, (unsigned long long)at.of->size,
@@ -1543,7 +1565,7 @@ zelamiku_status zelamiku_thread_begin(zelamiku_thread *thread, zelamiku_heap hea
         if (own->is_lent) continue;
         own->is_lent = true;
         own->before = own->ended;
-        thread->number = new_number((size_t)(own - seats) * sizeof *own);
+        thread->number = new_number((size_t)((char *)own - zelamiku_seats));
         own->known = thread->number;
         own->number = thread->number;
         status = ZELAMIKU_OK;
@@ -1555,7 +1577,7 @@ zelamiku_status zelamiku_thread_begin(zelamiku_thread *thread, zelamiku_heap hea
 
 /* Why a call with this handle isn't made. OK: a look at whether the heap can be closed was underway, and has ended: try again. */
 COLD zelamiku_status why_not(seat *own, zelamiku_thread thread, const char *call) {
-    heap *of = &heaps[(own - seats) / ZELAMIKU_MOST_LANES];
+    heap *of = &heaps[(own - (seat *)(void *)zelamiku_seats) / ZELAMIKU_MOST_LANES];
     if (thread.number == 0 || own->known != thread.number) return nothing(call, NULL);
     if (of->over == ZELAMIKU_FORKED) return fail(of->path, ZELAMIKU_FORKED, 0, NULL, NULL, "%s", call);
     pthread_mutex_lock(&of->mutex);
@@ -1641,12 +1663,9 @@ COLD zelamiku_status enter_slowly(seat *own, uint32_t object, zelamiku_status st
     return status == ZELAMIKU_HELD || status == ZELAMIKU_BEHIND ? status : refused(own, status, call, "object", object);
 }
 
-/* Before the look at whether the heap has ended the seat is busy: who ends it sees that, or is seen. */
 static inline zelamiku_status enter(zelamiku_thread thread, uint32_t object, uint64_t deadline, const char *call) {
     seat *own = seat_of(thread);
-    for (;;) {
-        if (own->locks == 0 && own->number == thread.number) own->is_busy = 1;
-        if (!SELDOM(own->number != thread.number)) break;
+    while (!is_open(own, thread) && !zelamiku_begins(own_of(own), thread)) {
         zelamiku_status status = why_not(own, thread, call);
         if (status != ZELAMIKU_OK) return status;
     }
@@ -1672,8 +1691,10 @@ zelamiku_status zelamiku_thread_enter_until(zelamiku_thread thread, uint32_t obj
     return enter(thread, object, deadline, "enter");
 }
 
-static inline bool is_open(const seat *own, zelamiku_thread thread) {
-    return atomic_load_explicit(&own->open, memory_order_relaxed) == thread.number;
+__attribute__((noinline, cold)) zelamiku_status zelamiku_thread_exited(zelamiku_thread thread, uint32_t object) {
+    seat *own = seat_of(thread);
+    tell_and_wake(own, object, false);
+    return own->number == thread.number ? ZELAMIKU_OK : why_not(own, thread, "exit");
 }
 
 zelamiku_status zelamiku_thread_exit(zelamiku_thread thread, uint32_t object) {
@@ -1681,10 +1702,9 @@ zelamiku_status zelamiku_thread_exit(zelamiku_thread thread, uint32_t object) {
     if (SELDOM(!is_open(own, thread))) return not_open(own, thread, "exit", false, object);
     zelamiku_status status = zelamiku_exit(&own->session, object);
     if (SELDOM(status != ZELAMIKU_OK)) return refused(own, status, "exit", "object", object);
-    own->locks--;
-    freed(own, object, false);
-    if (!SELDOM(own->number != thread.number)) return ZELAMIKU_OK;
-    return why_not(own, thread, "exit");
+    own->records += 2; /* it was taken before */
+    bool is_quiet = --own->locks > 0 || zelamiku_ends(own_of(own), thread);
+    return is_quiet && own->of->waiting[object % BUCKETS] == 0 ? ZELAMIKU_OK : zelamiku_thread_exited(thread, object);
 }
 
 zelamiku_status zelamiku_thread_load(zelamiku_thread thread, uint32_t field, uint64_t *value) {
@@ -1761,7 +1781,9 @@ zelamiku_status zelamiku_thread_wait(zelamiku_thread thread, uint32_t object) {
     zelamiku_status status = begin_wait(of, own, object);
     if (status != ZELAMIKU_OK) return refused(own, status, "wait for", "object", object);
     own->locks -= locks;
-    freed(own, object, true);
+    own->records += 2;
+    if (own->locks == 0) own->ended++;
+    tell_and_wake(own, object, true);
     status = resume(of, own, object);
     if (status != ZELAMIKU_OK) return refused(own, status, "wait for", "object", object);
     own->locks += locks;
@@ -1807,10 +1829,7 @@ zelamiku_status zelamiku_thread_look(zelamiku_thread thread, uint32_t object, ze
     zelamiku_sight free_one = {ZELAMIKU_NOBODY, 0, 0};
     *sight = free_one;
     bool was_open = thread.number != 0 && is_open(own, thread);
-    while (!was_open) {
-        /* As in an enter. */
-        if (thread.number != 0 && own->number == thread.number) own->is_busy = 1;
-        if (thread.number != 0 && own->number == thread.number) break;
+    while (!was_open && (thread.number == 0 || !zelamiku_begins(own_of(own), thread))) {
         zelamiku_status status = why_not(own, thread, "look");
         if (status != ZELAMIKU_OK) return status;
     }

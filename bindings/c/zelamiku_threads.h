@@ -282,4 +282,6 @@ ZELAMIKU_HAS_SIZE(zelamiku_stats, 80);
 #ifdef __cplusplus
 }
 #endif
+
+#include "zelamiku_inline.h"
 #endif

@@ -289,7 +289,7 @@ inline exit(i, m) {
     must_go_on(i);
     give_back(i, m);
     freed(i, m, 0);
-    must_go_on(i)
+    if :: locks[i] == 0 -> must_go_on(i) :: else fi
 }
 
 inline wait(i, m) {
@@ -399,6 +399,23 @@ proctype Thread(byte i) {
     if :: i == 0 -> await(i) :: else fi
 #elif SCRIPT == 7 /* all want one monitor, and one of them gives up */
     SECTION(0)
+#elif SCRIPT == 8 /* one waits in the set, and one notifies it */
+    if
+    :: i == 0 -> enter(i, 0); if :: !is_said -> wait(i, 0) :: else fi; exit(i, 0)
+    :: i == 1 -> enter(i, 0); is_said = 1; notify_all(i, 0); exit(i, 0)
+    :: i == 2 -> skip
+    fi
+#elif SCRIPT == 9 /* a ring that is full, beside one that waits for its section */
+    if
+    :: i == 0 -> SECTION(0); SECTION(0)
+    :: i == 1 -> SECTION(1); await(i)
+    :: i == 2 -> skip
+    fi
+#elif SCRIPT == 10 /* a ring that is full, and nobody else */
+    if
+    :: i == 0 -> SECTION(0); SECTION(0)
+    :: else -> skip
+    fi
 #else /* one waits for one section after the other, beside one that doesn't wait */
     if
     :: i == 0 -> SECTION(0); await(i); SECTION(0); await(i)

@@ -399,7 +399,8 @@ static void abandoned(void) {
     MUST(zelamiku_thread_exit(own, 1) == ZELAMIKU_OK && zelamiku_thread_enter(own, 2) == ZELAMIKU_OK);
     MUST(pthread_create(&thread, NULL, hold, &dead) == 0 && pthread_join(thread, NULL) == 0);
     MUST(pthread_create(&waiter, NULL, sleeps_in_vain, &waiting) == 0);
-    usleep(20000);
+    zelamiku_stats stats = {0};
+    while (stats.entering == 0) MUST(zelamiku_heap_stats(heap, &stats) == ZELAMIKU_OK);
     IS(zelamiku_heap_close(heap), RUNNING, "or stop the heap");
     IS(zelamiku_heap_abandon(heap), OK, "");
     MUST(pthread_join(waiter, &answer) == 0);

@@ -1,5 +1,6 @@
 /* Makes calls of a heap's file fail, as a system does: while there is a file at FAULTS.sync each fdatasync and fsync fails with EIO, and
- * while there is one at FAULTS.write each write at a place with ENOSPC. FAULTS is a variable. For LD_PRELOAD. */
+ * while there is one at FAULTS.write each write at a place with ENOSPC. While there is one at FAULTS.hang no fdatasync returns. FAULTS is a
+ * variable. For LD_PRELOAD, also by tools/run-examples. */
 #define _GNU_SOURCE
 #include <dlfcn.h>
 #include <errno.h>
@@ -15,12 +16,13 @@ static int fails(const char *what, int error) {
     if (folder == NULL) return 0;
     (void)snprintf(path, sizeof path, "%s.%s", folder, what);
     int is_there = access(path, F_OK) == 0;
-    errno = is_there ? error : cause;
+    errno = is_there && error != 0 ? error : cause;
     return is_there;
 }
 
 int fdatasync(int file) {
     int (*next)(int) = (int (*)(int))dlsym(RTLD_NEXT, "fdatasync");
+    while (fails("hang", 0)) usleep(1000);
     return fails("sync", EIO) ? -1 : next(file);
 }
 

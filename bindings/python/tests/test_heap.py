@@ -309,6 +309,34 @@ class Endings(OnFile):
             self.assertEqual(self.values(heap), [100, 7])
             self.assertEqual([each.why for each in heap.report.dropped if each.why is not zelamiku.Why.NOT_ENDED], [])
 
+    def test_abandon_answers_its_reason_and_drops_what_is_open(self):
+        heap = self.open(alice=Account, bob=Account, queue=Queue)
+        with heap.synchronized(heap.bob):
+            heap.bob.balance = 7
+        waits = threading.Event()
+
+        def wait():
+            with heap.synchronized(heap.queue):
+                waits.set()
+                heap.queue.wait()
+
+        told = []
+        waiter = threading.Thread(target=lambda: told.append(in_thread(wait)))
+        waiter.start()
+        waits.wait()
+        with self.assertRaisesRegex(zelamiku.Abandoned, "accounts don't add up"), heap.synchronized(heap.alice):
+            heap.alice.balance = 1
+            heap.abandon("the accounts don't add up")
+            heap.alice.balance = 2
+        waiter.join()
+        self.assertIsInstance(told[0], zelamiku.Abandoned)
+        heap.abandon("too late")
+        with self.assertRaisesRegex(zelamiku.Abandoned, "accounts don't add up"):
+            heap.copy_to(self.path + ".copy")
+        heap.close()
+        with self.open(alice=Account, bob=Account, queue=Queue) as heap:
+            self.assertEqual(self.values(heap), [100, 7])
+
     def test_the_end_of_a_with_closes_it_and_hides_no_exception(self):
         with self.assertRaises(KeyError), self.open() as heap:
             raise KeyError("its own")

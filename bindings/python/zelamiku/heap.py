@@ -12,7 +12,7 @@ from types import TracebackType
 from typing import Any
 
 from .declare import Object, bind
-from .errors import COPY_KINDS, OPENING_KINDS, BadPlan, Error, InSection, OtherHeap, Running, Stopped, WriteFailed, for_status
+from .errors import COPY_KINDS, OPENING_KINDS, Abandoned, BadPlan, Error, Forked, InSection, OtherHeap, Running, Stopped, WriteFailed, for_status
 from .library import BAD_RECORD, BUSY, CLOSED, DEVICE, FORKED, ILLEGAL_LOG, MOST_LANES, OK, OTHER_HEAP, RUNNING
 from .library import DroppedRow, FieldRow, Library, PlanRow, ReportRow, StatsRow, library
 from .link import Link
@@ -204,6 +204,21 @@ class Heap:
         """
         if self._finish.alive:
             self._let_go(self._link.calls.heap_stop(self._link.handle), for_status(self._link.path, CLOSED))
+
+    def abandon(self, reason: str = "the program has abandoned it") -> None:
+        """Stops the heap as a crash would, where a thread has failed inside its section: as :meth:`stop`, but each call is answered
+        :class:`Abandoned`, with this reason, from then on. Of a heap that is closed it does nothing.
+
+        :class:`Stopped`, which says with what the heap had ended: it is let go.
+        """
+        if self._finish.alive:
+            ended = self._link.abandon(reason)
+            self._finish.detach()
+            # A child that was forked has no such thread.
+            if not isinstance(ended, Forked):
+                self._waiter.end(ended)
+            if not isinstance(ended, Abandoned):
+                raise ended
 
     def _let_go(self, status: int, for_others: Error | None) -> None:
         """The heap is at its end: tells tasks that wait, those whose sections aren't durable by an error if there is one."""

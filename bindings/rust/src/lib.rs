@@ -221,10 +221,8 @@ impl Heap {
     /// Recovers the heap of these bytes, which the device has, durably, and opens it. [`Refusal::OldVersion`]: an older library made
     /// it, and [`upgrade`](Heap::upgrade) opens it.
     pub fn open(image: &[u8]) -> Result<(Heap, Found), Refusal> {
-        let mut handle = Owned::none();
-        let mut found = Found::default();
-        answer(handle.open(image, &mut found))?;
-        Ok((Heap::of(handle), found))
+        let (heap, report) = Heap::open_telling(image).map_err(|why| why.refusal)?;
+        Ok((heap, report.found))
     }
 
     /// Opens the heap of these bytes as [`open`](Heap::open) does, also where their image has version 1, from before there were transient
@@ -233,10 +231,8 @@ impl Heap {
     /// 1 until the last gate is written. Between that write and the return of its sync it may have either version, and after the sync it
     /// has version 2, which a library from before can't open.
     pub fn upgrade(image: &[u8]) -> Result<(Heap, Found), Refusal> {
-        let mut handle = Owned::none();
-        let mut found = Found::default();
-        answer(handle.upgrade(image, &mut found))?;
-        Ok((Heap::of(handle), found))
+        let (heap, report) = Heap::upgrade_telling(image).map_err(|why| why.refusal)?;
+        Ok((heap, report.found))
     }
 
     /// Recovers the heap of these bytes as [`open`](Heap::open) does, and tells which sections it kept and dropped, and why; or for which

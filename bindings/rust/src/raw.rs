@@ -149,8 +149,6 @@ extern "C" {
         capacity: u32,
         size: *mut u64,
     ) -> u32;
-    fn zelamiku_open(heap: *mut Handle, image: *const u8, size: usize, found: *mut Found) -> u32;
-    fn zelamiku_upgrade(heap: *mut Handle, image: *const u8, size: usize, found: *mut Found) -> u32;
     fn zelamiku_open_telling(
         heap: *mut Handle,
         image: *const u8,
@@ -173,7 +171,6 @@ extern "C" {
     fn zelamiku_call_failed(heap: *mut Handle) -> u32;
     fn zelamiku_round(heap: *mut Handle, applied: *mut u64) -> u32;
     fn zelamiku_acknowledged(heap: *mut Handle, lane: u32, sections: *mut u64) -> u32;
-    fn zelamiku_copy(heap: *mut Handle, at: u64, bytes: *mut u8, size: usize, copied: *mut u64) -> u32;
     fn zelamiku_close(heap: *mut Handle) -> u32;
     fn zelamiku_free(handle: *mut Handle);
     fn zelamiku_try_enter(session: *mut Handle, object: u32) -> u32;
@@ -251,14 +248,6 @@ impl Owned {
         unsafe { zelamiku_format(&mut self.0, objects, fields.as_ptr(), fields.len(), lanes, capacity, size) }
     }
 
-    pub fn open(&mut self, image: &[u8], found: &mut Found) -> u32 {
-        unsafe { zelamiku_open(&mut self.0, image.as_ptr(), image.len(), found) }
-    }
-
-    pub fn upgrade(&mut self, image: &[u8], found: &mut Found) -> u32 {
-        unsafe { zelamiku_upgrade(&mut self.0, image.as_ptr(), image.len(), found) }
-    }
-
     pub fn open_telling(&mut self, image: &[u8], told: &mut Told, dropped: &mut [Dropped]) -> u32 {
         let (at, count) = (dropped.as_mut_ptr(), dropped.len());
         unsafe { zelamiku_open_telling(&mut self.0, image.as_ptr(), image.len(), told, at, count) }
@@ -275,12 +264,6 @@ impl Owned {
 
     pub fn next_call(&mut self, call: &mut Call, bytes: &mut [u8]) -> u32 {
         unsafe { zelamiku_next_call(&mut self.0, call, bytes.as_mut_ptr(), bytes.len()) }
-    }
-
-    // The service's hot copy calls it.
-    #[allow(dead_code)]
-    pub fn copy(&mut self, at: u64, bytes: &mut [u8], copied: &mut u64) -> u32 {
-        unsafe { zelamiku_copy(&mut self.0, at, bytes.as_mut_ptr(), bytes.len(), copied) }
     }
 }
 

@@ -1,7 +1,11 @@
 //! The functions of `zelamiku_threads.h`. Handles are numbers, and a call on any number answers: so each call here is safe.
-use super::{Dropped, Field, Sight, Told, OK};
+use super::{Dropped, Field, Handle, Sight, Told, OK};
 use std::ffi::{c_char, c_void, CStr, CString};
 use std::panic::{catch_unwind, AssertUnwindSafe};
+use std::sync::atomic::{
+    AtomicU32, AtomicU64,
+    Ordering::{Relaxed, Release, SeqCst},
+};
 use std::sync::Arc;
 
 pub const NO_DEADLINE: u64 = u64::MAX;
@@ -82,7 +86,30 @@ const _: () = assert!(std::mem::size_of::<HeapNumber>() == 8 && std::mem::size_o
 const _: () = assert!(std::mem::size_of::<RawPlan>() == 48 && std::mem::size_of::<Report>() == 344);
 const _: () = assert!(std::mem::size_of::<Stats>() == 80);
 
+// What a section's end asks of its heap, and what the thread that has a lane keeps of it: zelamiku_inline.h has them.
+#[repr(C)]
+struct News {
+    waiting: [AtomicU32; 64],
+    has_work: AtomicU32,
+}
+
+#[repr(C)]
+struct Own {
+    number: AtomicU64,
+    open: AtomicU64,
+    ended: AtomicU64,
+    locks: u32,
+    is_busy: AtomicU32,
+    session: Handle,
+    news: *const News,
+    records: u32,
+}
+
+const ENOUGH: u32 = 1000;
+
 extern "C" {
+    static mut zelamiku_seats: [u8; 0];
+    fn zelamiku_thread_exited(thread: ThreadNumber, object: u32) -> u32;
     fn zelamiku_heap_message() -> *const c_char;
     fn zelamiku_heap_error() -> i32;
     fn zelamiku_heap_open(heap: *mut HeapNumber, path: *const c_char, plan: *const RawPlan, report: *mut Report) -> u32;
@@ -137,12 +164,8 @@ calls! {
 calls! {
     ThreadNumber:
     end(self: &mut Self) -> u32 = zelamiku_thread_end;
-    enter(self: &mut Self, object: u32) -> u32 = zelamiku_thread_enter;
     try_enter(self: &mut Self, object: u32) -> u32 = zelamiku_thread_try_enter;
     enter_until(self: &mut Self, object: u32, deadline: u64) -> u32 = zelamiku_thread_enter_until;
-    exit(self: &mut Self, object: u32) -> u32 = zelamiku_thread_exit;
-    load(self: &mut Self, field: u32, value: &mut u64) -> u32 = zelamiku_thread_load;
-    store(self: &mut Self, field: u32, value: u64) -> u32 = zelamiku_thread_store;
     wait(self: &mut Self, object: u32) -> u32 = zelamiku_thread_wait;
     notify(self: &mut Self, object: u32, woken: &mut u32) -> u32 = zelamiku_thread_notify;
     notify_all(self: &mut Self, object: u32, woken: &mut u32) -> u32 = zelamiku_thread_notify_all;
@@ -153,6 +176,101 @@ calls! {
     lane(self: &Self) -> u32 = zelamiku_thread_lane;
     sections(self: &Self) -> u64 = zelamiku_thread_sections;
     durable(self: &Self) -> u64 = zelamiku_thread_durable;
+}
+
+/// The calls that every section makes, as zelamiku_inline.h has them: the proved library is called at once where it may be, and the library's own
+/// function makes the whole call else.
+// SAFETY (of all that is unsafe here): each number names a place in the library's table, and that of a thread is its own, but for what is atomic;
+// its `news` is the heap's. The proved library has one call at a time of a session, since a thread's calls take `&mut`.
+impl ThreadNumber {
+    #[inline]
+    fn own(&self) -> *mut Own {
+        unsafe { std::ptr::addr_of_mut!(zelamiku_seats).cast::<u8>().add(128 + (self.0 & 2_096_896) as usize).cast() }
+    }
+
+    #[inline]
+    fn is_open(&self) -> bool {
+        unsafe { (*self.own()).open.load(Relaxed) == self.0 }
+    }
+
+    // The lane is busy before it is looked whether the heap has ended.
+    #[inline]
+    fn begins(&mut self) -> bool {
+        let own = self.own();
+        unsafe {
+            if (*own).number.load(Relaxed) != self.0 {
+                return false;
+            }
+            (*own).is_busy.store(1, SeqCst);
+            (*own).number.load(SeqCst) == self.0
+        }
+    }
+
+    // Whether a section has ended of whose end nobody has to be told.
+    #[inline]
+    fn ends(&mut self) -> bool {
+        let own = self.own();
+        unsafe {
+            (*own).open.store(0, Relaxed);
+            (*own).ended.store((*own).ended.load(Relaxed) + 1, SeqCst);
+            if (*(*own).news).has_work.load(SeqCst) == 0 || (*own).records >= ENOUGH {
+                return false;
+            }
+            (*own).is_busy.store(0, Release);
+            (*own).number.load(SeqCst) == self.0
+        }
+    }
+
+    #[inline]
+    pub fn enter(&mut self, object: u32) -> u32 {
+        let own = self.own();
+        unsafe {
+            if !(self.is_open() || self.begins()) || super::zelamiku_try_enter(&mut (*own).session, object) != OK {
+                return zelamiku_thread_enter(*self, object);
+            }
+            (*own).locks += 1;
+            (*own).open.store(self.0, Relaxed);
+        }
+        OK
+    }
+
+    #[inline]
+    pub fn exit(&mut self, object: u32) -> u32 {
+        let own = self.own();
+        unsafe {
+            if !self.is_open() || super::zelamiku_exit(&mut (*own).session, object) != OK {
+                return zelamiku_thread_exit(*self, object);
+            }
+            (*own).records += 2;
+            (*own).locks -= 1;
+            let is_quiet = (*own).locks > 0 || self.ends();
+            if is_quiet && (*(*own).news).waiting[object as usize % 64].load(SeqCst) == 0 {
+                return OK;
+            }
+            zelamiku_thread_exited(*self, object)
+        }
+    }
+
+    #[inline]
+    pub fn load(&mut self, field: u32, value: &mut u64) -> u32 {
+        unsafe {
+            if self.is_open() && super::zelamiku_load(&mut (*self.own()).session, field, value) == OK {
+                return OK;
+            }
+            zelamiku_thread_load(*self, field, value)
+        }
+    }
+
+    #[inline]
+    pub fn store(&mut self, field: u32, value: u64) -> u32 {
+        unsafe {
+            if !self.is_open() || super::zelamiku_store(&mut (*self.own()).session, field, value) != OK {
+                return zelamiku_thread_store(*self, field, value);
+            }
+            (*self.own()).records += 1;
+        }
+        OK
+    }
 }
 
 impl HeapNumber {

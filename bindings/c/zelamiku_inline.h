@@ -1,0 +1,128 @@
+/* The calls that every section makes, for the compiler to write out in the program. zelamiku_threads.h includes this at its end; what it says
+ * of these calls holds. Where a section is open by the handle, or its lane may begin one, the proved library is called at once. Everything
+ * else, and whatever the proved library refuses, goes to the library's own function of that name, which makes the whole call: one that was
+ * refused has done nothing.
+ *
+ * A program that defines ZELAMIKU_NO_INLINE calls functions alone. It may run with the shared object of another release; any other program has
+ * the library that came with this header. */
+#include "zelamiku_threads.h"
+#ifndef ZELAMIKU_INLINE_H
+#define ZELAMIKU_INLINE_H
+#ifdef __cplusplus
+extern "C" {
+#endif
+
+#ifdef __GNUC__
+#define ZELAMIKU_SHARED __attribute__((__may_alias__)) /* zelamiku_threads.c has structures of its own for them */
+#else
+#define ZELAMIKU_SHARED
+#endif
+
+/* What a section's end asks of its heap. The library's own, as all here: no program reads or writes it by itself. */
+typedef struct {
+    uint32_t waiting[64]; /* how many wait for monitors, by the object modulo 64 */
+    uint32_t has_work;    /* 0: the helper may have to be told */
+} ZELAMIKU_SHARED zelamiku_news;
+
+/* What the thread that has a lane keeps of it. */
+typedef struct {
+    uint64_t number; /* the handle that the lane is lent by; 0: a call has to look closer */
+    uint64_t open;   /* the same while a section is open */
+    uint64_t ended;  /* sections */
+    uint32_t locks, is_busy;
+    zelamiku_handle session;
+    zelamiku_news *news;
+    uint32_t records;
+} ZELAMIKU_SHARED zelamiku_own;
+
+/* Every number, also one that is no handle, names a place here. */
+extern char zelamiku_seats[];
+#define ZELAMIKU_OWN_OF(thread) ((zelamiku_own *)(void *)(zelamiku_seats + 128 + ((thread).number & 2096896)))
+#define ZELAMIKU_ENOUGH 1000 /* records, after which a section's end asks for a round: about a quarter of a ring */
+
+/* What is left of an exit that the proved library has made, where there is somebody to be told. */
+ZELAMIKU_MUST_USE zelamiku_status zelamiku_thread_exited(zelamiku_thread thread, uint32_t object);
+
+#ifdef __cplusplus
+}
+#endif
+#endif
+
+#if defined(__GNUC__) && !defined(ZELAMIKU_NO_INLINE) && !defined(ZELAMIKU_OFTEN)
+#ifdef __cplusplus
+extern "C" {
+#endif
+
+/* Never a function of the program's own: where the compiler writes none out it calls the library's. */
+#ifndef ZELAMIKU_INLINE
+#define ZELAMIKU_INLINE extern __inline __attribute__((__gnu_inline__))
+#endif
+#define ZELAMIKU_OFTEN(is_so) __builtin_expect(!!(is_so), 1)
+
+/* The library's own functions, by other names here. */
+zelamiku_status zelamiku_whole_enter(zelamiku_thread thread, uint32_t object) __asm__("zelamiku_thread_enter");
+zelamiku_status zelamiku_whole_exit(zelamiku_thread thread, uint32_t object) __asm__("zelamiku_thread_exit");
+zelamiku_status zelamiku_whole_load(zelamiku_thread thread, uint32_t field, uint64_t *value) __asm__("zelamiku_thread_load");
+zelamiku_status zelamiku_whole_store(zelamiku_thread thread, uint32_t field, uint64_t value) __asm__("zelamiku_thread_store");
+
+ZELAMIKU_INLINE __attribute__((__always_inline__)) bool zelamiku_is_open(const zelamiku_own *own, zelamiku_thread thread) {
+    return ZELAMIKU_OFTEN(__atomic_load_n(&own->open, __ATOMIC_RELAXED) == thread.number);
+}
+
+/* The lane is busy before it is looked whether the heap has ended: who ends the heap sees that, or is seen. */
+ZELAMIKU_INLINE __attribute__((__always_inline__)) bool zelamiku_begins(zelamiku_own *own, zelamiku_thread thread) {
+    if (!ZELAMIKU_OFTEN(__atomic_load_n(&own->number, __ATOMIC_RELAXED) == thread.number)) return false;
+    __atomic_store_n(&own->is_busy, 1, __ATOMIC_SEQ_CST);
+    return ZELAMIKU_OFTEN(__atomic_load_n(&own->number, __ATOMIC_SEQ_CST) == thread.number);
+}
+
+/* Whether a section has ended of whose end nobody has to be told. What is looked at after `ended` is written stands with it in the one order of
+ * all: whoever begins a round reads `ended` after it has set `has_work` to 0. */
+ZELAMIKU_INLINE __attribute__((__always_inline__)) bool zelamiku_ends(zelamiku_own *own, zelamiku_thread thread) {
+    __atomic_store_n(&own->open, 0, __ATOMIC_RELAXED);
+    __atomic_store_n(&own->ended, own->ended + 1, __ATOMIC_SEQ_CST);
+    if (!ZELAMIKU_OFTEN(__atomic_load_n(&own->news->has_work, __ATOMIC_SEQ_CST) != 0)) return false;
+    if (!ZELAMIKU_OFTEN(own->records < ZELAMIKU_ENOUGH)) return false;
+    __atomic_store_n(&own->is_busy, 0, __ATOMIC_RELEASE);
+    return ZELAMIKU_OFTEN(__atomic_load_n(&own->number, __ATOMIC_SEQ_CST) == thread.number);
+}
+
+ZELAMIKU_INLINE zelamiku_status zelamiku_thread_enter(zelamiku_thread thread, uint32_t object) {
+    zelamiku_own *own = ZELAMIKU_OWN_OF(thread);
+    if (__atomic_load_n(&own->open, __ATOMIC_RELAXED) != thread.number && !zelamiku_begins(own, thread))
+        return zelamiku_whole_enter(thread, object);
+    if (!ZELAMIKU_OFTEN(zelamiku_try_enter(&own->session, object) == ZELAMIKU_OK)) return zelamiku_whole_enter(thread, object);
+    own->locks++;
+    __atomic_store_n(&own->open, thread.number, __ATOMIC_RELAXED);
+    return ZELAMIKU_OK;
+}
+
+ZELAMIKU_INLINE zelamiku_status zelamiku_thread_exit(zelamiku_thread thread, uint32_t object) {
+    zelamiku_own *own = ZELAMIKU_OWN_OF(thread);
+    if (!zelamiku_is_open(own, thread) || !ZELAMIKU_OFTEN(zelamiku_exit(&own->session, object) == ZELAMIKU_OK))
+        return zelamiku_whole_exit(thread, object);
+    own->records += 2; /* it was taken before */
+    bool is_quiet = --own->locks > 0 || zelamiku_ends(own, thread);
+    is_quiet = is_quiet && ZELAMIKU_OFTEN(__atomic_load_n(&own->news->waiting[object % 64], __ATOMIC_SEQ_CST) == 0);
+    return is_quiet ? ZELAMIKU_OK : zelamiku_thread_exited(thread, object);
+}
+
+ZELAMIKU_INLINE zelamiku_status zelamiku_thread_load(zelamiku_thread thread, uint32_t field, uint64_t *value) {
+    zelamiku_own *own = ZELAMIKU_OWN_OF(thread);
+    if (value == NULL || !zelamiku_is_open(own, thread) || !ZELAMIKU_OFTEN(zelamiku_load(&own->session, field, value) == ZELAMIKU_OK))
+        return zelamiku_whole_load(thread, field, value);
+    return ZELAMIKU_OK;
+}
+
+ZELAMIKU_INLINE zelamiku_status zelamiku_thread_store(zelamiku_thread thread, uint32_t field, uint64_t value) {
+    zelamiku_own *own = ZELAMIKU_OWN_OF(thread);
+    if (!zelamiku_is_open(own, thread) || !ZELAMIKU_OFTEN(zelamiku_store(&own->session, field, value) == ZELAMIKU_OK))
+        return zelamiku_whole_store(thread, field, value);
+    own->records++;
+    return ZELAMIKU_OK;
+}
+
+#ifdef __cplusplus
+}
+#endif
+#endif
