@@ -8,6 +8,9 @@
  *     if (zelamiku_make_calls_sectors(&heap, &host, &made) != ZELAMIKU_OK) ...             then, and after each round and the closing
  *     zelamiku_end_sectors(&host);                                                        after zelamiku_free
  *
+ * A device that is a file of the system is read past its page cache (O_DIRECT), or after posix_fadvise with POSIX_FADV_RANDOM. Else the
+ * system reads several pages at once, on XFS for one, and a sector that can't be read fails its neighbours, which the heap needs.
+ *
  *   ZELAMIKU_IN_PLACE    each sector over itself. Right only where a device keeps, through a crash, each byte of a sector that was being
  *                        written with a value that it has had since the last flush: where rewriting a durable byte with its own value
  *                        can't lose it (docs/FORMAT.md, "What the device keeps").

@@ -1,0 +1,256 @@
+"""The guests of tools/power-cuts: their disk (cutdisk.c), what they are made of, and a machine whose power can be cut."""
+import glob
+import json
+import lzma
+import os
+import re
+import select
+import shutil
+import signal
+import socket
+import struct
+import subprocess
+import sys
+import sysconfig
+import time
+
+HERE = os.path.dirname(os.path.realpath(__file__))
+TOP = os.path.dirname(os.path.dirname(HERE))
+PROGRAM, LIBRARY = f"{TOP}/crates/heapctl/out/heapctl", f"{TOP}/crates/zelamiku/out/host"
+PATHS = f"{os.environ.get('PATH', '')}:/usr/sbin:/sbin"
+SIZE = 320  # megabytes of the disk: the least that mkfs.xfs takes
+MAKE = {"ext4": "mkfs.ext4 -q -F -b 4096", "xfs": "mkfs.xfs -q -f", "btrfs": "mkfs.btrfs -q -f", "none": "true"}
+WANTED = {
+    "qemu-system-x86_64": "qemu-system-x86",
+    "busybox": "busybox-static",
+    "mkfs.ext4": "e2fsprogs",
+    "cc": "gcc",
+    "cpio": "cpio",
+    "modprobe": "kmod",
+}
+# What a guest's Python takes beside the modules of its program.
+TAKEN = "import sys, leases, encodings.ascii, encodings.latin_1\nfor it in sys.modules.values(): print(getattr(it, '__file__', None) or '')"
+
+
+class Wrong(Exception):
+    """What went wrong."""
+
+
+def must(is_so, text):
+    if not is_so:
+        raise Wrong(text)
+
+
+def must_run(*words, **how):
+    done = subprocess.run(words, capture_output=True, text=True, check=False, **how)
+    must(done.returncode == 0, f"{words[0]} has failed: {done.stderr[-2000:]}")
+    return done.stdout
+
+
+def is_installed(command):
+    return shutil.which(command, path=PATHS) is not None
+
+
+def kernels():
+    """The kernels of /boot that can be read and have modules, the newest last."""
+    found = sorted(glob.glob("/boot/vmlinuz-*"), key=lambda path: [int(it) if it.isdigit() else 0 for it in re.split(r"\D+", path)])
+    return [path for path in found if os.access(path, os.R_OK) and os.path.isdir(f"/lib/modules/{path.partition('-')[2]}")]
+
+
+def missing():
+    """What isn't installed here that guests can't do without."""
+    lacks = [f"{name} (Debian: {package})" for name, package in WANTED.items() if not is_installed(name)]
+    return lacks + ([] if kernels() else ["kernel in /boot (Debian: linux-image-amd64)"])
+
+
+def unpacked(kernel, path):
+    """The kernel without its compression, which takes a guest seconds to undo, in a file; or as it is, where it isn't packed by xz."""
+    with open(kernel, "rb") as file:
+        packed = file.read()
+    # The setup's sectors, and the place and length of what follows them (Linux, Documentation/x86/boot.rst).
+    offset, length = struct.unpack_from("<II", packed, 0x248)
+    begin = (packed[0x1F1] + 1) * 512 + offset
+    try:
+        plain = lzma.LZMADecompressor().decompress(packed[begin : begin + length])
+    except lzma.LZMAError:
+        return kernel
+    with open(path, "wb") as file:
+        file.write(plain)
+    return path
+
+
+def make_file_system(path, system):
+    with open(path, "wb") as file:
+        file.truncate(SIZE << 20)
+    must_run(*MAKE[system].split(), path, env={**os.environ, "PATH": PATHS})
+    return path
+
+
+def free(path):
+    if os.path.exists(path):
+        os.unlink(path)
+    return path
+
+
+class Disk:
+    """cutdisk, which is asked line by line."""
+
+    def __init__(self, folder, seed):
+        self.socket, self.told_by = free(f"{folder}/disk"), free(f"{folder}/told")
+        words = [f"{folder}/cutdisk", self.socket, self.told_by, str(SIZE), str(seed)]
+        self.running = subprocess.Popen(words, stdin=subprocess.PIPE, stdout=subprocess.PIPE, text=True, bufsize=1)
+        self.running.stdout.readline()
+
+    def ask(self, *words):
+        must(self.running.poll() is None, "cutdisk has ended")
+        self.running.stdin.write(" ".join(map(str, words)) + "\n")
+        answer = self.running.stdout.readline().split()
+        must(answer[:1] == ["ok"], f"cutdisk ended at {words}")
+        return answer[1:]
+
+    def count(self):
+        return int(self.ask("count")[0])
+
+    def flushes(self):
+        return list(map(int, self.ask("flushes")))
+
+    def told(self, cut):
+        """The last number that was told of each key before the cut."""
+        return {key: int(value) for key, value in (it.split("=") for it in self.ask("told", cut))}
+
+    def end(self):
+        self.running.kill()
+        self.running.wait()
+
+
+class Guest:
+    """A machine whose disk is cutdisk's. It runs the lines that it is sent."""
+
+    def __init__(self, parts, disk, kind, memory, *words):
+        self.disk, self.got, path = disk, b"", free(f"{parts.folder}/control")
+        with socket.socket(socket.AF_UNIX) as door:
+            door.bind(path)
+            door.listen(1)
+            door.settimeout(120)
+            self.running = subprocess.Popen([*self.words(parts, kind, memory, path), *words], stdin=subprocess.DEVNULL)
+            self.port, _ = door.accept()
+
+    def words(self, parts, kind, memory, control):
+        processor = "-accel kvm -cpu host" if parts.has_kvm else "-accel tcg,thread=multi,tb-size=256 -cpu max"
+        device = {"virtio": "-device virtio-blk-pci,drive=disk", "scsi": "-device virtio-scsi-pci -device scsi-hd,drive=disk,dpofua=on"}
+        return [
+            *f"qemu-system-x86_64 -M q35 {processor} -smp 2 -m {memory} -nodefaults -no-user-config -display none -no-reboot".split(),
+            *["-kernel", parts.kernel, "-initrd", parts.initramfs, "-serial", f"file:{parts.folder}/console"],
+            *["-append", "console=ttyS0 quiet panic=-1 mitigations=off nokaslr cryptomgr.notests"],
+            *["-drive", f"file=nbd:unix:{self.disk.socket},format=raw,if=none,id=disk,cache=none,discard=unmap", *device[kind].split()],
+            *["-chardev", f"socket,id=c,path={control}", "-chardev", f"socket,id=t,path={self.disk.told_by}", "-device", "virtio-serial-pci"],
+            *["-device", "virtserialport,chardev=c,name=control", "-device", "virtserialport,chardev=t,name=told"],
+        ]
+
+    def line(self, seconds):
+        until = time.monotonic() + seconds
+        while b"\n" not in self.got:
+            ready, _, _ = select.select([self.port], [], [], max(0, until - time.monotonic()))
+            more = self.port.recv(65536) if ready else b""
+            if not more:
+                raise TimeoutError
+            self.got += more
+        line, _, self.got = self.got.partition(b"\n")
+        return line.decode(errors="replace")
+
+    def send(self, line):
+        self.port.sendall(line.encode() + b"\n")
+
+    def run(self, line, seconds=240):
+        """The status of the line, and what it prints."""
+        self.send(line)
+        printed = []
+        while not (last := self.line(seconds)).startswith("END "):
+            printed.append(last)
+        return int(last[4:]), printed
+
+    def save(self, monitor, path):
+        """Writes the machine as it stands to a file."""
+        with socket.socket(socket.AF_UNIX) as asked:
+            asked.connect(monitor)
+            answers = asked.makefile()
+            for words in ({"execute": "qmp_capabilities"}, {"execute": "migrate", "arguments": {"uri": f"exec:cat >{path}"}}):
+                asked.sendall(json.dumps(words).encode())
+            until, status = time.monotonic() + 120, ""
+            while status != "completed":
+                must(status != "failed" and time.monotonic() < until, "a machine can't be saved")
+                time.sleep(0.1)
+                asked.sendall(b'{"execute": "query-migrate"}')
+                status = next(it for it in map(json.loads, answers) if "status" in it.get("return", {}))["return"]["status"]
+
+    def end(self):
+        self.running.send_signal(signal.SIGKILL)
+        self.running.wait()
+        self.port.close()
+
+    def cut(self):
+        """The power fails."""
+        self.end()
+        self.disk.ask("gone")
+
+
+class Parts:
+    """What guests are made of, in a folder. The programs of `needs` (cargo, python) are among them."""
+
+    def __init__(self, folder, needs, has_kvm):
+        is_built = os.path.exists(PROGRAM) and os.path.exists(f"{LIBRARY}/libzelamiku.a")
+        must(is_built, "heapctl or the library isn't there: rt ci, then tools/c-library")
+        self.folder, self.has_kvm, self.is_doubted, kernel = folder, has_kvm, True, kernels()[-1]
+        flags = ["-std=gnu11", "-O2", "-Wall", "-Wextra", "-Werror"]
+        must_run("cc", *flags, f"{HERE}/cutdisk.c", "-o", f"{folder}/cutdisk")
+        linked = [f"{LIBRARY}/libzelamiku.a", "-pthread", "-Wl,--wrap=pwrite,--wrap=fdatasync"]
+        must_run("cc", *flags, f"{HERE}/counts.c", "-I", f"{TOP}/bindings/c", *linked, "-o", f"{folder}/counts")
+        programs = [PROGRAM, f"{folder}/counts", *(shutil.which(name, path=PATHS) for name in ("e2fsck", "filefrag"))]
+        programs += [self.rust_program()] if "cargo" in needs else []
+        files = self.python_files() if "python" in needs else []
+        self.kernel, self.initramfs = unpacked(kernel, f"{folder}/kernel"), f"{folder}/initramfs"
+        must_run(f"{HERE}/initramfs", self.initramfs, kernel.partition("-")[2], *programs, "--", *files)
+
+    def rust_program(self):
+        environment = {**os.environ, "ZELAMIKU_LIBS": LIBRARY, "CARGO_TARGET_DIR": f"{self.folder}/target"}
+        must_run("cargo", "build", "--quiet", "--offline", "--release", "--manifest-path", f"{HERE}/Cargo.toml", env=environment)
+        return f"{self.folder}/target/release/service"
+
+    def python_files(self):
+        """Python, and the modules that leases.py takes, all at the paths that they have here; and the command that runs it."""
+        path = f"{HERE}:{TOP}/bindings/python:{TOP}/examples/python/leases"
+        variables = {"ZELAMIKU_LIBS": LIBRARY, "PYTHONPATH": path, "PYTHONHOME": sys.base_prefix, "PYTHONDONTWRITEBYTECODE": "1"}
+        listed = must_run(sys.executable, "-S", "-c", TAKEN, env={**os.environ, **variables}).split()
+        python = os.path.realpath(sys.executable)
+        self.leases = f"env {' '.join(f'{name}={value}' for name, value in variables.items())} {python} -S {HERE}/leases.py"
+        return sorted({python, f"{LIBRARY}/libzelamiku.so.0", f"{sysconfig.get_path('stdlib')}/os.py", *listed})
+
+    def guest(self, disk, kind, system, memory):
+        """A machine that was just switched on. It goes on from one that was saved before it had loaded its disk's driver."""
+        saved = f"{self.folder}/machine-{kind}-{memory}"
+        if not os.path.exists(saved):
+            self.save(disk, kind, memory, saved)
+        guest = Guest(self, disk, kind, memory, "-incoming", f"exec:cat {saved}")
+        try:
+            status, printed = guest.run(f"begin {kind} {system}; [ -b /dev/data ]")
+            must(status == 0, f"a machine has no disk: {printed}")
+        except BaseException:
+            guest.end()
+            raise
+        return guest
+
+    def save(self, disk, kind, memory, path):
+        """Boots a machine and saves it. A first one that doesn't come up under KVM, as in a machine that is a guest itself, does without."""
+        monitor, may_hang = free(f"{self.folder}/monitor"), self.has_kvm and self.is_doubted
+        guest = Guest(self, disk, kind, memory, "-qmp", f"unix:{monitor},server=on,wait=off")
+        try:
+            guest.line(20 if may_hang else 600)
+            guest.save(monitor, path)
+            self.is_doubted = False
+        except TimeoutError:
+            must(may_hang, "a machine doesn't come up")
+            self.has_kvm = False
+        finally:
+            guest.cut()
+        if not os.path.exists(path):
+            self.save(disk, kind, memory, path)
