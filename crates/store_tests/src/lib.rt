@@ -5,10 +5,18 @@
 #![tactic(auto)]
 
 #[cfg(test)]
+mod crash_tests;
+#[cfg(test)]
+mod device_tests;
+#[cfg(test)]
 mod format_tests;
 #[cfg(test)]
 mod memory_tests;
 #[cfg(test)]
-mod step_tests;
+mod section_tests;
+#[cfg(test)]
+mod stores;
 #[cfg(test)]
 mod transient_tests;
+#[cfg(test)]
+mod trim_tests;

@@ -1,7 +1,7 @@
 //! A store whose schema has a transient field.
 
 use crate::format_tests::declare;
-use crate::step_tests::{Told, acq, adopted, first_other, is_closed, one, put, rel};
+use crate::stores::{Told, acq, adopted, first_other, is_closed, one, put, rel};
 use block_disk::MemDisk;
 use durable::{Store, StoreCall, StoreError};
 use guards::{Schema, SchemaBuilder};
