@@ -1,0 +1,76 @@
+//! Four threads that transfer between accounts in the file accounts.heap. Each transfer is durable before its thread makes the next one.
+
+use file_threads::{
+    FieldId, HeapThread, Joint, ObjectId, Schema, SchemaBuilder, SessionError, Work, run_file,
+};
+use std::alloc::Global;
+use std::sync::Wait;
+
+const ACCOUNTS: u32 = 8;
+
+const THREADS: u8 = 4;
+
+#[derive(Drop)]
+struct Transfers {
+    rounds: u32,
+}
+
+impl Work for Transfers {
+    fn work<J: Joint, R: Wait>(
+        &self,
+        rt: &R,
+        thread: &mut HeapThread<'_, J>,
+    ) -> Result<(), SessionError> {
+        let lane = u32::from(thread.lane().0);
+        for round in 0..self.rounds {
+            let from = round.wrapping_add(lane) % ACCOUNTS;
+            let to = (from + lane + 1) % ACCOUNTS;
+            transfer(rt, thread, from, to, 1)?;
+            if thread.durable(rt).is_err() {
+                break;
+            }
+        }
+        Ok(())
+    }
+}
+
+// Both accounts' monitors are held over the transfer, the lesser taken first, so that no two threads wait for one another.
+fn transfer<J: Joint, R: Wait>(
+    rt: &R,
+    thread: &mut HeapThread<'_, J>,
+    from: u32,
+    to: u32,
+    amount: u64,
+) -> Result<(), SessionError> {
+    thread.enter(rt, ObjectId(from.min(to)))?;
+    thread.enter(rt, ObjectId(from.max(to)))?;
+    let left = thread.load(FieldId(from))?.wrapping_sub(amount);
+    thread.store(FieldId(from), left)?;
+    let more = thread.load(FieldId(to))?.wrapping_add(amount);
+    thread.store(FieldId(to), more)?;
+    thread.exit(ObjectId(from))?;
+    thread.exit(ObjectId(to))
+}
+
+// Each account has a field for its balance, which its monitor guards and which begins with 100.
+fn accounts(alloc: Global) -> anyhow::Result<Schema> {
+    let mut builder = SchemaBuilder::new(alloc);
+    for number in 0..ACCOUNTS {
+        let account = builder.object(format!(in alloc; "account{number}")?.as_str())?;
+        let balance = format!(in alloc; "balance{number}")?;
+        builder.field(account, balance.as_str(), account, 100)?;
+    }
+    Ok(builder.build().map_err(|(_, why)| why)?)
+}
+
+fn main(rt: HostRuntime) -> anyhow::Result<()> {
+    let schema = accounts(rt.alloc())?;
+    let work = Transfers { rounds: 100 };
+    let (outcome, _) = run_file(&rt, rt.alloc(), "accounts.heap", schema, THREADS, &work)?;
+    outcome.answer?;
+    for (number, balance) in outcome.heap.iter().enumerate() {
+        println!(rt; "account {number}: {balance}")?;
+    }
+    println!(rt; "sections acknowledged: {:?}", outcome.acknowledged)?;
+    Ok(())
+}

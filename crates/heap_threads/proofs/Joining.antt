@@ -1,0 +1,105 @@
+-- What the threads of some lanes leave, with that of the next lane behind it.
+use Rattle.std.proofs.Common.{ℕ, ◌≡◌, ◌<◌, length, arith, List, [], ◌∷◌, ◌++◌, All, Option, Some, None, Result, Ok, Err, IfOk, IfSome, inl, inr, sym, ap, ◌∙◌, subst}
+use Rattle.std.specs.List.{slice_index_or}
+use Rattle.std.proofs.lemmas.List.{map-append}
+use Rattle.std.proofs.lemmas.List.Elements.{All-head, All-nil, All-pop, All-push, All-tail, All-weaker}
+use Rattle.std.specs.declared.alloc.AllocError.{AllocError}
+use Rattle.monitor.specs.Seats.{Home}
+use Rattle.running_heap.specs.Joined.{IsJoined}
+use Rattle.session.specs.Sessions.{view_of}
+use Rattle.session.specs.declared.error.SessionError.{SessionError}
+use Rattle.session.specs.declared.session.Session.{Session}
+use Rattle.trim_helper.specs.Endings.{IsEnded, Rings, lanes_ended}
+use Rattle.trim_helper.specs.declared.ended.Ended.{Ended}
+use Rattle.heap_threads.specs.Beside.{JoinsOne}
+use Rattle.heap_threads.specs.Bodies.{Answer, AreWorked, HasWorked, HaveWorked, IsFirst, IsFirstRefusal, LeftOpen, WasCalled, WereCalled, both_of, lanes_opened}
+use Rattle.heap_threads.specs.declared.body.AllWorked.{AllWorked}
+use Rattle.heap_threads.specs.declared.body.Worked.{Worked}
+
+module _ (does : Home → Session → Session → Answer → Type 0) (h : Home) where
+  -- a refusal that is the first of some lanes is the first of them and more
+  refused_more : (r : SessionError) (es : List Ended) (e : Ended) → IsFirstRefusal does h r es → IsFirstRefusal does h r (es ++ e ∷ [])
+  refused_more r [] e has = absurd has
+  refused_more r (x ∷ es) e has = elim has [
+    | inl here ↦ inl here
+    | inr later ↦ inr (later.0, refused_more r es e later.1)
+  ]
+
+  -- and so is that of the last, where there was none
+  refused_last : (r : SessionError) (es : List Ended) (e : Ended) → All (λ x. WasCalled does h x (Ok tt)) es → WasCalled does h e (Err r) → IsFirstRefusal does h r (es ++ e ∷ [])
+  refused_last r [] e all here = inl here
+  refused_last r (x ∷ es) e all here = inr (All-head (λ y. WasCalled does h y (Ok tt)) x es all, refused_last r es e (All-tail (λ y. WasCalled does h y (Ok tt)) x es all) here)
+
+  -- each was called, with some answer
+  some_answer : (a : Answer) (es : List Ended) → WereCalled does h a es → All (λ e. (x : Answer) × WasCalled does h e x) es
+  some_answer (Ok done) es all = All-weaker (λ e. WasCalled does h e (Ok tt)) (λ e. (x : Answer) × WasCalled does h e x) (λ e one. (Ok tt, one)) es all
+  some_answer (Err r) es all = all.0
+
+  called_one : (before one : Option Answer) (es : List Ended) (e : Ended) → IfSome before (λ a. WereCalled does h a es) → IfSome one (λ a. WasCalled does h e a) → IfSome (both_of before one) (λ a. WereCalled does h a (es ++ e ∷ []))
+  called_one None one es e all here = tt
+  called_one (Some (Ok done)) None es e all here = tt
+  called_one (Some (Err r)) None es e all here = tt
+  called_one (Some (Ok done)) (Some (Ok d)) es e all here = All-push (λ x. WasCalled does h x (Ok tt)) es e all here
+  called_one (Some (Ok done)) (Some (Err r)) es e all here = (
+    All-push (λ x. (a : Answer) × WasCalled does h x a) es e (some_answer (Ok done) es all) (Err r, here),
+    refused_last r es e all here,
+  )
+  called_one (Some (Err r)) (Some a) es e all here = (
+    All-push (λ x. (b : Answer) × WasCalled does h x b) es e all.0 (a, here),
+    refused_more r es e all.1,
+  )
+
+  -- a thread whose session was joined to the helper was called with it
+  was_called : (capacity : ℕ) (rings : Rings) (first : Session) (w : Worked) → IsFirst h first → IsJoined h capacity rings first → HasWorked does h first w → IfSome w.answer (λ a. WasCalled does h w.ended a)
+  was_called capacity rings first w is joined has = some_called w.answer has.did
+    where
+      some_called : (answer : Option Answer) → IfSome answer (does h first has.left) → IfSome answer (λ a. WasCalled does h w.ended a)
+      some_called None did = tt
+      some_called (Some a) did = record { first = first; is_first = is; lane = sym (has.lane capacity rings joined); left = has.left; did = did; seat = has.seat }
+
+  and_one : (capacity : ℕ) (rings : Rings) (sessions : List Session) (s : Session) (before all : AllWorked) (one : Worked) → AreWorked does h capacity rings sessions before → IsFirst h s → IsJoined h capacity rings s → HasWorked does h s one
+      → all.ended.items ≡ before.ended.items ++ one.ended ∷ [] → all.answer ≡ both_of before.answer one.answer → AreWorked does h capacity rings (sessions ++ s ∷ []) all
+  and_one capacity rings sessions s before all one worked is joined has items answer = record {
+    ended = subst (λ es. All (IsEnded h capacity rings) es) (sym items) (All-push (IsEnded h capacity rings) before.ended.items one.ended worked.ended (has.ended capacity rings joined));
+    lanes =
+        ap (λ es. lanes_ended es) items
+        ∙ map-append (λ e. e.lane.0) before.ended.items (one.ended ∷ [])
+        ∙ ap (λ ns. ns ++ one.ended.lane.0 ∷ []) worked.lanes
+        ∙ ap (λ (n : ℕ). lanes_opened sessions ++ n ∷ []) (has.lane capacity rings joined)
+        ∙ sym (map-append (λ x. (view_of x).lane.0) sessions (s ∷ []));
+    called =
+        subst (λ a. IfSome a (λ x. WereCalled does h x all.ended.items)) (sym answer)
+        (subst (λ es. IfSome (both_of before.answer one.answer) (λ x. WereCalled does h x es)) (sym items)
+        (called_one before.answer one.answer before.ended.items one.ended worked.called (was_called capacity rings s one is joined has)));
+  }
+
+  -- nobody
+  none_worked : (capacity : ℕ) (rings : Rings) (w : AllWorked) → w.ended.items ≡ [] → w.answer ≡ Some (Ok tt) → AreWorked does h capacity rings [] w
+  none_worked capacity rings w items answer = record {
+    ended = subst (λ es. All (IsEnded h capacity rings) es) (sym items) (All-nil (IsEnded h capacity rings));
+    lanes = ap (λ es. lanes_ended es) items;
+    called = subst (λ a. IfSome a (λ x. WereCalled does h x w.ended.items)) (sym answer) (subst (λ es. All (λ e. WasCalled does h e (Ok tt)) es) (sym items) (All-nil (λ e. WasCalled does h e (Ok tt))));
+  }
+
+  -- one that holds a monitor was called, and has left it open
+  pub left_open : (capacity : ℕ) (rings : Rings) (es : List Ended) (a : Answer) (k : ℕ) → k < length es → All (IsEnded h capacity rings) es → WereCalled does h a es
+      → ((d : Ended) → (slice_index_or es k d).held ≡ 0 → ⊥) → LeftOpen does h
+  left_open capacity rings [] a k low ended called holds = absurd (omega (arith, low))
+  left_open capacity rings (e ∷ es) a k low ended called holds =
+      let one = some_answer a (e ∷ es) called k e low in
+      record { ended = slice_index_or (e ∷ es) k e; answer = one.0; called = one.1; capacity = capacity; rings = rings; is_ended = ended k e low; holds = holds e }
+
+  -- with what a further thread leaves
+  pub have_one : (sessions rest : List Session) (s : Session) (before answer : Result AllWorked AllocError) (one : Worked) → sessions ≡ rest ++ s ∷ [] → All (IsFirst h) sessions → HaveWorked does h rest before → HasWorked does h s one
+      → IfOk answer (λ all. JoinsOne before one all) → HaveWorked does h sessions answer
+  have_one sessions rest s before (Err e) one is first worked has joins capacity rings joined = tt
+  have_one sessions rest s before (Ok all) one is first worked has joins capacity rings joined =
+      let firsts = All-pop (IsFirst h) sessions rest (Some s) is first in
+      let both = All-pop (IsJoined h capacity rings) sessions rest (Some s) is joined in
+      let some : AreWorked does h capacity rings rest joins.some = subst (λ (r : Result AllWorked AllocError). IfOk r (AreWorked does h capacity rings rest)) joins.is (worked capacity rings both.0) in
+      subst (λ (ss : List Session). AreWorked does h capacity rings ss all) (sym is) (and_one capacity rings rest s joins.some all one some firsts.1 both.1 has joins.ended joins.answer)
+
+  -- and nobody has worked where there is no session
+  pub have_none : (sessions : List Session) (answer : Result AllWorked AllocError) → sessions ≡ [] → IfOk answer (λ w. (w.ended.items ≡ []) × (w.answer ≡ Some (Ok tt))) → HaveWorked does h sessions answer
+  have_none sessions (Err e) is nobody capacity rings joined = tt
+  have_none sessions (Ok w) is nobody capacity rings joined = subst (λ (ss : List Session). AreWorked does h capacity rings ss w) (sym is) (none_worked capacity rings w nobody.0 nobody.1)

@@ -1,0 +1,12 @@
+pub mod Served
+pub mod Taken
+pub mod Durables
+pub mod Ends
+pub mod Joining
+pub mod Later
+pub mod Ending
+pub mod Lanes
+pub mod Stopped
+pub mod Theirs
+pub mod Recovered
+pub mod Refused

@@ -1,0 +1,104 @@
+use Rattle.std.proofs.Common.{IfOk, OnErr, OnOk, ap, sym, ◌∙◌, subst}
+use Rattle.std.proofs.lemmas.Result.{IfOk-weaker}
+use Rattle.image.specs.declared.layout.Layout.{Layout}
+use Rattle.std.specs.List.{range_with_len}
+use Rattle.heap_threads.specs.Bodies.{AreWorked}
+use Rattle.heap_threads.specs.Serving.{CrashesBy, CrashesSince, LivesOn}
+use Rattle.heap_threads.specs.Stops.{StopsBy, StopsEnd}
+use Rattle.heap_threads.specs.declared.error.RunError.TheVariants.{NoMemory, NoThread}
+use Rattle.heap_threads.proofs.Ends.{back_before, back_same, back_stopped, back_threadless, back_wanting}
+use Rattle.heap_threads.proofs.Lanes.{all_first, lanes_up}
+use Rattle.heap_threads.proofs.Later.{ended_later, run_before}
+use Rattle.heap_threads.proofs.Refused.{weaker}
+use Rattle.heap_threads.proofs.Stopped.{stops_since}
+use Rattle.heap_threads.proofs.running.run.Goals as goal
+
+pub work_beside-requires-clause-first : goal.work_beside-requires-clause-first
+work_beside-requires-clause-first g c κs within =
+    let heap = c.args.heap in
+    all_first heap.shared heap.helper.store.known.layout.capacity 0 heap.helper.rings heap.sessions.items c.requires.joined c.requires.new
+
+pub end_all-requires-clause-ended : goal.end_all-requires-clause-ended
+end_all-requires-clause-ended g c =
+    let heap = c.args.heap in
+    let capacity = heap.helper.store.known.layout.capacity in
+    let beside = c.in-Ok.ensures.beside in
+    let worked = subst (λ r. IfOk r (AreWorked (g.W.Work.does c.args.work.now) heap.shared capacity heap.helper.rings heap.sessions.items)) c.in-Ok-worked.is (beside.worked capacity heap.helper.rings c.requires.joined) in
+    ended_later g.D.Disk.device heap.shared heap.helper c.in-Ok.beside.served.helper c.in-Ok-worked.worked.ended.items c.joined_law.ensures.ended beside.served.stayed worked.ended
+
+pub end_all-requires-clause-lanes : goal.end_all-requires-clause-lanes
+end_all-requires-clause-lanes g c =
+    let heap = c.args.heap in
+    let capacity = heap.helper.store.known.layout.capacity in
+    let beside = c.in-Ok.ensures.beside in
+    let worked = subst (λ r. IfOk r (AreWorked (g.W.Work.does c.args.work.now) heap.shared capacity heap.helper.rings heap.sessions.items)) c.in-Ok-worked.is (beside.worked capacity heap.helper.rings c.requires.joined) in
+    worked.lanes ∙ lanes_up 0 heap.sessions.items c.requires.new ∙ ap (range_with_len 0) (c.requires.count ∙ ap (λ (l : Layout). l.lanes) (sym beside.served.stayed.layout))
+
+pub end_all-requires-clause-called : goal.end_all-requires-clause-called
+end_all-requires-clause-called g c =
+    let heap = c.args.heap in
+    let capacity = heap.helper.store.known.layout.capacity in
+    let worked = subst (λ r. IfOk r (AreWorked (g.W.Work.does c.args.work.now) heap.shared capacity heap.helper.rings heap.sessions.items)) c.in-Ok-worked.is (c.in-Ok.ensures.beside.worked capacity heap.helper.rings c.requires.joined) in
+    worked.called
+
+pub returns-in-Err-clause-crashes : goal.returns-in-Err-clause-crashes
+returns-in-Err-clause-crashes g c =
+    let device = g.D.Disk.device in
+    let h = c.args.heap.shared in
+    let y = c.in-Err.helper in
+    let disk = c.disk_of.result in
+    back_same device h c.args.heap.helper y (device disk) NoThread c.in-Err.ensures.no_thread (back_threadless device h y disk c.round_law.ensures.between c.disk_of.ensures)
+
+pub returns-in-Err-clause-cause : goal.returns-in-Err-clause-cause
+returns-in-Err-clause-cause g c = ap g.D.Disk.device (c.disk_of.ensures ∙ ap (λ x. x.store.disk) c.in-Err.ensures.no_thread)
+
+pub returns-in-Err-answer-clause-crashes : goal.returns-in-Err-answer-clause-crashes
+returns-in-Err-answer-clause-crashes g c =
+    let device = g.D.Disk.device in
+    let h = c.args.heap.shared in
+    let x = c.args.heap.helper in
+    let y = c.in-Ok.beside.served.helper in
+    let served = c.in-Ok.ensures.beside.served in
+    back_stopped device h x y c.disk_of-in-Err-answer.result c.in-Err-answer.reason served.stayed (subst (λ r. OnErr r (CrashesSince device h x y)) c.in-Err-answer.is served.crashes) c.disk_of-in-Err-answer.ensures
+
+pub returns-in-Err-worked-clause-crashes : goal.returns-in-Err-worked-clause-crashes
+returns-in-Err-worked-clause-crashes g c =
+    let device = g.D.Disk.device in
+    let h = c.args.heap.shared in
+    let x = c.args.heap.helper in
+    let y = c.in-Ok.beside.served.helper in
+    let served = c.in-Ok.ensures.beside.served in
+    let disk = c.disk_of-in-Err-worked.result in
+    back_before device h x y (device disk) NoMemory served.stayed (subst (λ r. OnOk r (LivesOn device h x y)) c.in_default.is served.lives)
+    (back_wanting device h y disk c.round_law.ensures.between c.disk_of-in-Err-worked.ensures)
+
+pub returns-in-Ok-worked-clause-ok : goal.returns-in-Ok-worked-clause-ok
+returns-in-Ok-worked-clause-ok g c =
+    let device = g.D.Disk.device in
+    let h = c.args.heap.shared in
+    let x = c.args.heap.helper in
+    let y = c.in-Ok.beside.served.helper in
+    let served = c.in-Ok.ensures.beside.served in
+    IfOk-weaker c.end_all.result _ _ (λ r ran. run_before (g.W.Work.does c.args.work.now) device h x y r.0 r.1 served.stayed (subst (λ s. OnOk s (LivesOn device h x y)) c.in_default.is served.lives) ran) c.end_all.ensures.ok
+
+pub returns-in-Ok-worked-clause-crashes : goal.returns-in-Ok-worked-clause-crashes
+returns-in-Ok-worked-clause-crashes g c =
+    let device = g.D.Disk.device in
+    let h = c.args.heap.shared in
+    let x = c.args.heap.helper in
+    let y = c.in-Ok.beside.served.helper in
+    let served = c.in-Ok.ensures.beside.served in
+    weaker c.end_all.result (λ back. CrashesBy device h y (device back.0) back.1) (λ back. CrashesBy device h x (device back.0) back.1)
+    (λ back crashes. back_before device h x y (device back.0) back.1 served.stayed (subst (λ s. OnOk s (LivesOn device h x y)) c.in_default.is served.lives) crashes)
+    c.end_all.ensures.crashes
+
+pub returns-in-Ok-worked-clause-cause : goal.returns-in-Ok-worked-clause-cause
+returns-in-Ok-worked-clause-cause g c =
+    let device = g.D.Disk.device in
+    let heap = c.args.heap in
+    let after = c.in-Ok.beside.served.helper in
+    let stayed = c.in-Ok.ensures.beside.served.stayed in
+    weaker c.end_all.result (λ back. StopsEnd (g.W.Work.does c.args.work.now) heap.shared after.store.known.layout (device after.store.disk) (device back.0) back.1) (λ back. StopsBy (g.W.Work.does c.args.work.now) heap.shared heap.helper.store.known.layout (device heap.helper.store.disk) (device back.0) back.1)
+    (λ back stops. stops_since (g.W.Work.does c.args.work.now) heap.shared heap.helper.store.known.layout (device heap.helper.store.disk) (device after.store.disk) (device back.0) back.1 stayed.later
+    (subst (λ (l : Layout). StopsEnd (g.W.Work.does c.args.work.now) heap.shared l (device after.store.disk) (device back.0) back.1) stayed.layout stops))
+    c.end_all.ensures.cause

@@ -1,0 +1,12 @@
+-- The promise: what threads leave of a heap, and what stops them.
+pub mod Outcomes
+pub mod Stops
+pub mod Runs
+-- What a thread's calls say, and what `durable` keeps.
+pub mod Threads
+pub mod Durable
+-- What bodies, threads and helper keep.
+pub mod Bodies
+pub mod Beside
+pub mod Serving
+pub mod Crashes

@@ -1,0 +1,32 @@
+//! Threads of one's own on a heap: each lane's [`Work`] in a thread of the system, beside the helper that makes durable what they do.
+//!
+//! [`run_heap`] lets them work on a heap that was recovered, closes it, and recovers it again. [`run_new`] makes the image first, and
+//! [`run_on`] recovers one that is there. A thread works through its [`HeapThread`], whose calls are those of a session and require
+//! nothing. [`HeapThread::durable`] sleeps until no crash can take back what the thread has ended ([`durable_law`]).
+#![tactic(auto)]
+
+mod bell;
+mod beside;
+mod body;
+mod crashes;
+mod devices;
+mod error;
+mod fitting;
+mod joint;
+mod outcome;
+mod running;
+mod serving;
+mod thread;
+mod work;
+
+pub use crashes::durable_law;
+pub use devices::{Ran, run_new, run_on};
+pub use error::RunError;
+pub use guards::{Schema, SchemaBuilder, SchemaError};
+pub use heap_model::{FieldId, Lane, ObjectId};
+pub use joint::Joint;
+pub use outcome::Outcome;
+pub use running::run_heap;
+pub use session::SessionError;
+pub use thread::{HeapThread, HelperStopped};
+pub use work::Work;
