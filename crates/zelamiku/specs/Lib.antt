@@ -1,5 +1,6 @@
 -- What a handle owns, and what is behind it.
 pub mod Own
+pub mod Lending
 pub mod Behind
 pub mod Ended
 -- What the calls of a session answer.

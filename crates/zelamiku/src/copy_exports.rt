@@ -4,14 +4,12 @@ ghost use Rattle.zelamiku.specs.Behind.{Answers};
 ghost use Rattle.zelamiku.specs.CopyDoors.{CopiesAt};
 ghost use Rattle.zelamiku.specs.declared.status.TheConstants.{OK};
 
-use crate::slot::{Slot, put, take};
+use crate::slot::Slot;
 use crate::{copy_calls, status};
-use std::alloc::Global;
 
 /// Copies bytes of the heap's image, as the disk in memory has them.
 #[unsafe(no_mangle)]
 pub extern "C" fn zelamiku_copy(
-    alloc: Global,
     place: &mut Slot,
     at: u64,
     bytes: &mut [u8],
@@ -26,11 +24,10 @@ pub extern "C" fn zelamiku_copy(
     ensures kept { result ≢ OK → bytes.new ≡ bytes.old }
 {
     *copied = 0;
-    let Some(state) = take(alloc, place) else {
+    if !place.is_open() {
         return status::NOTHING;
-    };
-    let (count, answer) = copy_calls::copy(&state, at, bytes);
+    }
+    let (count, answer) = copy_calls::copy(place.handle.as_mut(), at, bytes);
     *copied = count;
-    put(place, state);
     answer
 }

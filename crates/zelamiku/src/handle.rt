@@ -32,15 +32,9 @@ impl Model for Handle {
 }
 
 impl Handle {
-    /// Nothing.
-    pub fn none(alloc: Global) -> Handle
-        ensures { result.state ≡ None }
-    {
-        Handle {
-            at: std::ptr::null_mut(),
-            alloc,
-        }
-    }
+    ghost use Rattle.std.specs.Prelude.{◌≡◌, None, Some, IsSome};
+    ghost use Rattle.std.specs.Borrow.{sem};
+    ghost use Rattle.zelamiku.specs.Lending.{LendsState};
 
     /// What is in this box.
     pub fn of(state: Loose<Inner, Global>) -> Handle
@@ -53,15 +47,27 @@ impl Handle {
         }
     }
 
-    /// The box again.
-    pub fn into_loose(self) -> Loose<Inner, Global>
-        requires { IsSome self.state }
-        ensures { self.state ≡ Some result.value }
+    /// What is behind it, out of it. The box is given back by this allocator.
+    pub fn take(&mut self, alloc: Global) -> Loose<Inner, Global>
+        requires { IsSome self.old.state }
+        // What is behind a handle is taken out whole.
+        ensures taken { self.old.state ≡ Some result.value }
+        // What was taken out is behind the handle no more.
+        ensures none { self.new.state ≡ None }
     {
-        let Handle { at, alloc } = self;
-        Loose {
-            at: at as *mut Inner,
-            alloc,
-        }
+        let at = self.at as *mut Inner;
+        self.at = std::ptr::null_mut();
+        Loose { at, alloc }
+    }
+
+    /// What is behind it, to be worked on where it is.
+    pub fn as_mut(&mut self) -> &mut Inner
+        requires { IsSome self.old.state }
+        // What is left there once the borrow ends is behind the handle, and the handle is as it was else.
+        ensures* writes_back { sem 𝓛 (LendsState self.entry result) }
+        // What is lent is what is behind the handle.
+        ensures value { self.old.state ≡ Some result.now }
+    {
+        unsafe { &mut *(self.at as *mut Inner) }
     }
 }

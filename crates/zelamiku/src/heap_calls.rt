@@ -114,23 +114,23 @@ fn hand_out(alloc: Global, heap: &mut HostedHeap, place: &mut Slot) -> u32
         return status::NO_MEMORY;
     };
     if let Some(session) = heap.session() {
-        return put_session(place, room, session);
+        return put_session(alloc, place, room, session);
     }
     match heap.session_again() {
-        Ok(Some(session)) => put_session(place, room, session),
+        Ok(Some(session)) => put_session(alloc, place, room, session),
         Ok(None) => status::NONE_LEFT,
         Err(_) => status::NO_MEMORY,
     }
 }
 
 // Puts a session into its box, and that behind the handle.
-fn put_session(place: &mut Slot, room: Box<Inner>, session: HostedSession) -> u32
+fn put_session(alloc: Global, place: &mut Slot, room: Box<Inner>, session: HostedSession) -> u32
     ensures handed { place.new.handle.state ≡ session_behind session }
     ensures ok { result ≡ OK }
 {
     let mut room = room;
     room.put(Open::Session(session));
-    put(place, room);
+    put(alloc, place, room);
     status::OK
 }
 

@@ -6,7 +6,7 @@ ghost use Rattle.zelamiku.specs.HeapDoors.{AcknowledgesAt, ClosesAt, FormatsAt, 
 ghost use Rattle.recover.specs.declared.versions.Versions.TheVariants.{Current, Both};
 ghost use Rattle.zelamiku.specs.declared.status.TheConstants.{OK};
 
-use crate::slot::{Slot, is_taken, put, put_new, take};
+use crate::slot::{Slot, is_taken, let_go, put_new};
 use crate::state::Open;
 use crate::words::{Call, Field, Found};
 use crate::{heap_calls, status};
@@ -121,22 +121,15 @@ pub extern "C" fn zelamiku_session(alloc: Global, place: &mut Slot, session: &mu
     if is_taken(alloc, session) {
         return status::OPEN;
     }
-    let Some(mut state) = take(alloc, place) else {
+    if !place.is_open() {
         return status::NOTHING;
-    };
-    let answer = heap_calls::session(alloc, &mut state, session);
-    put(place, state);
-    answer
+    }
+    heap_calls::session(alloc, place.handle.as_mut(), session)
 }
 
 /// The call of the device that the host has to make next.
 #[unsafe(no_mangle)]
-pub extern "C" fn zelamiku_next_call(
-    alloc: Global,
-    place: &mut Slot,
-    call: &mut Call,
-    bytes: &mut [u8],
-) -> u32
+pub extern "C" fn zelamiku_next_call(place: &mut Slot, call: &mut Call, bytes: &mut [u8]) -> u32
     // What the host is told is the first of the calls that are left: its kind, its place, how many bytes, and as many
     // of them as there is room for. Calls are fetched just where none is left.
     ensures told { Answers (TellsNextAt call.new bytes.old bytes.new) place.old.handle.state place.new.handle.state result }
@@ -146,33 +139,30 @@ pub extern "C" fn zelamiku_next_call(
     ensures kept { result ≢ OK → bytes.new ≡ bytes.old }
 {
     *call = heap_calls::no_call();
-    let Some(mut state) = take(alloc, place) else {
+    if !place.is_open() {
         return status::NOTHING;
-    };
-    let (next, answer) = heap_calls::next_call(&mut state, bytes);
+    }
+    let (next, answer) = heap_calls::next_call(place.handle.as_mut(), bytes);
     *call = next;
-    put(place, state);
     answer
 }
 
 /// The host has made that call.
 #[unsafe(no_mangle)]
-pub extern "C" fn zelamiku_call_done(alloc: Global, place: &mut Slot) -> u32
+pub extern "C" fn zelamiku_call_done(place: &mut Slot) -> u32
     // A call that is done is the first of those that are left, and goes over to those that were made. Where none is
     // left, that is told.
     ensures { Answers MakesCallAt place.old.handle.state place.new.handle.state result }
 {
-    let Some(mut state) = take(alloc, place) else {
+    if !place.is_open() {
         return status::NOTHING;
-    };
-    let answer = heap_calls::call_done(&mut state);
-    put(place, state);
-    answer
+    }
+    heap_calls::call_done(place.handle.as_mut())
 }
 
 /// A round of the helper.
 #[unsafe(no_mangle)]
-pub extern "C" fn zelamiku_round(alloc: Global, place: &mut Slot, applied: &mut u64) -> u32
+pub extern "C" fn zelamiku_round(place: &mut Slot, applied: &mut u64) -> u32
     // A round does what the heap's round does, and tells how many records it applied or why it stopped. `CALLS_LEFT` is
     // answered exactly where there may be no room for its calls, and nothing was done.
     ensures told { Answers (RoundsAt applied.new) place.old.handle.state place.new.handle.state result }
@@ -180,23 +170,17 @@ pub extern "C" fn zelamiku_round(alloc: Global, place: &mut Slot, applied: &mut 
     ensures refused { result ≢ OK → applied.new ≡ 0 }
 {
     *applied = 0;
-    let Some(mut state) = take(alloc, place) else {
+    if !place.is_open() {
         return status::NOTHING;
-    };
-    let (count, answer) = heap_calls::round(&mut state);
+    }
+    let (count, answer) = heap_calls::round(place.handle.as_mut());
     *applied = count;
-    put(place, state);
     answer
 }
 
 /// How many sections of a lane are acknowledged.
 #[unsafe(no_mangle)]
-pub extern "C" fn zelamiku_acknowledged(
-    alloc: Global,
-    place: &mut Slot,
-    lane: u32,
-    sections: &mut u64,
-) -> u32
+pub extern "C" fn zelamiku_acknowledged(place: &mut Slot, lane: u32, sections: &mut u64) -> u32
     // A closed heap is answered `CLOSED`, one that has stopped `STOPPED`, another kind of handle `WRONG_KIND`, and an
     // empty one `NOTHING`. What is there stays.
     ensures told { Answers (AcknowledgesAt lane sections.new) place.old.handle.state place.new.handle.state result }
@@ -204,28 +188,25 @@ pub extern "C" fn zelamiku_acknowledged(
     ensures refused { result ≢ OK → sections.new ≡ 0 }
 {
     *sections = 0;
-    let Some(mut state) = take(alloc, place) else {
+    if !place.is_open() {
         return status::NOTHING;
-    };
-    let (count, answer) = heap_calls::acknowledged(&mut state, lane);
+    }
+    let (count, answer) = heap_calls::acknowledged(place.handle.as_mut(), lane);
     *sections = count;
-    put(place, state);
     answer
 }
 
 /// Closes a heap.
 #[unsafe(no_mangle)]
-pub extern "C" fn zelamiku_close(alloc: Global, place: &mut Slot) -> u32
+pub extern "C" fn zelamiku_close(place: &mut Slot) -> u32
     // A closed heap's sessions have ended, one a lane, holding no monitor, and its disk stands for the heap of their
     // one history. A heap that isn't closed goes on, or has stopped for the reason that is told.
     ensures { Answers ClosesAt place.old.handle.state place.new.handle.state result }
 {
-    let Some(mut state) = take(alloc, place) else {
+    if !place.is_open() {
         return status::NOTHING;
-    };
-    let answer = heap_calls::close(&mut state);
-    put(place, state);
-    answer
+    }
+    heap_calls::close(place.handle.as_mut())
 }
 
 /// Lets go of what is behind a handle. The handle has nothing behind it then.
@@ -234,5 +215,5 @@ pub extern "C" fn zelamiku_free(alloc: Global, place: &mut Slot)
     // A handle that is freed has nothing behind it.
     ensures { place.new.handle.state ≡ None }
 {
-    *place = Slot::none(alloc);
+    let_go(alloc, place);
 }

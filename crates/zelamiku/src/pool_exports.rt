@@ -5,10 +5,9 @@ ghost use Rattle.zelamiku.specs.SessionDoors.{AnswersAs};
 ghost use Rattle.zelamiku.specs.declared.pool_calls.TheConstants.{NO_SLOT};
 ghost use Rattle.zelamiku.specs.declared.status.TheConstants.{OK};
 
-use crate::slot::{Slot, put, take};
+use crate::slot::Slot;
 use crate::words::Field;
 use crate::{pool_calls, status};
-use std::alloc::Global;
 
 /// Lays out the fields of a pool of this object, for a heap to be made: the head's, and one for each slot.
 #[unsafe(no_mangle)]
@@ -24,13 +23,7 @@ pub extern "C" fn zelamiku_pool_fields(object: u32, fields: &mut [Field]) -> u32
 
 /// Takes a slot of the pool.
 #[unsafe(no_mangle)]
-pub extern "C" fn zelamiku_pool_take(
-    alloc: Global,
-    place: &mut Slot,
-    head: u32,
-    slots: u32,
-    slot: &mut u32,
-) -> u32
+pub extern "C" fn zelamiku_pool_take(place: &mut Slot, head: u32, slots: u32, slot: &mut u32) -> u32
     // A pool's slot is taken as by a session, of the pool of that head and of so many slots. A pool for which no heap
     // has room is refused first.
     ensures told { AnswersAs (TakesAt head slots slot.new) place.old.handle.state place.new.handle.state result }
@@ -38,32 +31,23 @@ pub extern "C" fn zelamiku_pool_take(
     ensures refused { result ≢ OK → slot.new ≡ NO_SLOT }
 {
     *slot = pool_calls::NO_SLOT;
-    let Some(mut state) = take(alloc, place) else {
+    if !place.is_open() {
         return status::NOTHING;
-    };
-    let (taken, answer) = pool_calls::take(&mut state, head, slots);
+    }
+    let (taken, answer) = pool_calls::take(place.handle.as_mut(), head, slots);
     *slot = taken;
-    put(place, state);
     answer
 }
 
 /// Gives a slot back to the pool.
 #[unsafe(no_mangle)]
-pub extern "C" fn zelamiku_pool_give(
-    alloc: Global,
-    place: &mut Slot,
-    head: u32,
-    slots: u32,
-    slot: u32,
-) -> u32
+pub extern "C" fn zelamiku_pool_give(place: &mut Slot, head: u32, slots: u32, slot: u32) -> u32
     // A pool's slot is given as by a session. A pool for which no heap has room, and a slot that the pool hasn't, are
     // refused first.
     ensures told { AnswersAs (GivesAt head slots slot) place.old.handle.state place.new.handle.state result }
 {
-    let Some(mut state) = take(alloc, place) else {
+    if !place.is_open() {
         return status::NOTHING;
-    };
-    let answer = pool_calls::give(&mut state, head, slots, slot);
-    put(place, state);
-    answer
+    }
+    pool_calls::give(place.handle.as_mut(), head, slots, slot)
 }

@@ -5,44 +5,39 @@ ghost use Rattle.zelamiku.specs.SessionDoors.{AnswersAs, AnswersUnlessStopped, E
 ghost use Rattle.zelamiku.specs.declared.session_calls.TheConstants.{NOBODY};
 ghost use Rattle.zelamiku.specs.declared.status.TheConstants.{OK};
 
-use crate::slot::{Slot, put, take};
+use crate::slot::Slot;
 use crate::words::Sight;
 use crate::{session_calls, status};
-use std::alloc::Global;
 
 /// Takes the monitor, or one lock more of it.
 #[unsafe(no_mangle)]
-pub extern "C" fn zelamiku_try_enter(alloc: Global, place: &mut Slot, object: u32) -> u32
+pub extern "C" fn zelamiku_try_enter(place: &mut Slot, object: u32) -> u32
     // An enter is the session's own, by the object that C gave. It is answered `STOPPED` only where the session has
     // seen its heap's word written, and then nothing else is done.
     ensures told { AnswersUnlessStopped (EntersAt object) place.old.handle.state place.new.handle.state result }
 {
-    let Some(mut state) = take(alloc, place) else {
+    if !place.is_open() {
         return status::NOTHING;
-    };
-    let answer = session_calls::try_enter(&mut state, object);
-    put(place, state);
-    answer
+    }
+    session_calls::try_enter(place.handle.as_mut(), object)
 }
 
 /// Gives one lock back, and with the last one the monitor.
 #[unsafe(no_mangle)]
-pub extern "C" fn zelamiku_exit(alloc: Global, place: &mut Slot, object: u32) -> u32
+pub extern "C" fn zelamiku_exit(place: &mut Slot, object: u32) -> u32
     // Each call of a session is the one of its name, for the object, field and value that C gave, and the session is
     // behind the handle again. A session that waits is answered `WAITING`, a heap `WRONG_KIND`, and both stay.
     ensures told { AnswersAs (ExitsAt object) place.old.handle.state place.new.handle.state result }
 {
-    let Some(mut state) = take(alloc, place) else {
+    if !place.is_open() {
         return status::NOTHING;
-    };
-    let answer = session_calls::exit(&mut state, object);
-    put(place, state);
-    answer
+    }
+    session_calls::exit(place.handle.as_mut(), object)
 }
 
 /// Loads a field.
 #[unsafe(no_mangle)]
-pub extern "C" fn zelamiku_load(alloc: Global, place: &mut Slot, field: u32, value: &mut u64) -> u32
+pub extern "C" fn zelamiku_load(place: &mut Slot, field: u32, value: &mut u64) -> u32
     // Each call of a session is the one of its name, for the object, field and value that C gave, and the session is
     // behind the handle again. A session that waits is answered `WAITING`, a heap `WRONG_KIND`, and both stay.
     ensures told { AnswersAs (LoadsAt field value.new) place.old.handle.state place.new.handle.state result }
@@ -50,66 +45,54 @@ pub extern "C" fn zelamiku_load(alloc: Global, place: &mut Slot, field: u32, val
     ensures refused { result ≢ OK → value.new ≡ 0 }
 {
     *value = 0;
-    let Some(mut state) = take(alloc, place) else {
+    if !place.is_open() {
         return status::NOTHING;
-    };
-    let (found, answer) = session_calls::load(&mut state, field);
+    }
+    let (found, answer) = session_calls::load(place.handle.as_mut(), field);
     *value = found;
-    put(place, state);
     answer
 }
 
 /// Stores a field.
 #[unsafe(no_mangle)]
-pub extern "C" fn zelamiku_store(alloc: Global, place: &mut Slot, field: u32, value: u64) -> u32
+pub extern "C" fn zelamiku_store(place: &mut Slot, field: u32, value: u64) -> u32
     // Each call of a session is the one of its name, for the object, field and value that C gave, and the session is
     // behind the handle again. A session that waits is answered `WAITING`, a heap `WRONG_KIND`, and both stay.
     ensures told { AnswersAs (StoresAt field value) place.old.handle.state place.new.handle.state result }
 {
-    let Some(mut state) = take(alloc, place) else {
+    if !place.is_open() {
         return status::NOTHING;
-    };
-    let answer = session_calls::store(&mut state, field, value);
-    put(place, state);
-    answer
+    }
+    session_calls::store(place.handle.as_mut(), field, value)
 }
 
 /// Joins the monitor's wait set and frees the monitor.
 #[unsafe(no_mangle)]
-pub extern "C" fn zelamiku_begin_wait(alloc: Global, place: &mut Slot, object: u32) -> u32
+pub extern "C" fn zelamiku_begin_wait(place: &mut Slot, object: u32) -> u32
     // A wait leaves a session that waits behind the handle, or the session that was refused.
     ensures told { Answers (WaitsAt object) place.old.handle.state place.new.handle.state result }
 {
-    let Some(mut state) = take(alloc, place) else {
+    if !place.is_open() {
         return status::NOTHING;
-    };
-    let answer = session_calls::begin_wait(&mut state, object);
-    put(place, state);
-    answer
+    }
+    session_calls::begin_wait(place.handle.as_mut(), object)
 }
 
 /// Takes the monitor again, once the thread is out of the wait set.
 #[unsafe(no_mangle)]
-pub extern "C" fn zelamiku_try_resume(alloc: Global, place: &mut Slot) -> u32
+pub extern "C" fn zelamiku_try_resume(place: &mut Slot) -> u32
     // A resume leaves the session behind the handle, or one that waits on.
     ensures told { Answers Resumes place.old.handle.state place.new.handle.state result }
 {
-    let Some(mut state) = take(alloc, place) else {
+    if !place.is_open() {
         return status::NOTHING;
-    };
-    let answer = session_calls::try_resume(&mut state);
-    put(place, state);
-    answer
+    }
+    session_calls::try_resume(place.handle.as_mut())
 }
 
 /// Takes one lane out of the monitor's wait set.
 #[unsafe(no_mangle)]
-pub extern "C" fn zelamiku_notify(
-    alloc: Global,
-    place: &mut Slot,
-    object: u32,
-    lane: &mut u32,
-) -> u32
+pub extern "C" fn zelamiku_notify(place: &mut Slot, object: u32, lane: &mut u32) -> u32
     // Each call of a session is the one of its name, for the object, field and value that C gave, and the session is
     // behind the handle again. A session that waits is answered `WAITING`, a heap `WRONG_KIND`, and both stay.
     ensures told { AnswersAs (NotifiesAt object lane.new) place.old.handle.state place.new.handle.state result }
@@ -117,23 +100,17 @@ pub extern "C" fn zelamiku_notify(
     ensures refused { result ≢ OK → lane.new ≡ NOBODY }
 {
     *lane = session_calls::NOBODY;
-    let Some(mut state) = take(alloc, place) else {
+    if !place.is_open() {
         return status::NOTHING;
-    };
-    let (woken, answer) = session_calls::notify(&mut state, object);
+    }
+    let (woken, answer) = session_calls::notify(place.handle.as_mut(), object);
     *lane = woken;
-    put(place, state);
     answer
 }
 
 /// Takes all lanes out of the monitor's wait set.
 #[unsafe(no_mangle)]
-pub extern "C" fn zelamiku_notify_all(
-    alloc: Global,
-    place: &mut Slot,
-    object: u32,
-    lanes: &mut u64,
-) -> u32
+pub extern "C" fn zelamiku_notify_all(place: &mut Slot, object: u32, lanes: &mut u64) -> u32
     // Each call of a session is the one of its name, for the object, field and value that C gave, and the session is
     // behind the handle again. A session that waits is answered `WAITING`, a heap `WRONG_KIND`, and both stay.
     ensures told { AnswersAs (NotifiesAllAt object lanes.new) place.old.handle.state place.new.handle.state result }
@@ -141,23 +118,17 @@ pub extern "C" fn zelamiku_notify_all(
     ensures refused { result ≢ OK → lanes.new ≡ 0 }
 {
     *lanes = 0;
-    let Some(mut state) = take(alloc, place) else {
+    if !place.is_open() {
         return status::NOTHING;
-    };
-    let (woken, answer) = session_calls::notify_all(&mut state, object);
+    }
+    let (woken, answer) = session_calls::notify_all(place.handle.as_mut(), object);
     *lanes = woken;
-    put(place, state);
     answer
 }
 
 /// What the monitor's words say.
 #[unsafe(no_mangle)]
-pub extern "C" fn zelamiku_look(
-    alloc: Global,
-    place: &mut Slot,
-    object: u32,
-    sight: &mut Sight,
-) -> u32
+pub extern "C" fn zelamiku_look(place: &mut Slot, object: u32, sight: &mut Sight) -> u32
     // Each call of a session is the one of its name, for the object, field and value that C gave, and the session is
     // behind the handle again. A session that waits is answered `WAITING`, a heap `WRONG_KIND`, and both stay.
     ensures told { AnswersAs (LooksAt object sight.new) place.old.handle.state place.new.handle.state result }
@@ -165,22 +136,17 @@ pub extern "C" fn zelamiku_look(
     ensures refused { result ≢ OK → sight.new ≡ free_sight 0 }
 {
     *sight = session_calls::nobodys(0);
-    let Some(mut state) = take(alloc, place) else {
+    if !place.is_open() {
         return status::NOTHING;
-    };
-    let (found, answer) = session_calls::look(&mut state, object);
+    }
+    let (found, answer) = session_calls::look(place.handle.as_mut(), object);
     *sight = found;
-    put(place, state);
     answer
 }
 
 /// How many sections of the session's lane the last round acknowledged.
 #[unsafe(no_mangle)]
-pub extern "C" fn zelamiku_round_sections(
-    alloc: Global,
-    place: &mut Slot,
-    sections: &mut u64,
-) -> u32
+pub extern "C" fn zelamiku_round_sections(place: &mut Slot, sections: &mut u64) -> u32
     // Each call of a session is the one of its name, for the object, field and value that C gave, and the session is
     // behind the handle again. A session that waits is answered `WAITING`, a heap `WRONG_KIND`, and both stay.
     ensures told { AnswersAs (ReadsStableAt sections.new) place.old.handle.state place.new.handle.state result }
@@ -188,50 +154,41 @@ pub extern "C" fn zelamiku_round_sections(
     ensures refused { result ≢ OK → sections.new ≡ 0 }
 {
     *sections = 0;
-    let Some(mut state) = take(alloc, place) else {
+    if !place.is_open() {
         return status::NOTHING;
-    };
-    let (found, answer) = session_calls::stable(&mut state);
+    }
+    let (found, answer) = session_calls::stable(place.handle.as_mut());
     *sections = found;
-    put(place, state);
     answer
 }
 
 /// The session's lane, and how many sections of it have ended.
 #[unsafe(no_mangle)]
-pub extern "C" fn zelamiku_lane(
-    alloc: Global,
-    place: &mut Slot,
-    lane: &mut u32,
-    sections: &mut u64,
-) -> u32
+pub extern "C" fn zelamiku_lane(place: &mut Slot, lane: &mut u32, sections: &mut u64) -> u32
     ensures told { AnswersAs (TellsLaneAt lane.new sections.new) place.old.handle.state place.new.handle.state result }
     // Where the status isn't `OK` it is told that there is no lane, and 0 sections.
     ensures refused { result ≢ OK → (lane.new ≡ NOBODY) × (sections.new ≡ 0) }
 {
     *lane = session_calls::NOBODY;
     *sections = 0;
-    let Some(mut state) = take(alloc, place) else {
+    if !place.is_open() {
         return status::NOTHING;
-    };
-    let (number, count, answer) = session_calls::lane(&mut state);
+    }
+    let (number, count, answer) = session_calls::lane(place.handle.as_mut());
     *lane = number;
     *sections = count;
-    put(place, state);
     answer
 }
 
 /// Ends the session. Its handle keeps what is left of it, until it is used again or freed.
 #[unsafe(no_mangle)]
-pub extern "C" fn zelamiku_end(alloc: Global, place: &mut Slot) -> u32
+pub extern "C" fn zelamiku_end(place: &mut Slot) -> u32
     // A session that is ended has come back to its heap. The handle keeps the end of the ring by which it came back,
     // until it is opened again or freed.
     ensures told { Answers Ends place.old.handle.state place.new.handle.state result }
 {
-    let Some(mut state) = take(alloc, place) else {
+    if !place.is_open() {
         return status::NOTHING;
-    };
-    let answer = session_calls::end(&mut state);
-    put(place, state);
-    answer
+    }
+    session_calls::end(place.handle.as_mut())
 }

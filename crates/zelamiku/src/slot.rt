@@ -1,5 +1,5 @@
 //! A place for a handle.
-ghost use Rattle.std.specs.Prelude.{◌≡◌, ◌↔◌, None, Some, Option, IsTrue, IsSome, MatchOption, OnErr, OnOk};
+ghost use Rattle.std.specs.Prelude.{◌≡◌, ◌↔◌, None, Some, Option, IsTrue, IsSome, OnErr, OnOk};
 ghost use Rattle.zelamiku.specs.Behind.{behind};
 ghost use Rattle.zelamiku.specs.Ended.{still_behind};
 
@@ -11,34 +11,12 @@ use std::alloc::{AllocError, Global};
 /// A handle, as C keeps it: the pointer, and whether something is behind it.
 #[repr(C)]
 pub struct Slot {
-    handle: Handle,
+    pub(crate) handle: Handle,
     is_open: bool,
     ghost agrees: { IsTrue is_open ↔ IsSome handle.state },
 }
 
 impl Slot {
-    /// Nothing is behind it.
-    pub fn none(alloc: Global) -> Slot
-        // A new handle has nothing behind it.
-        ensures { result.handle.state ≡ None }
-    {
-        Slot {
-            handle: Handle::none(alloc),
-            is_open: false,
-        }
-    }
-
-    /// This is behind it.
-    pub fn of(state: Box<Inner>) -> Slot
-        // What is behind a handle is what was put there.
-        ensures { result.handle.state ≡ Some state.value }
-    {
-        Slot {
-            handle: Handle::of(Loose::of(state)),
-            is_open: true,
-        }
-    }
-
     /// Whether something is behind it.
     pub fn is_open(&self) -> bool
         // A handle is open exactly where something is behind it.
@@ -46,33 +24,19 @@ impl Slot {
     {
         self.is_open
     }
-
-    /// What is behind it, if something is.
-    pub fn into_state(self) -> Option<Box<Inner>>
-        // What is behind a handle is taken out whole, and a handle with nothing behind it gives nothing.
-        ensures { MatchOption result (self.handle.state ≡ None) (λ b. self.handle.state ≡ Some b.value) }
-    {
-        let Slot { handle, is_open } = self;
-        if is_open {
-            return Some(handle.into_loose().into_box());
-        }
-        drop(handle);
-        None
-    }
 }
 
-impl Drop for Slot {
-    fn drop(self) {
-        drop(self.into_state());
-    }
-}
-
-/// What is behind the handle, out of its place.
-pub fn take(alloc: Global, place: &mut Slot) -> Option<Box<Inner>>
-    ensures empty { place.new.handle.state ≡ None }
-    ensures taken { MatchOption result (place.old.handle.state ≡ None) (λ b. place.old.handle.state ≡ Some b.value) }
+/// Lets go of what is behind the handle.
+pub fn let_go(alloc: Global, place: &mut Slot)
+    // A handle that is let go of has nothing behind it.
+    ensures { place.new.handle.state ≡ None }
 {
-    std::mem::replace(place, Slot::none(alloc)).into_state()
+    if !place.is_open {
+        return;
+    }
+    let there = place.handle.take(alloc);
+    place.is_open = false;
+    drop(there.into_box());
 }
 
 /// Whether something is behind the handle, where something is to be opened. What is left there of a session that has ended is let go.
@@ -80,15 +44,14 @@ pub fn is_taken(alloc: Global, place: &mut Slot) -> bool
     ensures still { place.new.handle.state ≡ still_behind place.old.handle.state }
     ensures told { IsTrue result ↔ IsSome place.new.handle.state }
 {
-    let Some(state) = take(alloc, place) else {
-        return false;
-    };
-    if state.has_ended() {
-        drop(state);
+    if !place.is_open() {
         return false;
     }
-    put(place, state);
-    true
+    if !place.handle.as_mut().has_ended() {
+        return true;
+    }
+    let_go(alloc, place);
+    false
 }
 
 // What one thread may hand to another.
@@ -98,12 +61,14 @@ fn sendable<T: Send>(value: T) -> T
     value
 }
 
-/// Puts it behind the handle.
-pub fn put(place: &mut Slot, state: Box<Inner>)
+/// Puts it behind the handle. What was there is let go.
+pub fn put(alloc: Global, place: &mut Slot, state: Box<Inner>)
     // What is behind a handle is what was put there.
     ensures { place.new.handle.state ≡ Some state.value }
 {
-    *place = Slot::of(sendable(state));
+    let_go(alloc, place);
+    place.handle = Handle::of(Loose::of(sendable(state)));
+    place.is_open = true;
 }
 
 /// Puts something new behind the handle, where there is memory for its box.
@@ -112,6 +77,6 @@ pub fn put_new(alloc: Global, place: &mut Slot, content: Open) -> Result<(), All
     ensures err { OnErr result (place.new.handle.state ≡ place.old.handle.state) }
 {
     let state = Inner::boxed(alloc, content)?;
-    put(place, state);
+    put(alloc, place, state);
     Ok(())
 }

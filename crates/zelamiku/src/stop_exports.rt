@@ -2,21 +2,18 @@
 ghost use Rattle.zelamiku.specs.Behind.{Answers};
 ghost use Rattle.zelamiku.specs.StopDoors.{FailsCallAt};
 
-use crate::slot::{Slot, put, take};
+use crate::slot::Slot;
 use crate::{status, stop_calls};
-use std::alloc::Global;
 
 /// The host couldn't make the call of the device that it was told.
 #[unsafe(no_mangle)]
-pub extern "C" fn zelamiku_call_failed(alloc: Global, place: &mut Slot) -> u32
+pub extern "C" fn zelamiku_call_failed(place: &mut Slot) -> u32
     // After a failed write what is behind the handle stays, to be told again. After a failed sync the word of the
     // heap's sessions is written, and each later call of the heap answers `STOPPED`.
     ensures { Answers FailsCallAt place.old.handle.state place.new.handle.state result }
 {
-    let Some(mut state) = take(alloc, place) else {
+    if !place.is_open() {
         return status::NOTHING;
-    };
-    let answer = stop_calls::call_failed(&mut state);
-    put(place, state);
-    answer
+    }
+    stop_calls::call_failed(place.handle.as_mut())
 }
