@@ -416,6 +416,11 @@ proctype Thread(byte i) {
     :: i == 0 -> SECTION(0); SECTION(0)
     :: else -> skip
     fi
+#elif SCRIPT == 11 /* one waits in the set, and nobody notifies it */
+    if
+    :: i == 0 -> enter(i, 0); wait(i, 0); exit(i, 0)
+    :: else -> skip
+    fi
 #else /* one waits for one section after the other, beside one that doesn't wait */
     if
     :: i == 0 -> SECTION(0); await(i); SECTION(0); await(i)
