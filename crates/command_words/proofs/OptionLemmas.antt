@@ -1,5 +1,5 @@
 -- What the text of an option is read as.
-use Rattle.std.proofs.Common.{◌≡◌, ◌↔◌, ℕ, Bool, true, false, ◌&&◌, List, [], Option, None, Some, Result, Ok, Err, option_map, refl, sym, ap, ap₂, ◌∙◌, arith, codes, length, subst}
+use Rattle.std.proofs.Common.{◌≡◌, ◌↔◌, ℕ, Bool, true, false, ◌&&◌, List, [], Option, None, Some, Result, Ok, Err, option_map, refl, sym, ap, ap₂, ◌∙◌, arith, codes, length, map, subst}
 use Rattle.std.specs.Prelude.{IsTrue, not, unwrap_or}
 use Rattle.std.specs.Borrow.{Bor}
 use Rattle.std.specs.Str.Parse.{ParsesBool, ParsesUnsigned, parse_bool_error}
@@ -63,6 +63,15 @@ text_there r s o is e = ap (λ x. unwrap_or x []) (ap (option_map (λ x. x.now))
 
 pub text_missing : (r : Option (Bor (List ℕ))) (o : Option (List ℕ)) → r ≡ None → option_map (λ x. x.now) r ≡ o → [] ≡ unwrap_or o []
 text_missing r o is e = ap (λ x. unwrap_or x []) (ap (option_map (λ x. x.now)) (sym is) ∙ e)
+
+-- texts, and where there are none the empty list
+pub strs_there : (r : Option (Bor (List (Bor (List ℕ))))) (s : Bor (List (Bor (List ℕ)))) (o : Option (List (List ℕ))) → r ≡ Some s
+    → option_map (λ x. map (λ v. v.now) x.now) r ≡ o → map (λ v. v.now) s.now ≡ unwrap_or o []
+strs_there r s o is e = ap (λ x. unwrap_or x []) (ap (option_map (λ x. map (λ v. v.now) x.now)) (sym is) ∙ e)
+
+pub strs_missing : (r : Option (Bor (List (Bor (List ℕ))))) (o : Option (List (List ℕ))) → r ≡ None
+    → option_map (λ x. map (λ v. v.now) x.now) r ≡ o → [] ≡ unwrap_or o []
+strs_missing r o is e = ap (λ x. unwrap_or x []) (ap (option_map (λ x. map (λ v. v.now) x.now)) (sym is) ∙ e)
 
 -- of a command that is plain the third part says that no argument is global
 pub third_is_off : (groups external globals others : Bool) → (groups && (not external && (not globals && others))) ≡ true → globals ≡ false

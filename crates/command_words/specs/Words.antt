@@ -1,5 +1,5 @@
 -- Which words the program takes, and what they ask for (this project's own; read as clap 4 reads them).
-use Rattle.std.specs.Prelude.{◌≡◌, ◌≢◌, ◌↔◌, ◌⊎◌, ℕ, Bool, IsTrue, ◌^◌, ◌<◌, List, [], ◌∷◌, true, codes, pos, Option, None, Some, Result, Ok, Err, option_map, unwrap_or}
+use Rattle.std.specs.Prelude.{◌≡◌, ◌≢◌, ◌↔◌, ◌⊎◌, ℕ, Bool, IsTrue, ◌^◌, ◌<◌, List, [], ◌∷◌, true, false, codes, pos, Option, None, Some, Result, Ok, Err, option_map, unwrap_or}
 use Rattle.std.specs.Str.Parse.{IsNumeral, digits_value, without_leading_plus}
 use Rattle.clap.specs.Simple.{App, Shape, new_app, new_shape, new_rule, subcommand_of, with_rule, with_subcommand}
 use Rattle.clap.specs.Faults.{fault_of}
@@ -7,9 +7,11 @@ use Rattle.clap.specs.Kinds.{HasKind}
 use Rattle.clap.specs.Values.{kind_of}
 use Rattle.clap.specs.declared.error.Error.{Error}
 use Rattle.clap.specs.declared.error.kind.ErrorKind.TheVariants.{ArgumentConflict}
-use Rattle.clap.specs.Walk.{Row, Rule, Text, first_of, one_of}
+use Rattle.clap.specs.Lexer.{usize_max}
+use Rattle.clap.specs.Walk.{Row, Rule, Text, all_of, first_of, one_of}
 use Rattle.clap.specs.declared.builder.action.ArgAction.TheVariants.{SetTrue}
 use Rattle.clap.specs.declared.builder.value_parser.ValueParser.TheVariants.{Signed}
+use Rattle.command_words.specs.declared.words.Asked.{Asked}
 use Rattle.command_words.specs.declared.words.Words.{Words}
 use Rattle.command_words.specs.declared.words.Words.TheVariants as words
 
@@ -84,6 +86,14 @@ last_option = record (new_rule (codes "last")) {
 abbrev pub flag_option : Text → Rule
 flag_option name = record (new_rule name) { long = Some name; action = Some SetTrue }
 
+-- words that are no options, one at least
+abbrev pub names_option : Rule
+names_option = record (new_rule (codes "names")) {
+  range = Some (record { start_inclusive = 1; end_inclusive = usize_max });
+  value_names = 1;
+  required = true;
+}
+
 -- the word `format` with its options, without the last two
 abbrev pub plain_format_words : App
 plain_format_words = with_rule (with_rule (with_rule (with_rule (new_app (codes "format"))
@@ -95,11 +105,21 @@ format_words = with_rule (with_rule plain_format_words sectors_option) (flag_opt
 
 -- the word `show` with its options
 abbrev pub show_words : App
-show_words = with_rule (with_rule (with_rule (with_rule (new_app (codes "show")) (path_option (codes "image"))) (flag_option (codes "dot"))) last_option) (file_option (codes "schema"))
+show_words = with_rule (with_rule (with_rule (with_rule (new_app (codes "show")) (path_option (codes "image")))
+    (flag_option (codes "dot"))) last_option) (file_option (codes "schema"))
 
 -- the word `dump` with its options
 abbrev pub dump_words : App
 dump_words = with_rule (with_rule (new_app (codes "dump")) (path_option (codes "image"))) (file_option (codes "schema"))
+
+-- the words `get` and `set` with their options, and the names behind them
+abbrev pub get_words : App
+get_words = with_rule (with_rule (with_rule (new_app (codes "get")) (path_option (codes "image"))) (file_option (codes "schema")))
+    names_option
+
+abbrev pub set_words : App
+set_words = with_rule (with_rule (with_rule (new_app (codes "set")) (path_option (codes "image"))) (file_option (codes "schema")))
+    names_option
 
 -- the word `recover` with its option
 abbrev pub recover_words : App
@@ -111,11 +131,13 @@ upgrade_words = with_rule (new_app (codes "upgrade")) (path_option (codes "image
 
 -- the word `drive` with its options
 abbrev pub drive_words : App
-drive_words = with_rule (with_rule (with_rule (with_rule (new_app (codes "drive")) workers_option) rounds_option) seconds_option) (file_option (codes "image"))
+drive_words = with_rule (with_rule (with_rule (with_rule (new_app (codes "drive")) workers_option) rounds_option)
+    seconds_option) (file_option (codes "image"))
 
 -- the word `run` with its options
 abbrev pub run_words : App
-run_words = with_rule (with_rule (new_app (codes "run")) (file_option (codes "image"))) (file_option (codes "schema"))
+run_words = with_rule (with_rule (with_rule (new_app (codes "run")) (file_option (codes "image")))
+    (file_option (codes "schema"))) (flag_option (codes "strict"))
 
 -- `heapctl` alone, with a version, and with the word `help` that clap gives
 abbrev pub top : App
@@ -126,7 +148,9 @@ top = record {
 
 -- with all its words
 abbrev pub program : App
-program = with_subcommand (with_subcommand (with_subcommand (with_subcommand (with_subcommand (with_subcommand (with_subcommand top run_words.top) format_words.top) show_words.top) recover_words.top) upgrade_words.top) drive_words.top) dump_words.top
+program = with_subcommand (with_subcommand (with_subcommand (with_subcommand (with_subcommand (with_subcommand
+    (with_subcommand (with_subcommand (with_subcommand top run_words.top) format_words.top) show_words.top) recover_words.top)
+    upgrade_words.top) drive_words.top) dump_words.top) get_words.top) set_words.top
 
 -- the number that an option's text spells, where it spells one that fits
 abbrev pub Reads : (bits : ℕ) → Option Text → ℕ → Type 0
@@ -159,7 +183,8 @@ abbrev pub schema_of : List Row → Text
 schema_of options = unwrap_or (first_of (codes "schema") options) []
 
 -- an image file is to be made, as the options behind the word say
-pub record AsksToFormat (options : List Row) (image schema : Text) (lanes capacity : ℕ) (sectors : Option ℕ) (is_forced : Bool) : Type 0 where
+pub record AsksToFormat (options : List Row) (image schema : Text) (lanes capacity : ℕ) (sectors : Option ℕ)
+    (is_forced : Bool) : Type 0 where
   pub image_is : image ≡ image_of options
   pub schema_is : schema ≡ schema_of options
   pub lanes_are : Reads 8 (one_of (codes "lanes") options) lanes
@@ -181,8 +206,8 @@ pub record AsksToDraw (options : List Row) (image : Text) (last : ℕ) (schema :
   pub schema_is : schema ≡ first_of (codes "schema") options
   pub dot : IsSet (codes "dot") options
 
--- a heap is to be printed, as the options behind the word say
-pub record AsksToDump (options : List Row) (image : Text) (schema : Option Text) : Type 0 where
+-- the heap of an image is to be printed, or fields of it are to be told or set, as the options behind the word say
+pub record AsksByName (options : List Row) (image : Text) (schema : Option Text) : Type 0 where
   pub image_is : image ≡ image_of options
   pub schema_is : schema ≡ first_of (codes "schema") options
 
@@ -194,36 +219,54 @@ pub record AsksToDrive (options : List Row) (workers : ℕ) (rounds seconds : Op
   pub image_is : image ≡ first_of (codes "image") options
 
 -- a script is to be played, as the options behind the word say: in memory, or over an image file
-pub record AsksToPlay (options : List Row) (image schema : Option Text) : Type 0 where
+pub record AsksToPlay (options : List Row) (image schema : Option Text) (is_strict : Bool) : Type 0 where
   pub image_is : image ≡ first_of (codes "image") options
   pub schema_is : schema ≡ first_of (codes "schema") options
+  pub strict_is : IsTrue is_strict ↔ IsSet (codes "strict") options
 
 -- no word of the program's was met
-pub record IsNoWord (found : Option (Text × List Row)) (image schema : Option Text) : Type 0 where
+pub record IsNoWord (found : Option (Text × List Row)) (image schema : Option Text) (is_strict : Bool) : Type 0 where
   pub others : (options : List Row) → (found ≢ Some (codes "format", options))
       × (found ≢ Some (codes "show", options)) × (found ≢ Some (codes "recover", options)) × (found ≢ Some (codes "upgrade", options))
-      × (found ≢ Some (codes "drive", options)) × (found ≢ Some (codes "dump", options)) × (found ≢ Some (codes "run", options))
+      × (found ≢ Some (codes "drive", options)) × (found ≢ Some (codes "dump", options)) × (found ≢ Some (codes "get", options))
+      × (found ≢ Some (codes "set", options)) × (found ≢ Some (codes "run", options))
   pub in_memory : image ≡ None
   pub by_number : schema ≡ None
+  pub to_the_end : is_strict ≡ false
 
 -- the word that was met with its options, if one was, asks for this
 abbrev pub AsksFor : Option (Text × List Row) → Words → Type 0
-AsksFor found (words.Run image schema) = IsNoWord found (option_map (λ path. path.now) image) (option_map (λ path. path.now) schema)
-    ⊎ ((options : List Row) × (found ≡ Some (codes "run", options)) × AsksToPlay options (option_map (λ path. path.now) image) (option_map (λ path. path.now) schema))
+AsksFor found (words.Run image schema is_strict) =
+    IsNoWord found (option_map (λ path. path.now) image) (option_map (λ path. path.now) schema) is_strict
+    ⊎ ((options : List Row) × (found ≡ Some (codes "run", options))
+    × AsksToPlay options (option_map (λ path. path.now) image) (option_map (λ path. path.now) schema) is_strict)
 AsksFor found (words.Format image schema lanes capacity sectors is_forced) =
-    (options : List Row) × (found ≡ Some (codes "format", options)) × AsksToFormat options image.now schema.now lanes capacity sectors is_forced
+    (options : List Row) × (found ≡ Some (codes "format", options))
+    × AsksToFormat options image.now schema.now lanes capacity sectors is_forced
 AsksFor found (words.Show image last schema) =
-    (options : List Row) × (found ≡ Some (codes "show", options)) × AsksToShow options image.now last (option_map (λ path. path.now) schema)
+    (options : List Row) × (found ≡ Some (codes "show", options))
+    × AsksToShow options image.now last (option_map (λ path. path.now) schema)
 AsksFor found (words.Draw image last schema) =
-    (options : List Row) × (found ≡ Some (codes "show", options)) × AsksToDraw options image.now last (option_map (λ path. path.now) schema)
+    (options : List Row) × (found ≡ Some (codes "show", options))
+    × AsksToDraw options image.now last (option_map (λ path. path.now) schema)
 AsksFor found (words.Dump image schema) =
-    (options : List Row) × (found ≡ Some (codes "dump", options)) × AsksToDump options image.now (option_map (λ path. path.now) schema)
+    (options : List Row) × (found ≡ Some (codes "dump", options)) × AsksByName options image.now (option_map (λ path. path.now) schema)
+AsksFor found (words.Get image schema) =
+    (options : List Row) × (found ≡ Some (codes "get", options)) × AsksByName options image.now (option_map (λ path. path.now) schema)
+AsksFor found (words.Set image schema) =
+    (options : List Row) × (found ≡ Some (codes "set", options)) × AsksByName options image.now (option_map (λ path. path.now) schema)
 AsksFor found (words.Recover image) =
     (options : List Row) × (found ≡ Some (codes "recover", options)) × (image.now ≡ image_of options)
 AsksFor found (words.Upgrade image) =
     (options : List Row) × (found ≡ Some (codes "upgrade", options)) × (image.now ≡ image_of options)
 AsksFor found (words.Drive workers rounds seconds image) =
-    (options : List Row) × (found ≡ Some (codes "drive", options)) × AsksToDrive options workers rounds seconds (option_map (λ path. path.now) image)
+    (options : List Row) × (found ≡ Some (codes "drive", options))
+    × AsksToDrive options workers rounds seconds (option_map (λ path. path.now) image)
+
+-- the names of fields that stand behind the word that was met
+abbrev pub names_asked : Option (Text × List Row) → List Text
+names_asked None = []
+names_asked (Some met) = unwrap_or (all_of (codes "names") met.1) []
 
 -- an image file is to be made in the place of its own schema file
 abbrev pub HasOnePath : Words → Type 0
@@ -242,7 +285,7 @@ HasOtherSectors _ = ⊥
 
 -- an option is named that does nothing: names for a script in memory, or what a graph has a use for where none is asked for
 abbrev pub HasIdleOptions : Words → Type 0
-HasIdleOptions (words.Run None (Some schema)) = Unit {0}
+HasIdleOptions (words.Run None (Some schema) is_strict) = Unit {0}
 HasIdleOptions (words.Show image (Some last) schema) = Unit {0}
 HasIdleOptions (words.Show image None (Some schema)) = Unit {0}
 HasIdleOptions _ = ⊥
@@ -260,7 +303,7 @@ pub record SaysBothLengths (texts : List Text) : Type 0 where
   pub rounds : one_of (codes "rounds") options ≢ None
   pub seconds : one_of (codes "seconds") options ≢ None
 
--- the words are those of `format`, with such a number behind `--sectors`
+-- the words are those of `format`, with another number behind `--sectors`
 pub record SaysOtherSectors (texts : List Text) : Type 0 where
   pub options : List Row
   pub found : subcommand_of program texts ≡ Some (codes "format", options)
@@ -286,7 +329,8 @@ pub record DrawsNothing (texts : List Text) : Type 0 where
 abbrev pub SaysIdleOptions : List Text → Type 0
 SaysIdleOptions texts = NamesNoImage texts ⊎ DrawsNothing texts
 
--- clap takes such words, and the program doesn't: they are one file's, say two lengths or other sectors, or name an option that does nothing
+-- clap takes these words, and the program doesn't: they name one file twice, say two lengths or other sectors, or name an
+-- option that does nothing
 abbrev pub ClashesWith : List Text → Type 0
 ClashesWith texts = NamesOneFile texts ⊎ SaysBothLengths texts ⊎ SaysOtherSectors texts ⊎ SaysIdleOptions texts
 
@@ -304,6 +348,6 @@ pub record IsTaken (texts : List Text) (asked : Words) : Type 0 where
   pub busy : HasIdleOptions asked → ⊥
 
 -- such words are taken, and else they are refused; or memory was wanting
-abbrev pub IsAnsweredBy : List Text → Result Words Error → Type 0
-IsAnsweredBy texts (Ok asked) = IsTaken texts asked
+abbrev pub IsAnsweredBy : List Text → Result Asked Error → Type 0
+IsAnsweredBy texts (Ok asked) = IsTaken texts asked.words
 IsAnsweredBy texts (Err answer) = Refuses texts answer

@@ -3,6 +3,7 @@
 //! [`read_words`] tells what the words ask for. Nothing is opened and nothing is printed here.
 #![tactic(auto)]
 
+mod options;
 mod words;
 
-pub use words::{Words, read_words};
+pub use words::{Asked, Words, read_words};

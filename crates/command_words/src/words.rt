@@ -2,13 +2,16 @@
 ghost use Rattle.std.specs.Prelude.{◌≡◌, ◌↔◌, ◌∷◌, [], List, ℕ, codes, false, true, map, option_map, string_bytes, unwrap_or, IfErr, IfOk, IsTrue};
 ghost use Rattle.clap.specs.Simple.{App, app_of, subcommand_of, subcommand_rows_of, with_rule, with_subcommand};
 ghost use Rattle.clap.specs.Values.{kind_of};
-ghost use Rattle.clap.specs.Walk.{Rule, first_of, one_of, rows_of, rule_of};
+ghost use Rattle.clap.specs.Walk.{Rule, all_of, first_of, one_of, rows_of, rule_of};
 ghost use Rattle.clap.specs.Matches.{found_of};
 ghost use Rattle.clap.specs.declared.error.kind.ErrorKind.TheVariants.{ArgumentConflict, OutOfMemory};
-ghost use Rattle.command_words.specs.Words.{AsksFor, HasBothLengths, HasIdleOptions, HasOnePath, HasOtherSectors, IsAnsweredBy, IsSet, LastIs, MayRead, Reads, capacity_option, drive_words, dump_words, file_option, flag_option, format_words, lanes_option, last_option, path_option, plain_format_words, program, recover_words, rounds_option, run_words, seconds_option, sectors_option, show_words, top as top_words, upgrade_words, workers_option};
+ghost use Rattle.command_words.specs.Words.{AsksFor, HasBothLengths, HasIdleOptions, HasOnePath, HasOtherSectors, IsAnsweredBy, IsSet, LastIs, MayRead, Reads, drive_words, dump_words, format_words, get_words, names_asked, plain_format_words, program, recover_words, run_words, set_words, show_words, top as top_words, upgrade_words};
 
+use crate::options::{
+    capacity, file, flag, lanes, last, names, path, rounds, seconds, sectors, workers,
+};
 use clap::error::ErrorKind;
-use clap::{Arg, ArgAction, ArgMatches, Command, Error, value_parser};
+use clap::{Arg, ArgMatches, Command, Error};
 use std::alloc::{AllocError, Global};
 
 /// What the words ask for.
@@ -20,6 +23,8 @@ pub enum Words<'a> {
         image: Option<&'a str>,
         /// The path of the schema file that gives the names of the image's objects and fields; there are numbers where there is none.
         schema: Option<&'a str>,
+        /// Whether the first refused line ends the run.
+        is_strict: bool,
     },
     /// To make an image file for the schema that a schema file declares.
     Format {
@@ -61,6 +66,20 @@ pub enum Words<'a> {
         /// The path of the schema file that gives the names; there are numbers where there is none.
         schema: Option<&'a str>,
     },
+    /// To print the values of fields of an image file.
+    Get {
+        /// The image file's path.
+        image: &'a str,
+        /// The path of the schema file that gives the names; there are numbers where there is none.
+        schema: Option<&'a str>,
+    },
+    /// To set fields of an image file.
+    Set {
+        /// The image file's path.
+        image: &'a str,
+        /// The path of the schema file that gives the names; there are numbers where there is none.
+        schema: Option<&'a str>,
+    },
     /// To recover an image file after a crash.
     Recover {
         /// The image file's path.
@@ -82,6 +101,15 @@ pub enum Words<'a> {
         /// The path of the image file on which they work; in memory where there is none.
         image: Option<&'a str>,
     },
+}
+
+/// What the words ask for, and for which fields.
+#[derive(Drop)]
+pub struct Asked<'a> {
+    /// What they ask for.
+    pub words: Words<'a>,
+    /// The names of fields behind `get`, or what `set` is to assign to them, in their order; none behind the other words.
+    pub names: Vec<&'a str>,
 }
 
 // What stands at the end of the program's help.
@@ -107,128 +135,6 @@ const IDLE_SCHEMA: &str =
     "'--schema' of 'run' names what an image file holds: name the file too, by '--image'";
 
 const IDLE_DOT: &str = "'--last' and '--schema' of 'show' are for a graph: type '--dot' too";
-
-// An option that takes the path of a file, and has to be there.
-fn path<'a>(alloc: Global, name: &'a str, about: &'a str) -> Arg<'a>
-    ensures rule { rule_of result ≡ path_option name.entry.now }
-    ensures own { result.global ≡ false }
-{
-    Arg::new(alloc, name)
-        .long(name)
-        .value_name("FILE")
-        .help(about)
-        .required(true)
-}
-
-fn lanes<'a>(alloc: Global) -> Arg<'a>
-    ensures rule { rule_of result ≡ lanes_option }
-    ensures own { result.global ≡ false }
-{
-    Arg::new(alloc, "lanes")
-        .long("lanes")
-        .value_name("N")
-        .help("The number of threads, 1 to 32")
-        .value_parser(value_parser!(u8).range(1..=32))
-        .default_value("4")
-}
-
-fn capacity<'a>(alloc: Global) -> Arg<'a>
-    ensures rule { rule_of result ≡ capacity_option }
-    ensures own { result.global ≡ false }
-{
-    Arg::new(alloc, "capacity")
-        .long("capacity")
-        .value_name("N")
-        .help("The records that a thread's log holds,\n2000 to 1048576")
-        .value_parser(value_parser!(u32).range(2000..=1_048_576))
-        .default_value("4000")
-}
-
-// An option that takes the path of a file, and may be missing.
-fn file<'a>(alloc: Global, name: &'a str, about: &'a str) -> Arg<'a>
-    ensures rule { rule_of result ≡ file_option name.entry.now }
-    ensures own { result.global ≡ false }
-{
-    Arg::new(alloc, name)
-        .long(name)
-        .value_name("FILE")
-        .help(about)
-}
-
-fn workers<'a>(alloc: Global) -> Arg<'a>
-    ensures rule { rule_of result ≡ workers_option }
-    ensures own { result.global ≡ false }
-{
-    Arg::new(alloc, "workers")
-        .long("workers")
-        .value_name("N")
-        .help("The number of threads, 1 to 32")
-        .value_parser(value_parser!(u8).range(1..=32))
-        .default_value("2")
-}
-
-fn rounds<'a>(alloc: Global) -> Arg<'a>
-    ensures rule { rule_of result ≡ rounds_option }
-    ensures own { result.global ≡ false }
-{
-    Arg::new(alloc, "rounds")
-        .long("rounds")
-        .value_name("N")
-        .help(
-            "The sections that each thread works, 1 to 10000,\nin place of --seconds. 1000 without either",
-        )
-        .value_parser(value_parser!(u32).range(1..=10_000))
-}
-
-fn seconds<'a>(alloc: Global) -> Arg<'a>
-    ensures rule { rule_of result ≡ seconds_option }
-    ensures own { result.global ≡ false }
-{
-    Arg::new(alloc, "seconds")
-        .long("seconds")
-        .value_name("N")
-        .help(
-            "How long the threads work, 1 to 3600 seconds,\nin place of --rounds. In memory, what they write\nis kept",
-        )
-        .value_parser(value_parser!(u32).range(1..=3_600))
-}
-
-fn last<'a>(alloc: Global) -> Arg<'a>
-    ensures rule { rule_of result ≡ last_option }
-    ensures own { result.global ≡ false }
-{
-    Arg::new(alloc, "last")
-        .long("last")
-        .value_name("N")
-        .help(
-            "With --dot: how many sections of each thread are\ndrawn at most, the last ones. 50 without this",
-        )
-        .value_parser(value_parser!(u32).range(1..=1_000_000_000))
-}
-
-// An option that is met or isn't.
-fn flag<'a>(alloc: Global, name: &'a str, about: &'a str) -> Arg<'a>
-    ensures rule { rule_of result ≡ flag_option name.entry.now }
-    ensures own { result.global ≡ false }
-{
-    Arg::new(alloc, name)
-        .long(name)
-        .help(about)
-        .action(ArgAction::SetTrue)
-}
-
-fn sectors<'a>(alloc: Global) -> Arg<'a>
-    ensures rule { rule_of result ≡ sectors_option }
-    ensures own { result.global ≡ false }
-{
-    Arg::new(alloc, "sectors")
-        .long("sectors")
-        .value_name("BYTES")
-        .help(
-            "Keeps the image in two places, for a disk that may\nlose a sector that it was writing at a power\nfailure: the bytes of a sector, 4096. In one place\nwithout this",
-        )
-        .value_parser(value_parser!(u32).range(512..=4096))
-}
 
 // The command with this option more, where there was memory for it.
 fn with_option<'a>(
@@ -272,7 +178,7 @@ fn plain_format<'a>(alloc: Global) -> Result<Command<'a>, AllocError>
         "The image file to make, at another path than the\nschema file",
     );
     let command = Command::new(alloc, "format").about(
-        "Makes an image file for the objects and fields of a schema file. An image\nthat is there is kept beside it, at the path with '~' at its end",
+        "Makes an image file for the objects and fields of a schema file. An\nimage that is there is kept beside it, at the path with '~' at its\nend",
     );
     let command = with_option(Ok(command), image);
     let command = with_option(command, path(alloc, "schema", "The schema file"));
@@ -318,10 +224,48 @@ fn dump<'a>(alloc: Global) -> Result<Command<'a>, AllocError>
         "The schema file of the image, for names. Without\nthis they are o0 and f0, and so on",
     );
     let command = Command::new(alloc, "dump").about(
-        "Prints a schema file whose first values are those that 'recover' gives,\nand leaves the image file as it is: 'format' of it, with more lines at\nits end or none, makes an image with the same heap",
+        "Prints a schema file whose first values are those that 'recover'\ngives, and leaves the image file as it is: 'format' of it, with more\nlines at its end or none, makes an image with the same heap",
     );
     let command = with_option(Ok(command), path(alloc, "image", "The image file to read"));
     with_option(command, schema)
+}
+
+fn get<'a>(alloc: Global) -> Result<Command<'a>, AllocError>
+    ensures { IfOk result (λ command. app_of command ≡ get_words) }
+{
+    let schema = file(
+        alloc,
+        "schema",
+        "The schema file of the image, for names. Without\nthis they are f0, f1 and so on",
+    );
+    let command = Command::new(alloc, "get").about(
+        "Prints the values that 'recover' gives to fields of an image file,\neach as NAME=VALUE, and leaves the file as it is",
+    );
+    let command = with_option(Ok(command), path(alloc, "image", "The image file to read"));
+    let command = with_option(command, schema);
+    with_option(command, names(alloc, "NAME", "The fields, by their names"))
+}
+
+fn set<'a>(alloc: Global) -> Result<Command<'a>, AllocError>
+    ensures { IfOk result (λ command. app_of command ≡ set_words) }
+{
+    let schema = file(
+        alloc,
+        "schema",
+        "The schema file of the image, for names. Without\nthis they are f0, f1 and so on",
+    );
+    let command = Command::new(alloc, "set").about(
+        "Recovers an image file, sets fields of it by a section of their own,\nand prints what 'run' prints of that section's lines, once it is\nacknowledged and the file is replaced",
+    );
+    let command = with_option(
+        Ok(command),
+        path(alloc, "image", "The image file to change"),
+    );
+    let command = with_option(command, schema);
+    with_option(
+        command,
+        names(alloc, "NAME=VALUE", "The fields, and their new values"),
+    )
 }
 
 fn recover<'a>(alloc: Global) -> Result<Command<'a>, AllocError>
@@ -339,7 +283,7 @@ fn upgrade<'a>(alloc: Global) -> Result<Command<'a>, AllocError>
 {
     Command::new(alloc, "upgrade")
         .about(
-            "Makes an image file that an older release left one of this release, in\nplace: recovers it, and prints what was kept and dropped",
+            "Makes an image file that an older release left one of this release,\nin place: recovers it, and prints what was kept and dropped",
         )
         .arg(path(alloc, "image", "The image file to upgrade"))
 }
@@ -353,7 +297,7 @@ fn drive<'a>(alloc: Global) -> Result<Command<'a>, AllocError>
         "The image file on which they work: made where it is\nmissing or empty, and else gone on with. In memory\nwithout this",
     );
     let command = Command::new(alloc, "drive").about(
-        "Lets threads count on one heap, and prints how many sections of each are\nacknowledged, and what they have counted",
+        "Lets threads count on one heap, and prints how many sections of each\nare acknowledged, and what they have counted",
     );
     let command = with_option(Ok(command), workers(alloc));
     let command = with_option(command, rounds(alloc));
@@ -374,10 +318,15 @@ fn run<'a>(alloc: Global) -> Result<Command<'a>, AllocError>
         "schema",
         "With --image: the schema file of the image, for\nnames. Without this they are o0 and f0, and so on",
     );
-    let command = Command::new(alloc, "run").about(
-        "Plays the script on standard input, as no word at all does too. With\n--image it is played over an image file: the file is recovered, what the\nlines leave of it takes its place, and then the report and what they\nprint is printed; where that can't be done, nothing is, and the file\nstays as it was",
+    let strict = flag(
+        alloc,
+        "strict",
+        "Ends at the first refused line, with status 1. An\nimage stays as it was then",
     );
-    with_option(with_option(Ok(command), image), schema)
+    let command = Command::new(alloc, "run").about(
+        "Plays the script on standard input, as no word at all does too. With\n--image it is played over an image file: the file is recovered, what\nthe lines leave of it takes its place, and then the report and what\nthey print is printed; where that can't be done, nothing is, and the\nfile stays as it was",
+    );
+    with_option(with_option(with_option(Ok(command), image), schema), strict)
 }
 
 // `heapctl` alone.
@@ -400,7 +349,9 @@ fn command<'a>(alloc: Global) -> Result<Command<'a>, AllocError>
     let command = with_word(command, recover(alloc));
     let command = with_word(command, upgrade(alloc));
     let command = with_word(command, drive(alloc));
-    with_word(command, dump(alloc))
+    let command = with_word(command, dump(alloc));
+    let command = with_word(command, get(alloc));
+    with_word(command, set(alloc))
 }
 
 /// Reads the words; the program's name comes first.
@@ -410,21 +361,26 @@ fn command<'a>(alloc: Global) -> Result<Command<'a>, AllocError>
 /// be replaced, is an `ArgumentConflict`: paths are compared as they are written. `drive` with both `--rounds` and `--seconds` is one too,
 /// `format` with sectors of other than 4,096 bytes, and an option that does nothing: `--schema` of `run` without `--image`, and `--last`
 /// or `--schema` of `show` without `--dot`.
-pub fn read_words<'a>(alloc: Global, words: &'a [String]) -> Result<Words<'a>, Error>
+pub fn read_words<'a>(alloc: Global, words: &'a [String]) -> Result<Asked<'a>, Error>
     // The program's words are taken exactly where clap's rules take them, no file is named twice, no run has two
-    // lengths, and sectors have 512 or 4,096 bytes. Other words are refused with the kind that those rules give.
+    // lengths, sectors have 4,096 bytes, and each option does something. Other words are refused with the kind that
+    // those rules give.
     ensures exact { IsAnsweredBy (map (λ s. string_bytes s) words.entry.now) result }
     // What is asked for is what the options say.
-    ensures asked { IfOk result (λ asked. AsksFor (subcommand_of program (map (λ s. string_bytes s) words.entry.now)) asked) }
+    ensures asked { IfOk result (λ asked. AsksFor (subcommand_of program (map (λ s. string_bytes s) words.entry.now)) asked.words) }
+    // The names of fields are those that stand behind the word.
+    ensures names { IfOk result (λ asked. map (λ s. s.now) asked.names.items
+        ≡ names_asked (subcommand_of program (map (λ s. string_bytes s) words.entry.now))) }
     ensures none { (name : List ℕ) → map (λ s. string_bytes s) words.entry.now ≡ name ∷ [] → IfErr result (λ e. kind_of e ≡ OutOfMemory) }
     ensures run { (name : List ℕ) → map (λ s. string_bytes s) words.entry.now ≡ name ∷ codes "run" ∷ [] → IfErr result (λ e. kind_of e ≡ OutOfMemory) }
 {
     let command = command(alloc)?;
-    let asked = match command.try_get_matches_from(words) {
+    let (asked, names) = match command.try_get_matches_from(words) {
         Ok(matches) => {
             let asked = asked_by(&matches);
+            let names = names_in(alloc, &matches)?;
             drop(matches);
-            asked
+            (asked, names)
         }
         Err(answer) => return Err(answer),
     };
@@ -440,7 +396,10 @@ pub fn read_words<'a>(alloc: Global, words: &'a [String]) -> Result<Words<'a>, E
     if has_idle_options(&asked) {
         return Err(conflict(alloc, idle_text(&asked))?);
     }
-    Ok(asked)
+    Ok(Asked {
+        words: asked,
+        names,
+    })
 }
 
 // The words ask for an image in the place of its own schema file.
@@ -488,6 +447,7 @@ fn has_idle_options(words: &Words<'_>) -> bool
         Words::Run {
             image: None,
             schema: Some(_),
+            ..
         } => true,
         Words::Show { last: Some(_), .. } => true,
         Words::Show {
@@ -562,15 +522,44 @@ fn asked_by<'a>(matches: &ArgMatches<'a>) -> Words<'a>
             image: text_of(found, "image"),
             schema: found_text(found, "schema"),
         },
+        Some(("get", found)) => Words::Get {
+            image: text_of(found, "image"),
+            schema: found_text(found, "schema"),
+        },
+        Some(("set", found)) => Words::Set {
+            image: text_of(found, "image"),
+            schema: found_text(found, "schema"),
+        },
         Some(("run", found)) => Words::Run {
             image: found_text(found, "image"),
             schema: found_text(found, "schema"),
+            is_strict: is_set(found, "strict"),
         },
         // No words mean that too.
         _ => Words::Run {
             image: None,
             schema: None,
+            is_strict: false,
         },
+    }
+}
+
+// The names of fields that were found behind a word.
+fn names_in<'a>(alloc: Global, matches: &ArgMatches<'a>) -> Result<Vec<&'a str>, AllocError>
+    ensures { IfOk result (λ names. map (λ s. s.now) names.items ≡ names_asked (subcommand_rows_of matches.now)) }
+{
+    match matches.subcommand() {
+        Some((_, found)) => found_names(alloc, found),
+        None => Ok(Vec::new(alloc)),
+    }
+}
+
+fn found_names<'a>(alloc: Global, found: &ArgMatches<'a>) -> Result<Vec<&'a str>, AllocError>
+    ensures { IfOk result (λ names. map (λ s. s.now) names.items ≡ unwrap_or (all_of (codes "names") (rows_of (found_of found.now))) []) }
+{
+    match found.get_strs("names") {
+        Some(names) => names.to_vec(alloc),
+        None => Ok(Vec::new(alloc)),
     }
 }
 

@@ -5,7 +5,7 @@ use Rattle.block_disk.specs.Device.{Device}
 use Rattle.image_file.specs.Images.{IsThere}
 use Rattle.commands.specs.Faults.{HasNoDisk, HasNoImage, RefusesAt}
 use Rattle.commands.specs.declared.fault.WorkFault.{WorkFault}
-use Rattle.commands.specs.declared.fault.WorkFault.TheVariants.{Script, Format, Image, Named, Drive, File, Write}
+use Rattle.commands.specs.declared.fault.WorkFault.TheVariants.{Script, Strict, Values, Set, Format, Image, Named, Drive, File, Write}
 
 -- none was there
 pub none_there : (had : Option (List ℕ)) (vacant : Bool) → IfSome had (λ image. IsTrue vacant ↔ (image ≡ [])) → IsTrue vacant → IsThere [] had
@@ -19,6 +19,9 @@ no_disk workers had has (Format e) none = none
 no_disk workers had has (Drive e) none = elim none [ ]
 no_disk workers had has Write none = elim none [ ]
 no_disk workers had has (Script e) none = elim none [ ]
+no_disk workers had has (Strict e) none = elim none [ ]
+no_disk workers had has (Values e) none = elim none [ ]
+no_disk workers had has (Set e) none = elim none [ ]
 no_disk workers had has (Image e) none = elim none [ ]
 no_disk workers had has (Named e) none = elim none [ ]
 
@@ -29,5 +32,8 @@ no_run device workers had has (Format e) none = none
 no_run device workers had has (Drive e) none = elim none [ ]
 no_run device workers had has Write none = elim none [ ]
 no_run device workers had has (Script e) none = elim none [ ]
+no_run device workers had has (Strict e) none = elim none [ ]
+no_run device workers had has (Values e) none = elim none [ ]
+no_run device workers had has (Set e) none = elim none [ ]
 no_run device workers had has (Image e) none = elim none [ ]
 no_run device workers had has (Named e) none = elim none [ ]

@@ -12,7 +12,7 @@ use Rattle.commands.specs.Faults.{RefusedAt}
 use Rattle.commands.specs.Driving.{DrivesWith}
 use Rattle.commands.specs.Telling.{Drives}
 use Rattle.commands.specs.declared.fault.WorkFault.{WorkFault}
-use Rattle.commands.specs.declared.fault.WorkFault.TheVariants.{Script, Format, Image, Named, Drive, File, Write}
+use Rattle.commands.specs.declared.fault.WorkFault.TheVariants.{Script, Strict, Values, Set, Format, Image, Named, Drive, File, Write}
 
 -- they have worked, and it is told as far as the writer takes it
 pub told : (worked : Driven → Type 0) (refused : WorkFault → Type 0) (driven : Driven) (r : Result (Unit {0}) WorkFault) (old new : Option (List ℕ)) → worked driven
@@ -22,6 +22,9 @@ told worked refused driven (Err Write) old new so all write part = record { driv
 told worked refused driven (Err (Drive e)) old new so all write part = absurd cc
 told worked refused driven (Err (File e)) old new so all write part = absurd cc
 told worked refused driven (Err (Script e)) old new so all write part = absurd cc
+told worked refused driven (Err (Strict e)) old new so all write part = absurd cc
+told worked refused driven (Err (Values e)) old new so all write part = absurd cc
+told worked refused driven (Err (Set e)) old new so all write part = absurd cc
 told worked refused driven (Err (Format e)) old new so all write part = absurd cc
 told worked refused driven (Err (Image e)) old new so all write part = absurd cc
 told worked refused driven (Err (Named e)) old new so all write part = absurd cc
@@ -33,6 +36,9 @@ silent device None workers had has (Drive e) written refused = (refused, Appends
 silent device None workers had has (File e) written refused = elim refused [ ]
 silent device None workers had has Write written refused = elim refused [ ]
 silent device None workers had has (Script e) written refused = elim refused [ ]
+silent device None workers had has (Strict e) written refused = elim refused [ ]
+silent device None workers had has (Values e) written refused = elim refused [ ]
+silent device None workers had has (Set e) written refused = elim refused [ ]
 silent device None workers had has (Format e) written refused = elim refused [ ]
 silent device None workers had has (Image e) written refused = elim refused [ ]
 silent device None workers had has (Named e) written refused = elim refused [ ]
@@ -41,5 +47,8 @@ silent device (Some path) workers had has (File e) written refused = (refused, A
 silent device (Some path) workers had has (Format e) written refused = (refused, Appends-nil written)
 silent device (Some path) workers had has Write written refused = elim refused [ ]
 silent device (Some path) workers had has (Script e) written refused = elim refused [ ]
+silent device (Some path) workers had has (Strict e) written refused = elim refused [ ]
+silent device (Some path) workers had has (Values e) written refused = elim refused [ ]
+silent device (Some path) workers had has (Set e) written refused = elim refused [ ]
 silent device (Some path) workers had has (Image e) written refused = elim refused [ ]
 silent device (Some path) workers had has (Named e) written refused = elim refused [ ]

@@ -1,5 +1,5 @@
 -- What each of the program's words does (docs/SCRIPTS.md).
-use Rattle.std.specs.Prelude.{◌≡◌, ◌≢◌, ℕ, Bool, not, List, [], Option, None, Some, Result, Ok, Err}
+use Rattle.std.specs.Prelude.{◌≡◌, ◌≢◌, ℕ, Bool, true, false, not, List, [], Option, None, Some, Result, Ok, Err}
 use Rattle.std.specs.Borrow.{Bor}
 use Rattle.block_disk.specs.Device.{Device}
 use Rattle.sector_disk.specs.declared.size.SectorSize.{SectorSize}
@@ -27,9 +27,16 @@ use Rattle.guards.specs.Schema.{Declarations}
 use Rattle.image_schema.specs.Dumping.{dump_text}
 use Rattle.image_file.specs.Naming.{TellsNamed, TellsLessNamed}
 use Rattle.image_file.specs.Telling.{MayBeRefusedBy, Tells, TellsLess, TellsLessOfVersions}
+use Rattle.image_scripts.specs.Assigning.{SetsAt}
 use Rattle.image_scripts.specs.Running.{RunsAt}
+use Rattle.image_scripts.specs.Strict.{EndsStrictly}
+use Rattle.image_scripts.specs.Values.{GetsBy}
 use Rattle.image_scripts.specs.declared.error.RunFault.{RunFault}
 use Rattle.image_scripts.specs.declared.error.RunFault.TheVariants as runs
+use Rattle.image_scripts.specs.declared.error.SetFault.{SetFault}
+use Rattle.image_scripts.specs.declared.error.StrictFault.{StrictFault}
+use Rattle.image_scripts.specs.declared.error.StrictFault.TheVariants as strict
+use Rattle.image_scripts.specs.declared.error.ValueFault.{ValueFault}
 use Rattle.commands.specs.declared.fault.WorkFault.{WorkFault}
 use Rattle.commands.specs.declared.fault.WorkFault.TheVariants as fault
 use Rattle.commands.specs.Driving.{DrivesWith}
@@ -46,7 +53,23 @@ abbrev pub told_of_run : Result (Unit {0}) RunFault → Result (Unit {0}) WorkFa
 told_of_run (Ok done) = Ok done
 told_of_run (Err (runs.Named error)) = Err (fault.Named error)
 told_of_run (Err (runs.Script error)) = Err (fault.Script error)
+told_of_run (Err (runs.Refused line why)) = Err (fault.Strict (strict.Refused line why))
 told_of_run (Err runs.Write) = Err fault.Write
+
+-- how a strict run ended
+abbrev pub told_of_strict : Result (Unit {0}) StrictFault → Result (Unit {0}) WorkFault
+told_of_strict (Ok done) = Ok done
+told_of_strict (Err error) = Err (fault.Strict error)
+
+-- how telling of values ended
+abbrev pub told_of_values : Result (Unit {0}) ValueFault → Result (Unit {0}) WorkFault
+told_of_values (Ok done) = Ok done
+told_of_values (Err error) = Err (fault.Values error)
+
+-- how setting fields ended
+abbrev pub told_of_set : Result (Unit {0}) SetFault → Result (Unit {0}) WorkFault
+told_of_set (Ok done) = Ok done
+told_of_set (Err error) = Err (fault.Set error)
 
 -- how the making of an image file ended
 abbrev pub told_of_format : Result (Unit {0}) FormatError → Result (Unit {0}) WorkFault
@@ -66,19 +89,44 @@ told_of_named (Err error) = Err (fault.Named error)
 -- the script that was read is played, and stops where it says so
 abbrev pub PlaysScript : Result (Unit {0}) WorkFault → (read unread written now : Option (List ℕ)) → Type 0
 PlaysScript (Ok done) read unread written now = OfScript read unread (λ lines ending. Ends lines ending (Ok done) written now)
-PlaysScript (Err (fault.Script error)) read unread written now = OfScript read unread (λ lines ending. Ends lines ending (Err error) written now)
+PlaysScript (Err (fault.Script error)) read unread written now =
+    OfScript read unread (λ lines ending. Ends lines ending (Err error) written now)
 PlaysScript (Err _) read unread written now = ⊥
 
+-- it is played strictly, and stops at the first line that is refused too
+abbrev pub PlaysStrictly : Result (Unit {0}) WorkFault → (read unread written now : Option (List ℕ)) → Type 0
+PlaysStrictly result read unread written now = (r : Result (Unit {0}) StrictFault) × (result ≡ told_of_strict r)
+    × OfScript read unread (λ lines ending. EndsStrictly lines ending r written now)
+
+-- it is played in memory, strictly or not
+abbrev pub PlaysInMemory : (is_strict : Bool) → Result (Unit {0}) WorkFault → (read unread written now : Option (List ℕ)) → Type 0
+PlaysInMemory true = PlaysStrictly
+PlaysInMemory false = PlaysScript
+
 -- it is played over the image at a path, by the names of the schema file where one is named
-abbrev pub PlaysOn : {P : Type 0} (schema : Option P) → Result (Unit {0}) WorkFault → (had has read unread written now : Option (List ℕ)) → Type 0
-PlaysOn schema result had has read unread written now =
-    (r : Result (Unit {0}) RunFault) × (result ≡ told_of_run r) × RunsAt schema r had has read unread written now
+abbrev pub PlaysOn : {P : Type 0} (schema : Option P) (is_strict : Bool) → Result (Unit {0}) WorkFault
+    → (had has read unread written now : Option (List ℕ)) → Type 0
+PlaysOn schema is_strict result had has read unread written now =
+    (r : Result (Unit {0}) RunFault) × (result ≡ told_of_run r) × RunsAt schema is_strict r had has read unread written now
 
 -- it is played over an image where a path is named, and else in memory
-abbrev pub PlaysAt : {P : Type 0} (image : Option (Bor (List ℕ))) (schema : Option P) → Result (Unit {0}) WorkFault → (had has : List ℕ → Option (List ℕ))
-    → (read unread written now : Option (List ℕ)) → Type 0
-PlaysAt None schema result had has read unread written now = PlaysScript result read unread written now
-PlaysAt (Some path) schema result had has read unread written now = PlaysOn schema result (had path.now) (has path.now) read unread written now
+abbrev pub PlaysAt : {P : Type 0} (image : Option (Bor (List ℕ))) (schema : Option P) (is_strict : Bool) → Result (Unit {0}) WorkFault
+    → (had has : List ℕ → Option (List ℕ)) → (read unread written now : Option (List ℕ)) → Type 0
+PlaysAt None schema is_strict result had has read unread written now = PlaysInMemory is_strict result read unread written now
+PlaysAt (Some path) schema is_strict result had has read unread written now =
+    PlaysOn schema is_strict result (had path.now) (has path.now) read unread written now
+
+-- the values of these fields of an image are told
+abbrev pub Gets : {P : Type 0} (schema : Option P) (names : List (Bor (List ℕ))) → Result (Unit {0}) WorkFault
+    → (had has written now : Option (List ℕ)) → Type 0
+Gets schema names result had has written now =
+    (r : Result (Unit {0}) ValueFault) × (result ≡ told_of_values r) × GetsBy schema names r had has written now
+
+-- fields of an image are set, as these words assign
+abbrev pub Sets : {P : Type 0} (schema : Option P) (texts : List (Bor (List ℕ))) → Result (Unit {0}) WorkFault
+    → (had has written now : Option (List ℕ)) → Type 0
+Sets schema texts result had has written now =
+    (r : Result (Unit {0}) SetFault) × (result ≡ told_of_set r) × SetsAt schema texts r had has written now
 
 -- how the image lies that words ask for: in two places where they name sectors, of which they take one size
 abbrev pub sectors_asked : Option ℕ → Option SectorSize
@@ -87,17 +135,20 @@ sectors_asked (Some bytes) = Some Bytes4096
 
 -- the image that they ask for
 abbrev pub asked_of : (lanes capacity : ℕ) (sectors : Option ℕ) (is_forced : Bool) → NewImage
-asked_of lanes capacity sectors is_forced = record { lanes = lanes; capacity = capacity; sectors = sectors_asked sectors; is_kept = not is_forced }
+asked_of lanes capacity sectors is_forced =
+    record { lanes = lanes; capacity = capacity; sectors = sectors_asked sectors; is_kept = not is_forced }
 
 -- why no such image is made, or its size isn't told; what is there then, and what was written
-pub record IsNotFormatted (asked : NewImage) (had has : Option (List ℕ)) (error : FormatError) (written now : Option (List ℕ)) : Type 0 where
+pub record IsNotFormatted (asked : NewImage) (had has : Option (List ℕ)) (error : FormatError)
+    (written now : Option (List ℕ)) : Type 0 where
   pub left : MayBeMade asked had has
   pub numbers : MayBlameNumbers asked.lanes asked.capacity error
   pub silent : IsSilent error → Appends written now []
   pub part : PrintsLess asked.lanes asked.capacity written now
 
 -- such an image is there now, and its size is told
-abbrev pub Formats : (asked : NewImage) → Result (Unit {0}) WorkFault → (had has : Option (List ℕ)) (lies : Option (Option SectorSize)) (written now : Option (List ℕ)) → Type 0
+abbrev pub Formats : (asked : NewImage) → Result (Unit {0}) WorkFault → (had has : Option (List ℕ)) (lies : Option (Option SectorSize))
+    (written now : Option (List ℕ)) → Type 0
 Formats asked (Ok done) had has lies written now = MakesAt asked has lies written now
 Formats asked (Err (fault.Format error)) had has lies written now = IsNotFormatted asked had has error written now
 Formats asked (Err _) had has lies written now = ⊥
@@ -116,13 +167,16 @@ TellsOf text (Err (fault.Image error)) written now = TellsLess text written now 
 TellsOf text (Err _) written now = ⊥
 
 -- this text of a study of an image is written, by the names of the schema file where one is named
-abbrev pub TellsOfNamed : {P : Type 0} (text : Option Declarations → Study → List ℕ) (path : Option P) → Result (Unit {0}) WorkFault → (written now : Option (List ℕ)) → Type 0
+abbrev pub TellsOfNamed : {P : Type 0} (text : Option Declarations → Study → List ℕ) (path : Option P) → Result (Unit {0}) WorkFault
+    → (written now : Option (List ℕ)) → Type 0
 TellsOfNamed text path (Ok done) written now = TellsNamed text path written now
-TellsOfNamed text path (Err (fault.Named error)) written now = TellsLessNamed text path written now × IsSilentNamed error written now
+TellsOfNamed text path (Err (fault.Named error)) written now =
+    TellsLessNamed text path written now × IsSilentNamed error written now
 TellsOfNamed text path (Err _) written now = ⊥
 
 -- why the image at a path isn't recovered, or isn't told of; what is there then, and what was written
-pub record IsNotRecovered (versions : Versions) (had has : Option (List ℕ)) (error : ImageFault) (written now : Option (List ℕ)) : Type 0 where
+pub record IsNotRecovered (versions : Versions) (had has : Option (List ℕ)) (error : ImageFault)
+    (written now : Option (List ℕ)) : Type 0 where
   pub kept : error ≢ images.Image Fault → Stays had has
   pub part : TellsLessOfVersions versions written now
   pub silent : IsSilentImage error written now
@@ -134,18 +188,29 @@ Recovers versions (Ok done) had has written now = RecoversAt versions had has wr
 Recovers versions (Err (fault.Image error)) had has written now = IsNotRecovered versions had has error written now
 Recovers versions (Err _) had has written now = ⊥
 
--- What the words ask for is done, with this result: by the images that were there before and are now and how they lie, by what the reader had
--- before and has now, and by what was written before and is now. Who is asked for no script reads none
-abbrev pub Obeys : {D : Type 0} (device : D → Device) → Words → Result (Unit {0}) WorkFault → (had has : List ℕ → Option (List ℕ)) (lies : List ℕ → Option (Option SectorSize))
+-- What the words ask for is done, with this result: by the images that were there before and are now and how they lie, by what
+-- the reader had before and has now, and by what was written before and is now. Who is asked for no script reads none
+abbrev pub Obeys : {D : Type 0} (device : D → Device) → Words → (names : List (Bor (List ℕ))) → Result (Unit {0}) WorkFault
+    → (had has : List ℕ → Option (List ℕ)) (lies : List ℕ → Option (Option SectorSize))
     → (read unread written now : Option (List ℕ)) → Type 0
-Obeys device (words.Run image schema) result had has lies read unread written now = PlaysAt image schema result had has read unread written now
-Obeys device (words.Format image schema lanes capacity sectors is_forced) result had has lies read unread written now =
-    (unread ≡ read) × Formats (asked_of lanes capacity sectors is_forced) result (had image.now) (has image.now) (lies image.now) written now
-Obeys device (words.Show image last schema) result had has lies read unread written now = (unread ≡ read) × TellsOf study_text result written now
-Obeys device (words.Draw image last schema) result had has lies read unread written now =
+Obeys device (words.Run image schema is_strict) names result had has lies read unread written now =
+    PlaysAt image schema is_strict result had has read unread written now
+Obeys device (words.Get image schema) names result had has lies read unread written now =
+    (unread ≡ read) × Gets schema names result (had image.now) (has image.now) written now
+Obeys device (words.Set image schema) names result had has lies read unread written now =
+    (unread ≡ read) × Sets schema names result (had image.now) (has image.now) written now
+Obeys device (words.Format image schema lanes capacity sectors is_forced) names result had has lies read unread written now =
+    (unread ≡ read)
+    × Formats (asked_of lanes capacity sectors is_forced) result (had image.now) (has image.now) (lies image.now) written now
+Obeys device (words.Show image last schema) names result had has lies read unread written now =
+    (unread ≡ read) × TellsOf study_text result written now
+Obeys device (words.Draw image last schema) names result had has lies read unread written now =
     (unread ≡ read) × TellsOfNamed (λ given s. picture_text given last s) schema result written now
-Obeys device (words.Dump image schema) result had has lies read unread written now = (unread ≡ read) × TellsOfNamed dump_text schema result written now
-Obeys device (words.Recover image) result had has lies read unread written now = (unread ≡ read) × Recovers Current result (had image.now) (has image.now) written now
-Obeys device (words.Upgrade image) result had has lies read unread written now = (unread ≡ read) × Recovers Both result (had image.now) (has image.now) written now
-Obeys device (words.Drive workers rounds seconds image) result had has lies read unread written now =
+Obeys device (words.Dump image schema) names result had has lies read unread written now =
+    (unread ≡ read) × TellsOfNamed dump_text schema result written now
+Obeys device (words.Recover image) names result had has lies read unread written now =
+    (unread ≡ read) × Recovers Current result (had image.now) (has image.now) written now
+Obeys device (words.Upgrade image) names result had has lies read unread written now =
+    (unread ≡ read) × Recovers Both result (had image.now) (has image.now) written now
+Obeys device (words.Drive workers rounds seconds image) names result had has lies read unread written now =
     (unread ≡ read) × DrivesWith device image workers had has result written now

@@ -8,6 +8,14 @@ use Rattle.image_file.specs.declared.error.ImageFault.{ImageFault}
 use Rattle.image_file.specs.declared.error.ImageFault.TheVariants as images
 use Rattle.image_file.specs.declared.error.NamedFault.{NamedFault}
 use Rattle.image_file.specs.declared.error.NamedFault.TheVariants as named
+use Rattle.image_scripts.specs.declared.error.RunFault.{RunFault}
+use Rattle.image_scripts.specs.declared.error.RunFault.TheVariants as runs
+use Rattle.image_scripts.specs.declared.error.SetFault.{SetFault}
+use Rattle.image_scripts.specs.declared.error.SetFault.TheVariants as sets
+use Rattle.image_scripts.specs.declared.error.StrictFault.{StrictFault}
+use Rattle.image_scripts.specs.declared.error.StrictFault.TheVariants as strict
+use Rattle.image_scripts.specs.declared.error.ValueFault.{ValueFault}
+use Rattle.image_scripts.specs.declared.error.ValueFault.TheVariants as values
 use Rattle.commands.specs.declared.fault.WorkFault.{WorkFault}
 use Rattle.commands.specs.declared.fault.WorkFault.TheVariants as fault
 use Rattle.script_lines.specs.declared.error.ScriptErrorKind.{ScriptErrorKind}
@@ -39,6 +47,31 @@ status_for_named (named.Image fault) = status_for_image fault
 status_for_named (named.Schema fault) = 2
 status_for_named named.OtherSchema = 1
 
+-- where a script wasn't played over an image file, or fields weren't set by lines of their own
+abbrev pub status_for_run : RunFault → ℕ
+status_for_run (runs.Named fault) = status_for_named fault
+status_for_run (runs.Script error) = status_for error.kind
+status_for_run (runs.Refused line why) = 1
+status_for_run runs.Write = 1
+
+-- where a strict script stopped: 1 at the first refused line
+abbrev pub status_for_strict : StrictFault → ℕ
+status_for_strict (strict.Script error) = status_for error.kind
+status_for_strict (strict.Refused line why) = 1
+
+-- where values weren't told, or fields not set: 2 for what the words have
+abbrev pub status_for_values : ValueFault → ℕ
+status_for_values (values.Named fault) = status_for_named fault
+status_for_values (values.Unknown place) = 2
+status_for_values values.Write = 1
+
+abbrev pub status_for_set : SetFault → ℕ
+status_for_set (sets.Word place) = 2
+status_for_set (sets.Unknown place) = 2
+status_for_set (sets.Transient place) = 2
+status_for_set sets.OtherHeap = 1
+status_for_set (sets.Run fault) = status_for_run fault
+
 -- where an image file isn't had
 abbrev pub status_for_file : FileFault → ℕ
 status_for_file files.InUse = 3
@@ -47,6 +80,9 @@ status_for_file _ = 1
 -- where what the words ask for wasn't done
 abbrev pub status_for_fault : WorkFault → ℕ
 status_for_fault (fault.Script error) = status_for error.kind
+status_for_fault (fault.Strict error) = status_for_strict error
+status_for_fault (fault.Values error) = status_for_values error
+status_for_fault (fault.Set error) = status_for_set error
 status_for_fault (fault.Format error) = status_for_format error
 status_for_fault (fault.Image error) = status_for_image error
 status_for_fault (fault.Named error) = status_for_named error

@@ -66,7 +66,8 @@ pub record IsPartlyTold (worked : Driven → Type 0) (old new : Option (List ℕ
   pub written : AppendsPart old new (driven_text driven)
 
 -- what is written, by how the run ended: where the workers haven't worked it is refused so, and nothing is written
-abbrev pub Drives : (worked : Driven → Type 0) (refused : WorkFault → Type 0) → Result (Unit {0}) WorkFault → (old new : Option (List ℕ)) → Type 0
+abbrev pub Drives : (worked : Driven → Type 0) (refused : WorkFault → Type 0) → Result (Unit {0}) WorkFault
+    → (old new : Option (List ℕ)) → Type 0
 Drives worked refused (Ok done) old new = IsTold worked old new
 Drives worked refused (Err Write) old new = IsPartlyTold worked old new
 Drives worked refused (Err (Drive e)) old new = refused (Drive e) × Appends old new []

@@ -4,12 +4,16 @@
 
 use crate::causes::{Path, is_wrong_path, tell, tell_cause};
 use crate::fault::WorkFault;
-use crate::refused::{tell_refused_image, tell_refused_schema, tell_stopped_script};
+use crate::refused::{
+    tell_refused_image, tell_refused_line, tell_refused_schema, tell_stopped_script,
+};
+use crate::values::{tell_other_heap, tell_transient, tell_unknown, tell_wrong_word};
 use command_words::Words;
 use drive::DriveError;
 use file_disk::BackingFile;
 use image::{Layout, read_header};
 use image_file::{FileFault, FormatError, ImageFault, KEPT, NamedFault, Place, Trouble};
+use image_scripts::{RunFault, SetFault, StrictFault, ValueFault};
 use recover::RecoverError;
 use sector_file::ImageDisk;
 use std::alloc::Global;
@@ -26,32 +30,39 @@ pub fn is_left_by_reader(trouble: &Trouble) -> bool {
 }
 
 /// Tells on standard error, behind the fault's first line, which file it is about, what the system says, and what mends it. A line that
-/// can't be written is left out.
-pub fn explain<F, R>(rt: &R, words: &Words<'_>, fault: &WorkFault, trouble: &Trouble)
+/// can't be written is left out. `names` are those that the words name beside the files.
+pub fn explain<F, R>(
+    rt: &R,
+    words: &Words<'_>,
+    names: &[&str],
+    fault: &WorkFault,
+    trouble: &Trouble,
+)
 where
     F: BackingFile + Read + Drop,
     R: Files<File = F> + Eprint + AllocGlobal,
 {
     let image = image_of(words);
     match fault {
-        WorkFault::Script(error) => tell_stopped_script(rt, error, trouble),
-        WorkFault::Format(FormatError::Schema(refused))
-        | WorkFault::Named(NamedFault::Schema(refused)) => {
+        WorkFault::Script(error) | WorkFault::Strict(StrictFault::Script(error)) => {
+            tell_stopped_script(rt, error, trouble);
+        }
+        WorkFault::Strict(StrictFault::Refused(_, why)) => tell_refused_line(rt, *why),
+        WorkFault::Values(ValueFault::Unknown(place)) => tell_unknown(rt, image, names, *place),
+        WorkFault::Values(ValueFault::Named(fault)) | WorkFault::Named(fault) => {
+            explain_named(rt, words, fault, trouble);
+        }
+        WorkFault::Set(fault) => explain_set(rt, words, names, fault, trouble),
+        WorkFault::Format(FormatError::Schema(refused)) => {
             tell_refused_schema(rt, schema_of(words), refused);
         }
-        WorkFault::Named(NamedFault::OtherSchema) => tell_other_schema(rt, words, image),
         WorkFault::Image(ImageFault::InUse)
-        | WorkFault::Named(NamedFault::Image(ImageFault::InUse))
         | WorkFault::Format(FormatError::InUse)
-        | WorkFault::File(FileFault::InUse) => {
-            tell(rt, image, "another process has it; wait until it ends");
-        }
+        | WorkFault::File(FileFault::InUse) => tell_in_use(rt, image),
         WorkFault::Format(FormatError::NotImage) | WorkFault::File(FileFault::NotImage) => {
             tell_not_image(rt, image);
         }
-        WorkFault::Image(ImageFault::Image(why))
-        | WorkFault::Named(NamedFault::Image(ImageFault::Image(why)))
-        | WorkFault::Drive(DriveError::Recover(why)) => {
+        WorkFault::Image(ImageFault::Image(why)) | WorkFault::Drive(DriveError::Recover(why)) => {
             explain_refused(rt, words, image, why, trouble);
         }
         WorkFault::Drive(DriveError::OtherSchema) => tell_other(rt, words, image),
@@ -86,17 +97,82 @@ pub fn is_something_there<R: Files>(rt: &R, words: &Words<'_>) -> bool {
     }
 }
 
+// Fields that aren't set.
+fn explain_set<F, R>(rt: &R, words: &Words<'_>, names: &[&str], fault: &SetFault, trouble: &Trouble)
+where
+    F: BackingFile + Read + Drop,
+    R: Files<File = F> + Eprint + AllocGlobal,
+{
+    let image = image_of(words);
+    match fault {
+        SetFault::Word(place) => tell_wrong_word(rt, names, *place),
+        SetFault::Unknown(place) => tell_unknown(rt, image, names, *place),
+        SetFault::Transient(place) => tell_transient(rt, image, names, *place),
+        SetFault::OtherHeap => tell_other_heap(rt, image),
+        SetFault::Run(RunFault::Named(fault)) => explain_named(rt, words, fault, trouble),
+        SetFault::Run(RunFault::Refused(_, why)) => tell_refused_line(rt, *why),
+        SetFault::Run(_) => explain_call(rt, words, trouble),
+    }
+}
+
+// An image or a schema file that is refused, or that can't be had.
+fn explain_named<F, R>(rt: &R, words: &Words<'_>, fault: &NamedFault, trouble: &Trouble)
+where
+    F: BackingFile + Read + Drop,
+    R: Files<File = F> + Eprint + AllocGlobal,
+{
+    let image = image_of(words);
+    match fault {
+        NamedFault::Schema(refused) => tell_refused_schema(rt, schema_of(words), refused),
+        NamedFault::OtherSchema => tell_other_schema(rt, words, image),
+        NamedFault::Image(ImageFault::InUse) => tell_in_use(rt, image),
+        NamedFault::Image(ImageFault::Image(why)) => {
+            explain_refused(rt, words, image, why, trouble);
+        }
+    }
+}
+
+fn tell_in_use<R: Eprint>(rt: &R, image: &str) {
+    tell(rt, image, "another process has it; wait until it ends");
+}
+
 // An image that is refused, or that can't be had.
-fn explain_refused<R: Files + Eprint>(
+fn explain_refused<F, R>(
     rt: &R,
     words: &Words<'_>,
     image: &str,
     why: &RecoverError,
     trouble: &Trouble,
-) {
+)
+where
+    F: BackingFile + Read + Drop,
+    R: Files<File = F> + Eprint + AllocGlobal,
+{
     match why {
         RecoverError::Fault | RecoverError::NoMemory => explain_call(rt, words, trouble),
+        RecoverError::NoControl
+        | RecoverError::BadControl
+        | RecoverError::BadRecord { .. }
+        | RecoverError::IllegalLog { .. } => {
+            tell_refused_image(rt, image, why);
+            tell_header(rt, image);
+        }
         _ => tell_refused_image(rt, image, why),
+    }
+}
+
+// Tells what the header of an image says, which is refused for what stands behind it.
+fn tell_header<F, R>(rt: &R, image: &str)
+where
+    F: BackingFile + Read + Drop,
+    R: Files<File = F> + Eprint + AllocGlobal,
+{
+    if let Some(layout) = layout_of(rt, rt.alloc(), image) {
+        let (lanes, capacity) = (layout.lanes, layout.capacity);
+        let (objects, fields) = (layout.objects, layout.fields);
+        let _ = eprintln!(rt;
+            "heapctl: {image}: its header can be read: {lanes} lanes of {capacity} records, {objects} objects and {fields} fields"
+        );
     }
 }
 
@@ -134,7 +210,9 @@ fn tell_other_schema<R: Eprint>(rt: &R, words: &Words<'_>, image: &str) {
 // The file that the words name as their image; none in memory.
 fn image_of<'a>(words: &Words<'a>) -> &'a str {
     match words {
-        Words::Format { image, .. }
+        Words::Get { image, .. }
+        | Words::Set { image, .. }
+        | Words::Format { image, .. }
         | Words::Show { image, .. }
         | Words::Draw { image, .. }
         | Words::Dump { image, .. }
@@ -148,9 +226,11 @@ fn image_of<'a>(words: &Words<'a>) -> &'a str {
 fn schema_of<'a>(words: &Words<'a>) -> &'a str {
     match words {
         Words::Format { schema, .. } => *schema,
-        Words::Draw { schema, .. } | Words::Dump { schema, .. } | Words::Run { schema, .. } => {
-            schema.unwrap_or("")
-        }
+        Words::Draw { schema, .. }
+        | Words::Dump { schema, .. }
+        | Words::Get { schema, .. }
+        | Words::Set { schema, .. }
+        | Words::Run { schema, .. } => schema.unwrap_or(""),
         _ => "",
     }
 }

@@ -1,6 +1,7 @@
 //! Why the program doesn't do what its words ask for.
 use drive::DriveError;
 use image_file::{FileFault, FormatError, ImageFault, NamedFault};
+use image_scripts::{SetFault, StrictFault, ValueFault};
 use script_lines::ScriptError;
 use thiserror::Error;
 
@@ -10,6 +11,15 @@ pub enum WorkFault {
     /// The script stopped. An image file is as it was.
     #[error("{0}")]
     Script(ScriptError),
+    /// A strict script stopped. An image file is as it was.
+    #[error("{0}")]
+    Strict(StrictFault),
+    /// The values of fields of an image file were not told.
+    #[error("{0}")]
+    Values(ValueFault),
+    /// Fields of an image file were not set, or what that prints was not written.
+    #[error("{0}")]
+    Set(SetFault),
     /// No image file was made.
     #[error("{0}")]
     Format(FormatError),

@@ -16,6 +16,7 @@ mod progress;
 mod refused;
 mod status;
 mod telling;
+mod values;
 
 pub use driving::drive;
 pub use explaining::{explain, is_left_by_reader, is_something_there, tell_kept};

@@ -1,6 +1,6 @@
 //! What the program's words do.
 ghost use Rattle.std.specs.Prelude.{◌≡◌};
-ghost use Rattle.commands.specs.Obeying.{Obeys, PlaysAt, sectors_asked, told_of_format, told_of_image, told_of_named, told_of_run, told_of_script};
+ghost use Rattle.commands.specs.Obeying.{Obeys, PlaysAt, PlaysInMemory, sectors_asked, told_of_format, told_of_image, told_of_named, told_of_run, told_of_script, told_of_set, told_of_strict, told_of_values};
 
 use crate::driving::drive;
 use crate::fault::WorkFault;
@@ -12,11 +12,14 @@ use image_file::{
     FormatError, ImageFault, Images, NamedFault, NewImage, Trouble, draw_named_file, dump_file,
     format_at, recover_at, show_file,
 };
-use image_scripts::{RunFault, run_at};
+use image_scripts::{
+    RunFault, SetFault, StrictFault, ValueFault, get_at, run_at, run_strictly, set_at,
+};
 use recover::Versions;
 use script_lines::ScriptError;
 use scripts::run_script;
 use sector_disk::SectorSize;
+use std::alloc::Global;
 use std::io::{Read, Write};
 use std::rt::{Clock, Files};
 use std::sync::Wait;
@@ -24,7 +27,8 @@ use std::thread::Threads;
 
 /// Does what the words ask for: plays the script that `reader` has, in memory or over an image, works on an image, or lets workers work,
 /// and writes what that prints. Images are those of `images`; one that is only told of, and a schema file, is read of `rt`.
-/// `is_telling`: how far workers are is told on standard error, which is a terminal. What the system says of a call on a file that fails is
+/// `names` are those of the fields that are told, or what is assigned to them. `is_telling`: how far workers are is told on standard error,
+/// which is a terminal. What the system says of a call on a file that fails is
 /// noted as trouble.
 pub fn obey<D, P, F, R, S, W>(
     rt: &R,
@@ -32,6 +36,7 @@ pub fn obey<D, P, F, R, S, W>(
     is_telling: bool,
     trouble: &Trouble,
     words: Words<'_>,
+    names: &[&str],
     reader: &mut S,
     writer: &mut W,
 ) -> Result<(), WorkFault>
@@ -42,15 +47,27 @@ where
     R: Files<File = F> + AllocGlobal + Clock + Eprint + Threads + Wait + Sync,
     S: Read,
     W: Write,
-    // Each word does what it asks for. What is written is that word's output, and a refusal writes nothing, or a
-    // beginning of the text after a fault.
-    ensures { Obeys D.device words.entry result (P.holds images.old) (P.holds images.new)
+    // Each word does what it asks for, on the image at the path that it names. What is written is that word's output, of
+    // `show` and `dump` the text of some image, and a refusal writes nothing, or a beginning of the text after a fault.
+    ensures { Obeys D.device words.entry names.now result (P.holds images.old) (P.holds images.new)
         (P.lies images.new) (S.remaining reader.old) (S.remaining reader.new)
         (W.contents writer.old) (W.contents writer.new) }
 {
     let alloc = rt.alloc();
     match words {
-        Words::Run { image, schema } => { play(rt, images, trouble, image, schema, reader, writer) }
+        Words::Run {
+            image,
+            schema,
+            is_strict,
+        } => play(
+            rt, images, trouble, image, schema, is_strict, reader, writer,
+        ),
+        Words::Get { image, schema } => on_values(get_at(
+            rt, images, alloc, trouble, image, schema, names, writer,
+        )),
+        Words::Set { image, schema } => on_set(set_at(
+            rt, images, alloc, trouble, image, schema, names, writer,
+        )),
         Words::Format {
             image,
             schema,
@@ -114,6 +131,7 @@ fn play<D, P, F, R, S, W>(
     trouble: &Trouble,
     image: Option<&str>,
     schema: Option<&str>,
+    is_strict: bool,
     reader: &mut S,
     writer: &mut W,
 ) -> Result<(), WorkFault>
@@ -124,14 +142,33 @@ where
     R: Files<File = F> + AllocGlobal,
     S: Read,
     W: Write,
-    ensures { PlaysAt image.entry schema.entry result (P.holds images.old) (P.holds images.new)
+    ensures { PlaysAt image.entry schema.entry is_strict result (P.holds images.old) (P.holds images.new)
         (S.remaining reader.old) (S.remaining reader.new) (W.contents writer.old)
         (W.contents writer.new) }
 {
     let alloc = rt.alloc();
     match image {
-        Some(path) => { on_run(run_at(rt, images, alloc, trouble, path, schema, reader, writer)) }
-        None => on_script(run_script(alloc, reader, writer)),
+        Some(path) => on_run(run_at(
+            rt, images, alloc, trouble, path, schema, is_strict, reader, writer,
+        )),
+        None => play_in_memory(alloc, is_strict, reader, writer),
+    }
+}
+
+// Plays the script in memory, up to the first refused line where it is strict.
+fn play_in_memory<S: Read, W: Write>(
+    alloc: Global,
+    is_strict: bool,
+    reader: &mut S,
+    writer: &mut W,
+) -> Result<(), WorkFault>
+    ensures { PlaysInMemory is_strict result (S.remaining reader.old) (S.remaining reader.new)
+        (W.contents writer.old) (W.contents writer.new) }
+{
+    if is_strict {
+        on_strict(run_strictly(alloc, reader, writer))
+    } else {
+        on_script(run_script(alloc, reader, writer))
     }
 }
 
@@ -143,6 +180,9 @@ fn on_run(answer: Result<(), RunFault>) -> Result<(), WorkFault>
         Ok(()) => Ok(()),
         Err(RunFault::Named(fault)) => Err(WorkFault::Named(fault)),
         Err(RunFault::Script(error)) => Err(WorkFault::Script(error)),
+        Err(RunFault::Refused(line, why)) => {
+            Err(WorkFault::Strict(StrictFault::Refused(line, why)))
+        }
         Err(RunFault::Write) => Err(WorkFault::Write),
     }
 }
@@ -154,6 +194,36 @@ fn on_script(answer: Result<(), ScriptError>) -> Result<(), WorkFault>
     match answer {
         Ok(()) => Ok(()),
         Err(error) => Err(WorkFault::Script(error)),
+    }
+}
+
+// How a strict run of a script ended.
+fn on_strict(answer: Result<(), StrictFault>) -> Result<(), WorkFault>
+    ensures { result ≡ told_of_strict answer }
+{
+    match answer {
+        Ok(()) => Ok(()),
+        Err(error) => Err(WorkFault::Strict(error)),
+    }
+}
+
+// How telling of values ended.
+fn on_values(answer: Result<(), ValueFault>) -> Result<(), WorkFault>
+    ensures { result ≡ told_of_values answer }
+{
+    match answer {
+        Ok(()) => Ok(()),
+        Err(error) => Err(WorkFault::Values(error)),
+    }
+}
+
+// How setting fields ended.
+fn on_set(answer: Result<(), SetFault>) -> Result<(), WorkFault>
+    ensures { result ≡ told_of_set answer }
+{
+    match answer {
+        Ok(()) => Ok(()),
+        Err(error) => Err(WorkFault::Set(error)),
     }
 }
 

@@ -3,6 +3,7 @@
 use crate::causes::{Path, is_wrong_path, tell, tell_cause};
 use declarations::{SchemaFault, SchemaFaultKind};
 use image_file::Trouble;
+use image_scripts::{Refusal, refusal_text};
 use recover::RecoverError;
 use script_lines::{ScriptError, ScriptErrorKind};
 use std::rt::Files;
@@ -94,6 +95,16 @@ pub(crate) fn tell_stopped_script<R: Files + Eprint>(
         }
     };
     tell(rt, "standard input", text);
+}
+
+/// Tells what a refused line prints that ends a strict script.
+pub(crate) fn tell_refused_line<R: Eprint + AllocGlobal>(rt: &R, why: Refusal) {
+    if let Ok(text) = refusal_text(rt.alloc(), why) {
+        let _ = eprintln!(rt;
+            "heapctl: standard input: that line prints '{text}', and a refused line ends a strict script; mend it, or leave '--strict' out"
+        );
+        drop(text);
+    }
 }
 
 // Tells why the output can't be written.

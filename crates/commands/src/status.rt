@@ -1,9 +1,10 @@
 //! The program's exit statuses.
 ghost use Rattle.std.specs.Prelude.{◌≡◌};
-ghost use Rattle.commands.specs.Status.{status_for, status_for_fault, status_for_file, status_for_format, status_for_image, status_for_named};
+ghost use Rattle.commands.specs.Status.{status_for, status_for_fault, status_for_file, status_for_format, status_for_image, status_for_named, status_for_run, status_for_set, status_for_strict, status_for_values};
 
 use crate::fault::WorkFault;
 use image_file::{FileFault, FormatError, ImageFault, NamedFault};
+use image_scripts::{RunFault, SetFault, StrictFault, ValueFault};
 use script_lines::ScriptErrorKind;
 
 /// Wrong words, a refused schema file, or a script that can't be played to its end.
@@ -62,6 +63,49 @@ fn status_of_named(fault: &NamedFault) -> u8
     }
 }
 
+// The status where a script wasn't played over an image file.
+fn status_of_run(fault: &RunFault) -> u8
+    ensures { result ≡ status_for_run fault.now }
+{
+    match fault {
+        RunFault::Named(fault) => status_of_named(fault),
+        RunFault::Script(error) => status_of(error.kind),
+        RunFault::Refused(..) | RunFault::Write => FAULT,
+    }
+}
+
+// The status where a strict script stopped.
+fn status_of_strict(fault: &StrictFault) -> u8
+    ensures { result ≡ status_for_strict fault.now }
+{
+    match fault {
+        StrictFault::Script(error) => status_of(error.kind),
+        StrictFault::Refused(..) => FAULT,
+    }
+}
+
+// The status where values weren't told.
+fn status_of_values(fault: &ValueFault) -> u8
+    ensures { result ≡ status_for_values fault.now }
+{
+    match fault {
+        ValueFault::Named(fault) => status_of_named(fault),
+        ValueFault::Unknown(_) => WRONG_INPUT,
+        ValueFault::Write => FAULT,
+    }
+}
+
+// The status where fields weren't set.
+fn status_of_set(fault: &SetFault) -> u8
+    ensures { result ≡ status_for_set fault.now }
+{
+    match fault {
+        SetFault::Word(_) | SetFault::Unknown(_) | SetFault::Transient(_) => WRONG_INPUT,
+        SetFault::OtherHeap => FAULT,
+        SetFault::Run(fault) => status_of_run(fault),
+    }
+}
+
 // The status where an image file isn't had.
 fn status_of_file(fault: FileFault) -> u8
     ensures { result ≡ status_for_file fault }
@@ -74,12 +118,15 @@ fn status_of_file(fault: FileFault) -> u8
 
 /// The status where what the words ask for wasn't done.
 pub fn status_of_fault(fault: &WorkFault) -> u8
-    // The exit status is 2 for what the script or the schema file has, 3 where another process has the image, and 1 for
-    // every other fault.
+    // The exit status is 2 for what the words, the script or the schema file have, 3 where another process has the image,
+    // and 1 for every other fault: a strict script's refused line too.
     ensures { result ≡ status_for_fault fault.now }
 {
     match fault {
         WorkFault::Script(error) => status_of(error.kind),
+        WorkFault::Strict(error) => status_of_strict(error),
+        WorkFault::Values(error) => status_of_values(error),
+        WorkFault::Set(error) => status_of_set(error),
         WorkFault::Format(error) => status_of_format(error),
         WorkFault::Image(error) => status_of_image(error),
         WorkFault::Named(error) => status_of_named(error),

@@ -7,7 +7,7 @@
 
 use clap::Error;
 use clap::error::ErrorKind;
-use command_words::{Words, read_words};
+use command_words::{Asked, Words, read_words};
 use commands::{
     FAULT, WRONG_INPUT, explain, is_left_by_reader, is_something_there, obey, status_of_fault,
     tell_kept,
@@ -36,11 +36,12 @@ struct Terminals {
 const NOT_OPEN: i32 = 9;
 
 // Does what the words ask for, with the script on standard input, and tells how it went.
-fn work<F, R>(rt: &R, terminals: Terminals, words: Words<'_>) -> ExitCode
+fn work<F, R>(rt: &R, terminals: Terminals, asked: &Asked<'_>) -> ExitCode
 where
     F: BackingFile + OpenFile + Read + Drop,
     R: Files<File = F> + Input + Print + Eprint + AllocGlobal + Clock + Threads + Wait + Sync,
 {
+    let words = asked.words;
     if terminals.is_typed && matches!(&words, Words::Run { .. }) {
         let _ = eprintln!(rt;
             "heapctl: a script is read from the terminal, up to Ctrl-D, and then played; 'heapctl --help' tells of other words"
@@ -57,6 +58,7 @@ where
         terminals.is_told,
         &trouble,
         words,
+        &asked.names,
         &mut reader,
         &mut writer,
     );
@@ -69,7 +71,7 @@ where
         Err(fault) => {
             if !is_left_by_reader(&trouble) {
                 let _ = eprintln!(rt; "heapctl: {fault}");
-                explain(rt, &words, &fault, &trouble);
+                explain(rt, &words, &asked.names, &fault, &trouble);
             }
             ExitCode::from(status_of_fault(&fault))
         }
@@ -129,7 +131,11 @@ where
         return out_of_memory(rt);
     };
     match read_words(alloc, texts.as_slice()) {
-        Ok(words) => work(rt, terminals, words),
+        Ok(asked) => {
+            let code = work(rt, terminals, &asked);
+            drop(asked);
+            code
+        }
         Err(answer) => print_answer(rt, &answer),
     }
 }

@@ -24,10 +24,16 @@ pub enum Content {
 // What the system says where there is no file (ENOENT).
 const NO_FILE: i32 = 2;
 
-// How many bytes a header has, and those that it begins with.
-const HEADER_BYTES: usize = 64;
+/// How many bytes a header has.
+pub(crate) const HEADER_BYTES: usize = 64;
 
+// Those that it begins with, of an image whose gate is open.
 const FORMATTED: [u8; 9] = *b"MONIHEAP\xa5";
+
+/// What is told of a path at which there is no file.
+pub(crate) fn no_file() -> io::Error {
+    io::Error::from_raw_os_error(NO_FILE)
+}
 
 /// Whether these first bytes of a file are what an image begins with (docs/FORMAT.md, "Header").
 pub(crate) fn begins_as_image(head: &[u8]) -> bool {
@@ -108,7 +114,7 @@ where
     R: Files<File = F>,
 {
     let Some(mut file) = claim_at(rt, path, trouble)? else {
-        trouble.note(Place::Image, &io::Error::from_raw_os_error(NO_FILE));
+        trouble.note(Place::Image, &no_file());
         return Err(FileFault::Fault);
     };
     let fault = match content_of(&mut file, trouble) {

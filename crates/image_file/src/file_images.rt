@@ -1,7 +1,7 @@
 //! The images in files of the system.
 ghost use Rattle.std.specs.Prelude.{None};
 
-use crate::claiming::{Content, claim, claim_at, claim_image, content_of};
+use crate::claiming::{Content, claim, claim_at, claim_image, content_of, no_file};
 use crate::error::FileFault;
 use crate::images::Images;
 use crate::trouble::{Place, Trouble};
@@ -22,9 +22,6 @@ pub const BESIDE: &str = ".heapctl-new";
 
 /// What stands at the end of the path at which a replaced image is kept.
 pub const KEPT: &str = "~";
-
-// What the system says where there is no file (ENOENT).
-const NO_FILE: i32 = 2;
 
 /// The images in files of the system.
 ///
@@ -264,7 +261,7 @@ where
     } else {
         match &taken.old {
             Some(old) => old.try_clone(),
-            None => Err(io::Error::from_raw_os_error(NO_FILE)),
+            None => Err(no_file()),
         }
     };
     match again {

@@ -3,7 +3,7 @@ ghost use Rattle.std.specs.Prelude.{IfErr, IfOk};
 ghost use Rattle.block_disk.specs.Device.{Device};
 ghost use Rattle.image_file.specs.Showing.{IsUnread, ReadsImage};
 
-use crate::claiming::begins_as_image;
+use crate::claiming::{HEADER_BYTES, begins_as_image};
 use crate::error::FileFault;
 use crate::refusal::refusal_of_reading;
 use crate::trouble::{Place, Trouble};
@@ -18,9 +18,7 @@ use std::fs;
 use std::io::{Chain, Cursor, Read, Take};
 use std::rt::Files;
 
-// How many bytes a header has, and how many the image of the most and longest lanes and of the most fields.
-const HEADER_BYTES: u64 = 64;
-
+// How many bytes the image of the most and longest lanes and of the most fields has.
 const MOST_BYTES: u64 = 2160 + 24 * MOST_FIELDS as u64 + 16 * LANES as u64 * MOST_CAPACITY as u64;
 
 /// An image file that is to be read: its header, which was read first, and what is behind it.
@@ -112,7 +110,11 @@ fn begin_to_read_placed<'a, F: BackingFile + Read + Drop>(
 // As many bytes as a header has, or all where there are fewer.
 fn read_head<S: Read>(alloc: Global, file: &mut S) -> Result<Vec<u8>, FileFault> {
     let mut head = Vec::new(alloc);
-    match file.by_ref().take(HEADER_BYTES).read_to_end(&mut head) {
+    match file
+        .by_ref()
+        .take(HEADER_BYTES as u64)
+        .read_to_end(&mut head)
+    {
         Ok(_) => Ok(head),
         Err(error) => {
             drop(head);
@@ -129,7 +131,7 @@ fn reader_of<'a, F: BackingFile + Read + Drop>(
     let size = size_in(&head);
     // Of a pipe no length is known: what is read of it makes room for itself.
     let room = file.len().unwrap_or(0).min(size) as usize;
-    let rest = size.saturating_sub(HEADER_BYTES);
+    let rest = size.saturating_sub(HEADER_BYTES as u64);
     (Cursor::new(head).chain(file.take(rest)), room)
 }
 
@@ -164,7 +166,7 @@ fn size_in(head: &[u8]) -> u64 {
         size = size << 8 | u64::from(byte);
     }
     if size > MOST_BYTES {
-        HEADER_BYTES
+        HEADER_BYTES as u64
     } else {
         size
     }

@@ -3,3 +3,5 @@ mod OpeningLemmas
 mod StopLemmas
 mod ReasonLemmas
 mod RunLemmas
+mod StrictLemmas
+mod ValueLemmas

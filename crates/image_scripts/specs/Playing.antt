@@ -1,5 +1,5 @@
 -- What a script makes of an image, and what it prints (docs/SCRIPTS.md, "A script over an image file").
-use Rattle.std.specs.Prelude.{ℕ, ◌≡◌, ◌≢◌, ◌⊎◌, Option, None, Some, List, ◌++◌}
+use Rattle.std.specs.Prelude.{ℕ, ◌≡◌, ◌≢◌, ◌⊎◌, Bool, true, false, IsTrue, Option, None, Some, List, ◌++◌}
 use Rattle.std.specs.List.{concat}
 use Rattle.block_disk.specs.Device.{SameMoments}
 use Rattle.block_disk.specs.Memory.{Memory, device_of, fresh}
@@ -25,11 +25,13 @@ use Rattle.script_machine.specs.States.{Live, Wreck}
 use Rattle.script_machine.specs.declared.answer.Answer.{Answer}
 use Rattle.script_machine.specs.declared.answer.Answer.TheVariants.{Crashed, Recovered}
 use Rattle.script_machine.specs.declared.answer.Report.{Report}
+use Rattle.script_machine.specs.declared.answer.Refusal.{Refusal}
 use Rattle.scripts.specs.Runs.{Plays, Stops}
 use Rattle.scripts.specs.Texts.{text_of}
 use Rattle.image_scripts.specs.Schemas.{IsNamed, IsOtherThan, IsSchemaOf}
+use Rattle.image_scripts.specs.Strict.{IsFirstRefused, TakesAll}
 use Rattle.image_scripts.specs.declared.error.RunFault.{RunFault}
-use Rattle.image_scripts.specs.declared.error.RunFault.TheVariants.{Named, Script, Write}
+use Rattle.image_scripts.specs.declared.error.RunFault.TheVariants.{Named, Refused, Script, Write}
 
 -- What the machine's device reads: nothing that was written is lost where a program stops, and of a crash there is what it has left
 abbrev pub shown_by : MachineState → Option (List ℕ)
@@ -64,24 +66,33 @@ pub record IsRecovered (old : MachineState) (text : List ℕ) (new : MachineStat
   pub steps : Steps old order.Recover (Recovered report) new
   pub told : text ≡ text_of (Recovered report)
 
--- A machine that was down was recovered, and the lines were played on it. What the line `recover` prints is printed, and then what they
--- print; and this is what its device reads then.
-pub record PlaysDown (over : MachineState) (lines : List (List ℕ)) (ending : Ending) (left text : List ℕ) : Type 0 where
+-- a run that is strict takes each line, and one that isn't plays them
+abbrev pub PlaysAs : (is_strict : Bool) → MachineState → List (List ℕ) → List (List ℕ) → MachineState → Type 0
+PlaysAs true = TakesAll
+PlaysAs false = Plays
+
+-- the lines are played so, and what they print was written to memory
+pub record PlaysOnAs (is_strict : Bool) (start : MachineState) (lines : List (List ℕ)) (ending : Ending) (end : MachineState) (old new : List ℕ) : Type 0 where
   pub whole : IsWhole ending
+  pub outputs : List (List ℕ)
+  pub plays : PlaysAs is_strict start lines outputs end
+  pub printed : new ≡ old ++ concat outputs
+
+-- A machine that was down was recovered, and the lines were played on it. What the line `recover` prints is printed, and then what they
+-- print; and this is what its device reads then. A strict script has no line that was refused.
+pub record PlaysDown (over : MachineState) (lines : List (List ℕ)) (ending : Ending) (is_strict : Bool) (left text : List ℕ) : Type 0 where
   pub begun : MachineState
   pub report : List ℕ
   pub recovered : IsRecovered over report begun
-  pub outputs : List (List ℕ)
   pub end : MachineState
-  pub plays : Plays begun lines outputs end
-  pub printed : text ≡ report ++ concat outputs
+  pub plays : PlaysOnAs is_strict begun lines ending end report text
   pub shown : shown_by end ≡ Some left
 
 -- so it was of a machine over this image
-pub record PlaysOver (given : Option Declarations) (lines : List (List ℕ)) (ending : Ending) (image left text : List ℕ) : Type 0 where
+pub record PlaysOver (given : Option Declarations) (lines : List (List ℕ)) (ending : Ending) (is_strict : Bool) (image left text : List ℕ) : Type 0 where
   pub over : MachineState
   pub is_over : IsOver given image over
-  pub played : PlaysDown over lines ending left text
+  pub played : PlaysDown over lines ending is_strict left text
 
 -- what each refusal says
 
@@ -107,11 +118,31 @@ pub record IsStopped (lines : List (List ℕ)) (ending : Ending) (error : Script
   pub stops : Stops lines ending error
   pub own : error.kind ≢ kinds.Write
 
+-- the script is strict, and this line is the first that is refused, for this reason
+pub record IsRefusedOn (is_strict : Bool) (start : MachineState) (lines : List (List ℕ)) (line : ℕ) (why : Refusal) : Type 0 where
+  pub strict : IsTrue is_strict
+  pub outputs : List (List ℕ)
+  pub first : IsFirstRefused start lines line why outputs
+
+-- the lines aren't played on a machine that runs
+abbrev pub RefusesAs : (is_strict : Bool) (start : MachineState) (lines : List (List ℕ)) (ending : Ending) → RunFault → Type 0
+RefusesAs is_strict start lines ending (Script error) = IsStopped lines ending error
+RefusesAs is_strict start lines ending (Refused line why) = IsRefusedOn is_strict start lines line why
+RefusesAs is_strict start lines ending _ = ⊥
+
+-- so it is after the recovery of a machine that was down
+pub record IsRefusedAfter (is_strict : Bool) (over : MachineState) (lines : List (List ℕ)) (line : ℕ) (why : Refusal) : Type 0 where
+  pub begun : MachineState
+  pub report : List ℕ
+  pub recovered : IsRecovered over report begun
+  pub refused : IsRefusedOn is_strict begun lines line why
+
 -- the lines aren't played on a machine that is down
-abbrev pub RefusesDown : (over : MachineState) (lines : List (List ℕ)) (ending : Ending) → RunFault → Type 0
-RefusesDown over lines ending (Named fault) = IsNotRecovered over fault
-RefusesDown over lines ending (Script error) = IsStopped lines ending error
-RefusesDown over lines ending Write = ⊥
+abbrev pub RefusesDown : (over : MachineState) (lines : List (List ℕ)) (ending : Ending) (is_strict : Bool) → RunFault → Type 0
+RefusesDown over lines ending is_strict (Named fault) = IsNotRecovered over fault
+RefusesDown over lines ending is_strict (Script error) = IsStopped lines ending error
+RefusesDown over lines ending is_strict (Refused line why) = IsRefusedAfter is_strict over lines line why
+RefusesDown over lines ending is_strict Write = ⊥
 
 -- the image is refused, as no image or since it isn't recovered, or the schema is
 abbrev pub RefusesNamed : Option Declarations → List ℕ → NamedFault → Type 0
@@ -119,8 +150,15 @@ RefusesNamed given image (named.Image (images.Image why)) = RefusesImage image w
 RefusesNamed given image named.OtherSchema = IsOtherThan given image
 RefusesNamed given image _ = ⊥
 
+-- a line is refused on a machine over the image
+pub record IsRefusedOver (given : Option Declarations) (is_strict : Bool) (image : List ℕ) (lines : List (List ℕ)) (line : ℕ) (why : Refusal) : Type 0 where
+  pub over : MachineState
+  pub is_over : IsOver given image over
+  pub refused : IsRefusedAfter is_strict over lines line why
+
 -- the lines aren't played over the image
-abbrev pub RefusesToPlay : Option Declarations → (lines : List (List ℕ)) (ending : Ending) → List ℕ → RunFault → Type 0
-RefusesToPlay given lines ending image (Named fault) = RefusesNamed given image fault
-RefusesToPlay given lines ending image (Script error) = IsStopped lines ending error
-RefusesToPlay given lines ending image Write = ⊥
+abbrev pub RefusesToPlay : Option Declarations → (lines : List (List ℕ)) (ending : Ending) (is_strict : Bool) → List ℕ → RunFault → Type 0
+RefusesToPlay given lines ending is_strict image (Named fault) = RefusesNamed given image fault
+RefusesToPlay given lines ending is_strict image (Script error) = IsStopped lines ending error
+RefusesToPlay given lines ending is_strict image (Refused line why) = IsRefusedOver given is_strict image lines line why
+RefusesToPlay given lines ending is_strict image Write = ⊥

@@ -4,11 +4,15 @@ use Rattle.script_lines.specs.declared.error.ScriptErrorKind.{ScriptErrorKind}
 use Rattle.script_lines.specs.declared.error.ScriptErrorKind.TheVariants as kinds
 use Rattle.recover.specs.declared.error.RecoverError.{RecoverError}
 use Rattle.recover.specs.declared.error.RecoverError.TheVariants as recover
-use Rattle.std.specs.Prelude.{Option, None, Some}
+use Rattle.std.specs.Prelude.{Option, None, Some, Result, Ok, Err}
 use Rattle.script_machine.specs.declared.answer.Answer.{Answer}
 use Rattle.script_machine.specs.declared.answer.Answer.TheVariants.{Refused}
 use Rattle.script_machine.specs.declared.answer.Refusal.{Refusal}
 use Rattle.script_machine.specs.declared.answer.Refusal.TheVariants as why
+use Rattle.image_scripts.specs.declared.error.RunFault.{RunFault}
+use Rattle.image_scripts.specs.declared.error.RunFault.TheVariants as runs
+use Rattle.image_scripts.specs.declared.error.StrictFault.{StrictFault}
+use Rattle.image_scripts.specs.declared.error.StrictFault.TheVariants as strict
 
 -- why the line was refused, if it was
 abbrev pub refusal_of : Answer → Option Refusal
@@ -39,3 +43,9 @@ kind_in_memory kinds.Memory = kinds.Memory
 
 abbrev pub in_memory : ScriptError → ScriptError
 in_memory error = record { line = error.line; kind = kind_in_memory error.kind }
+
+-- how a strict run in memory is told
+abbrev pub told_of_strict : Result (Unit {0}) StrictFault → Result (Unit {0}) RunFault
+told_of_strict (Ok done) = Ok done
+told_of_strict (Err (strict.Script error)) = Err (runs.Script (in_memory error))
+told_of_strict (Err (strict.Refused line why)) = Err (runs.Refused line why)

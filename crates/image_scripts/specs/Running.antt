@@ -1,5 +1,5 @@
 -- How a run over an image at a path ends (docs/SCRIPTS.md, "A script over an image file").
-use Rattle.std.specs.Prelude.{ℕ, ◌≡◌, ◌⊎◌, Option, List, [], Result, Ok, Err}
+use Rattle.std.specs.Prelude.{ℕ, ◌≡◌, ◌⊎◌, Bool, Option, List, [], Result, Ok, Err}
 use Rattle.std.specs.Io.KnownBytes.{Appends}
 use Rattle.guards.specs.Schema.{Declarations}
 use Rattle.image_file.specs.Images.{IsThere}
@@ -13,14 +13,14 @@ use Rattle.script_lines.specs.declared.reader.Ending.{Ending}
 use Rattle.scripts.specs.Runs.{AppendsPart}
 use Rattle.image_scripts.specs.Playing.{IsStopped, PlaysOver, RefusesToPlay}
 use Rattle.image_scripts.specs.declared.error.RunFault.{RunFault}
-use Rattle.image_scripts.specs.declared.error.RunFault.TheVariants.{Named, Script, Write}
+use Rattle.image_scripts.specs.declared.error.RunFault.TheVariants.{Named, Refused, Script, Write}
 
-module _ (given : Option Declarations) (lines : List (List ℕ)) (ending : Ending) where
+module _ (given : Option Declarations) (lines : List (List ℕ)) (ending : Ending) (is_strict : Bool) where
   -- the image that was there was read, and the lines played over it
   pub record PlaysHeld (had : Option (List ℕ)) (left text : List ℕ) : Type 0 where
     pub image : List ℕ
     pub was : IsThere image had
-    pub plays : PlaysOver given lines ending image left text
+    pub plays : PlaysOver given lines ending is_strict image left text
 
   -- the image that was there isn't had
   abbrev pub IsNotRead : RunFault → Type 0
@@ -30,7 +30,7 @@ module _ (given : Option Declarations) (lines : List (List ℕ)) (ending : Endin
   pub record IsNotPlayed (had : Option (List ℕ)) (fault : RunFault) : Type 0 where
     pub image : List ℕ
     pub was : IsThere image had
-    pub refused : RefusesToPlay given lines ending image fault
+    pub refused : RefusesToPlay given lines ending is_strict image fault
 
   abbrev pub RefusesHeld : (had : Option (List ℕ)) → RunFault → Type 0
   RefusesHeld had fault = IsNotRead fault ⊎ IsNotPlayed had fault
@@ -65,13 +65,15 @@ module _ (given : Option Declarations) (lines : List (List ℕ)) (ending : Endin
   RunsHeld (Ok done) had has old new = IsDone had has old new
   RunsHeld (Err Write) had has old new = IsHalfTold had has old new
   RunsHeld (Err (Script error)) had has old new = RefusesHeld had (Script error) × (has ≡ had) × Appends old new []
+  RunsHeld (Err (Refused line why)) had has old new = RefusesHeld had (Refused line why) × (has ≡ had) × Appends old new []
   RunsHeld (Err (Named fault)) had has old new = ((RefusesHeld had (Named fault) × (has ≡ had)) ⊎ IsNotPut had has (Named fault)) × Appends old new []
 
 -- by the names of the schema file, where one is named
-pub record RunsNamed {P : Type 0} (path : Option P) (lines : List (List ℕ)) (ending : Ending) (result : Result (Unit {0}) RunFault) (had has old new : Option (List ℕ)) : Type 0 where
+pub record RunsNamed {P : Type 0} (path : Option P) (lines : List (List ℕ)) (ending : Ending) (is_strict : Bool)
+    (result : Result (Unit {0}) RunFault) (had has old new : Option (List ℕ)) : Type 0 where
   pub given : Option Declarations
   pub is_named : IsNamedBy path given
-  pub runs : RunsHeld given lines ending result had has old new
+  pub runs : RunsHeld given lines ending is_strict result had has old new
 
 -- the schema file isn't had: nothing is done
 abbrev pub IsUnnamed : Result (Unit {0}) RunFault → (had has old new : Option (List ℕ)) → Type 0
@@ -79,6 +81,6 @@ IsUnnamed (Err (Named fault)) had has old new = (has ≡ had) × Appends old new
 IsUnnamed _ had has old new = ⊥
 
 -- how the run of a script ends, by the image that was there before and is now, what was read of the script and what was written
-abbrev pub RunsAt : {P : Type 0} (path : Option P) → Result (Unit {0}) RunFault → (had has read unread old new : Option (List ℕ)) → Type 0
-RunsAt path result had has read unread old new =
-    IsUnnamed result had has old new ⊎ OfScript read unread (λ lines ending. RunsNamed path lines ending result had has old new)
+abbrev pub RunsAt : {P : Type 0} (path : Option P) (is_strict : Bool) → Result (Unit {0}) RunFault → (had has read unread old new : Option (List ℕ)) → Type 0
+RunsAt path is_strict result had has read unread old new =
+    IsUnnamed result had has old new ⊎ OfScript read unread (λ lines ending. RunsNamed path lines ending is_strict result had has old new)

@@ -77,8 +77,12 @@ fn schema_on(alloc: Global, disk: &mut MemDisk, given: Option<Schema>) -> Result
     }
 }
 
-// The schema of an image that was studied.
-fn schema_for(alloc: Global, study: &Study, given: Option<Schema>) -> Result<Schema, NamedFault>
+/// The schema of an image that was studied, by the names that are given.
+pub(crate) fn schema_for(
+    alloc: Global,
+    study: &Study,
+    given: Option<Schema>,
+) -> Result<Schema, NamedFault>
     requires { IsStudied study.now }
     ensures is { IfOk result (λ schema. schema ≡ named_as given study.now) }
     ensures fits { IfOk result (λ schema. IsSchemaOf (named_as given study.now) study.now) }

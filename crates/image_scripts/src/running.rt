@@ -25,7 +25,7 @@ use std::rt::Files;
 ///
 /// Refusals, in this order. Nothing is written, but for the last:
 /// - `Named`: the image isn't had, or as of [`play_over`]; the image is as it was;
-/// - `Script`: as of [`play_over`]; the image is as it was;
+/// - `Script` and `Refused`: as of [`play_over`]; the image is as it was;
 /// - `Named`: the image isn't replaced. It is as it was, or, by `Fault`, it may be that the new one is there and isn't known to be
 ///   durable;
 /// - `Write`: the image is replaced, and the writer failed. A beginning of the text is written.
@@ -36,17 +36,18 @@ pub fn run_image<D: Disk + Drop, P: Images<Medium = D>, W: Write>(
     given: Option<Schema>,
     script: &[u8],
     ending: Ending,
+    is_strict: bool,
     writer: &mut W,
 ) -> Result<(), RunFault>
     // Something is printed only where the other image has taken its place. Where nothing takes its place it has each
     // byte that it had. A writer that fails leaves a beginning of the text, and the image replaced.
-    ensures { RunsHeld given (lines_of script.now) ending result (P.holds images.old path.now)
+    ensures { RunsHeld given (lines_of script.now) ending is_strict result (P.holds images.old path.now)
         (P.holds images.new path.now) (W.contents writer.old) (W.contents writer.new) }
 {
     match place_for(images, alloc, path) {
         Ok((disk, sectors)) => {
             run_on(
-                images, alloc, path, disk, sectors, given, script, ending, writer,
+                images, alloc, path, disk, sectors, given, script, ending, is_strict, writer,
             )
         }
         Err(why) => {
@@ -56,8 +57,8 @@ pub fn run_image<D: Disk + Drop, P: Images<Medium = D>, W: Write>(
     }
 }
 
-// The disk on which the new image is made, as large as the one that is there, and how both lie.
-fn place_for<D: Disk + Drop, P: Images<Medium = D>>(
+/// The disk on which the new image is made, as large as the one that is there, and how both lie.
+pub(crate) fn place_for<D: Disk + Drop, P: Images<Medium = D>>(
     images: &mut P,
     alloc: Global,
     path: &str,
@@ -84,12 +85,13 @@ fn run_on<D: Disk + Drop, P: Images<Medium = D>, W: Write>(
     given: Option<Schema>,
     script: &[u8],
     ending: Ending,
+    is_strict: bool,
     writer: &mut W,
 ) -> Result<(), RunFault>
-    ensures { RunsHeld given (lines_of script.now) ending result (P.holds images.old path.now)
+    ensures { RunsHeld given (lines_of script.now) ending is_strict result (P.holds images.old path.now)
         (P.holds images.new path.now) (W.contents writer.old) (W.contents writer.new) }
 {
-    let played = match play_held(images, alloc, path, given, script, ending) {
+    let played = match play_held(images, alloc, path, given, script, ending, is_strict) {
         Ok(played) => played,
         Err(fault) => {
             drop(disk);
@@ -113,17 +115,18 @@ fn play_held<D: Disk + Drop, P: Images<Medium = D>>(
     given: Option<Schema>,
     script: &[u8],
     ending: Ending,
+    is_strict: bool,
 ) -> Result<Played, RunFault>
     ensures ok { IfOk result
-        (λ played. PlaysHeld given (lines_of script.now) ending (P.holds images.old path.now)
+        (λ played. PlaysHeld given (lines_of script.now) ending is_strict (P.holds images.old path.now)
         played.image.items played.text.items) }
     ensures refused { IfErr result
-        (RefusesHeld given (lines_of script.now) ending (P.holds images.old path.now)) }
+        (RefusesHeld given (lines_of script.now) ending is_strict (P.holds images.old path.now)) }
     ensures same { P.holds images.new path.now ≡ P.holds images.old path.now }
 {
     match images.read(alloc, path) {
         Ok(image) => {
-            let played = play_over(alloc, &image, given, script, ending);
+            let played = play_over(alloc, &image, given, script, ending, is_strict);
             drop(image);
             played
         }
@@ -134,8 +137,8 @@ fn play_held<D: Disk + Drop, P: Images<Medium = D>>(
     }
 }
 
-// Puts this image, made on this disk, in the place of what is at the path.
-fn put_image<D: Disk + Drop, P: Images<Medium = D>>(
+/// Puts this image, made on this disk, in the place of what is at the path.
+pub(crate) fn put_image<D: Disk + Drop, P: Images<Medium = D>>(
     images: &mut P,
     path: &str,
     disk: D,
@@ -175,8 +178,8 @@ fn write_over<D: Disk>(disk: &mut D, image: &[u8]) -> Result<(), FileFault>
     }
 }
 
-// How it is told that an image isn't had, or isn't replaced.
-fn of_file(why: FileFault) -> RunFault
+/// How it is told that an image isn't had, or isn't replaced.
+pub(crate) fn of_file(why: FileFault) -> RunFault
     ensures { result ≡ Named (Image (told_of_attaching why)) }
 {
     RunFault::Named(NamedFault::Image(ImageFault::from(why)))
@@ -199,6 +202,7 @@ pub fn run_at<D, P, F, R, S, W>(
     trouble: &Trouble,
     path: &str,
     schema_path: Option<&str>,
+    is_strict: bool,
     reader: &mut S,
     writer: &mut W,
 ) -> Result<(), RunFault>
@@ -210,7 +214,7 @@ where
     S: Read,
     W: Write,
     // A script over the image at a path puts in that place what its lines leave, and nothing is printed before.
-    ensures { RunsAt schema_path.entry result (P.holds images.old path.now)
+    ensures { RunsAt schema_path.entry is_strict result (P.holds images.old path.now)
         (P.holds images.new path.now) (S.remaining reader.old) (S.remaining reader.new)
         (W.contents writer.old) (W.contents writer.new) }
 {
@@ -219,14 +223,16 @@ where
         Err(fault) => return Err(RunFault::Named(fault)),
     };
     let (script, ending) = read_lines(alloc, reader);
-    let ended = run_image(images, alloc, path, given, &script, ending, writer);
+    let ended = run_image(
+        images, alloc, path, given, &script, ending, is_strict, writer,
+    );
     let is_done = ended.is_ok();
     tidy(images, path, is_done);
     ended
 }
 
-// Leaves nothing beside the path, unless a new image has taken its place.
-fn tidy<D: Disk + Drop, P: Images<Medium = D>>(images: &mut P, path: &str, is_done: bool)
+/// Leaves nothing beside the path, unless a new image has taken its place.
+pub(crate) fn tidy<D: Disk + Drop, P: Images<Medium = D>>(images: &mut P, path: &str, is_done: bool)
     ensures { P.holds images.new path.now ≡ P.holds images.old path.now }
 {
     if !is_done {

@@ -163,6 +163,7 @@ fn is_refused(alloc: Global, image: &[u8], case: &Case) -> Option<bool> {
         None,
         script,
         Ending::Whole,
+        false,
         &mut written,
     );
     Some(ended == ends && written.is_empty() && held.image.as_slice() == image)
@@ -205,6 +206,7 @@ fn is_replaced(alloc: Global, image: &[u8]) -> Option<[bool; 2]> {
         None,
         STEP,
         Ending::Whole,
+        false,
         &mut Full,
     );
     Some([

@@ -22,4 +22,6 @@ mod taken_words;
 #[cfg(test)]
 mod two_places;
 #[cfg(test)]
+mod values;
+#[cfg(test)]
 mod wrong_paths;

@@ -1,10 +1,11 @@
 //! Lines of the program's words, each read and obeyed as the program does it, over image files of the folder that the tests share.
 
-use command_words::{Words, read_words};
+use command_words::{Asked, read_words};
 use commands::{WorkFault, obey};
 use drive::DriveError;
 use file_disk::BackingFile;
 use image_file::{FileImages, FormatError, ImageFault, NamedFault, Trouble};
+use image_scripts::{Refusal, SetFault, StrictFault, ValueFault};
 use recover::RecoverError;
 use script_lines::{ScriptError, ScriptErrorKind};
 use std::alloc::Global;
@@ -73,6 +74,14 @@ pub enum Fails {
     OtherNames,
     /// Workers go on with an image of other workers.
     OtherWorkers,
+    /// The second line of a strict script is refused, since the thread doesn't own the monitor.
+    RefusedLine,
+    /// The first name is that of no field.
+    NoField,
+    /// The second word assigns nothing; the first assigns to no field; the first assigns to a transient one.
+    NotAssigned,
+    NoFieldToSet,
+    Transient,
 }
 
 /// The fault that this stands for.
@@ -90,6 +99,11 @@ pub fn fault_of(fails: Fails) -> WorkFault {
         }
         Fails::OtherNames => WorkFault::Named(NamedFault::OtherSchema),
         Fails::OtherWorkers => WorkFault::Drive(DriveError::OtherSchema),
+        Fails::RefusedLine => WorkFault::Strict(StrictFault::Refused(2, Refusal::NotHeld)),
+        Fails::NoField => WorkFault::Values(ValueFault::Unknown(0)),
+        Fails::NotAssigned => WorkFault::Set(SetFault::Word(1)),
+        Fails::NoFieldToSet => WorkFault::Set(SetFault::Unknown(0)),
+        Fails::Transient => WorkFault::Set(SetFault::Transient(0)),
     }
 }
 
@@ -124,7 +138,7 @@ fn texts_of(alloc: Global, words: &[&str], image: Option<&str>) -> Option<Vec<St
 // How what the words ask for ends, with this script on standard input.
 fn answer<F, R>(
     rt: &R,
-    asked: Words<'_>,
+    asked: &Asked<'_>,
     script: &str,
     written: &mut Vec<u8>,
 ) -> Result<(), WorkFault>
@@ -140,7 +154,8 @@ where
         &mut images,
         false,
         &trouble,
-        asked,
+        asked.words,
+        &asked.names,
         &mut reader,
         written,
     );
@@ -162,7 +177,11 @@ where
 {
     let texts = texts_of(rt.alloc(), words, image)?;
     match read_words(rt.alloc(), texts.as_slice()) {
-        Ok(asked) => Some(answer(rt, asked, script, written)),
+        Ok(asked) => {
+            let ended = answer(rt, &asked, script, written);
+            drop(asked);
+            Some(ended)
+        }
         Err(_) => None,
     }
 }

@@ -28,6 +28,23 @@ const ANSWERED: &[Answered] = &[
     ),
     (&["show", "--image"], Some(ErrorKind::InvalidValue)),
     (&["run", "--image"], Some(ErrorKind::InvalidValue)),
+    (
+        &["get", "--image", "i"],
+        Some(ErrorKind::MissingRequiredArgument),
+    ),
+    (&["get", "f0"], Some(ErrorKind::MissingRequiredArgument)),
+    (
+        &["set", "--image", "i"],
+        Some(ErrorKind::MissingRequiredArgument),
+    ),
+    (
+        &["get", "--image", "i", "f0", "--dot"],
+        Some(ErrorKind::UnknownArgument),
+    ),
+    (
+        &["run", "--strict", "--strict"],
+        Some(ErrorKind::ArgumentConflict),
+    ),
     // Options that do nothing.
     (&["run", "--schema", "s"], Some(ErrorKind::ArgumentConflict)),
     (
@@ -121,7 +138,10 @@ const ANSWERED: &[Answered] = &[
 fn answer_to(alloc: Global, words: &[&str]) -> Option<Option<ErrorKind>> {
     let texts = with_name(alloc, words)?;
     match read_words(alloc, texts.as_slice()) {
-        Ok(_) => Some(None),
+        Ok(taken) => {
+            drop(taken);
+            Some(None)
+        }
         Err(answer) => Some(Some(answer.kind())),
     }
 }
@@ -150,6 +170,7 @@ const ASKING: &[Asking] = &[
         Words::Run {
             image: None,
             schema: None,
+            is_strict: false,
         },
     ),
     (
@@ -157,12 +178,36 @@ const ASKING: &[Asking] = &[
         Words::Run {
             image: None,
             schema: None,
+            is_strict: false,
         },
     ),
     (
         &["run", "--image", "i", "--schema", "s"],
         Words::Run {
             image: Some("i"),
+            schema: Some("s"),
+            is_strict: false,
+        },
+    ),
+    (
+        &["run", "--strict"],
+        Words::Run {
+            image: None,
+            schema: None,
+            is_strict: true,
+        },
+    ),
+    (
+        &["get", "--image", "i", "f0", "f1"],
+        Words::Get {
+            image: "i",
+            schema: None,
+        },
+    ),
+    (
+        &["set", "f0=5", "--image", "i", "--schema", "s"],
+        Words::Set {
+            image: "i",
             schema: Some("s"),
         },
     ),
@@ -247,7 +292,11 @@ const ASKING: &[Asking] = &[
 fn ask_for(alloc: Global, words: &[&str], asked: Words<'_>) -> Option<bool> {
     let texts = with_name(alloc, words)?;
     match read_words(alloc, texts.as_slice()) {
-        Ok(words) => Some(words == asked),
+        Ok(taken) => {
+            let is_so = taken.words == asked;
+            drop(taken);
+            Some(is_so)
+        }
         Err(_) => None,
     }
 }
@@ -276,7 +325,10 @@ const ONE_PATH: &str =
 fn is_said(alloc: Global, words: &[&str], text: &str) -> Option<bool> {
     let texts = with_name(alloc, words)?;
     match read_words(alloc, texts.as_slice()) {
-        Ok(_) => None,
+        Ok(taken) => {
+            drop(taken);
+            None
+        }
         Err(answer) => Some(format!(in alloc; "{answer}").ok()?.as_str() == text),
     }
 }

@@ -161,3 +161,133 @@ where
 fn a_missing_folder_is_a_fault(rt: HostRuntime) {
     assert!(rt; told_of_no_folder(&rt) == Some([true; 2]));
 }
+
+// A path that leads to no image; whether `format` makes one there all the same, and whether `drive` does.
+type Wrong = (&'static str, bool, bool);
+
+const WRONG: &[Wrong] = &[
+    ("w/missing", true, true),
+    ("w/empty", true, true),
+    ("w/header", true, false),
+    ("w/half", true, false),
+    ("", false, false),
+    (".", false, false),
+    ("w/", false, false),
+    ("w/folder", false, false),
+    ("w/dangling", false, false),
+    ("w/loop", false, false),
+    ("w/to_folder", false, false),
+    ("w/text/image", false, false),
+    ("w/gone/image", false, false),
+    ("w/text", false, false),
+    ("w/byte", false, false),
+    ("w/name", false, false),
+    ("w/gate", false, false),
+    ("w/zeros", false, false),
+    ("/dev/null", false, false),
+];
+
+const EVERY: &[&[&str]] = &[
+    &["format", "--schema", "schema"],
+    &["drive", "--rounds", "1"],
+    &["run"],
+    &["run", "--strict", "--schema", "schema"],
+    &["recover"],
+    &["upgrade"],
+    &["show"],
+    &["show", "--dot"],
+    &["dump"],
+    &["get", "f0"],
+    &["set", "f0=1"],
+];
+
+// Makes what is at these paths, with the bytes of an image.
+fn prepare<F, R>(rt: &R) -> Option<()>
+where
+    F: BackingFile + OpenFile + Read + Drop,
+    R: Files<File = F> + AllocGlobal + Clock + Eprint + Threads + Wait + Sync,
+{
+    fs::write(rt, "schema", SCHEMA).ok()?;
+    rt.create_dir("w").ok()?;
+    rt.create_dir("w/folder").ok()?;
+    if !is_done(rt, FORMAT, "w/made")? {
+        return None;
+    }
+    let mut image = fs::read(rt, "w/made").ok()?;
+    rt.symlink("nowhere", "w/dangling").ok()?;
+    rt.symlink("loop", "w/loop").ok()?;
+    rt.symlink("folder", "w/to_folder").ok()?;
+    fs::write(rt, "w/empty", b"").ok()?;
+    fs::write(rt, "w/text", b"notes of mine").ok()?;
+    fs::write(rt, "w/byte", b"M").ok()?;
+    fs::write(rt, "w/name", image.get(..8)?).ok()?;
+    fs::write(rt, "w/header", image.get(..64)?).ok()?;
+    fs::write(rt, "w/half", image.get(..65_104)?).ok()?;
+    fs::write(rt, "w/zeros", [0; 4096].as_slice()).ok()?;
+    *image.get_mut(8)? = 0;
+    fs::write(rt, "w/gate", image.as_slice()).ok()?;
+    drop(image);
+    Some(())
+}
+
+// Whether there is a regular file.
+fn is_regular<R: Files>(rt: &R, path: &str) -> bool {
+    match rt.metadata(path) {
+        Ok(metadata) => metadata.is_file(),
+        Err(_) => false,
+    }
+}
+
+// Whether these words refuse this path, print nothing, and leave what is there; where they make an image they aren't tried.
+fn is_refused<F, R>(rt: &R, words: &[&str], wrong: Wrong) -> Option<bool>
+where
+    F: BackingFile + OpenFile + Read + Drop,
+    R: Files<File = F> + AllocGlobal + Clock + Eprint + Threads + Wait + Sync,
+{
+    let (path, is_formatted, is_driven) = wrong;
+    let word = *words.first()?;
+    if word == "format" && is_formatted || word == "drive" && is_driven {
+        return Some(true);
+    }
+    let is_file = is_regular(rt, path);
+    let before = fs::read(rt, path);
+    let (refused, is_silent) = ended(rt, words, path)?;
+    let is_left = match before {
+        Ok(bytes) => !is_file || are_same(rt, path, &bytes),
+        Err(_) => !is_regular(rt, path),
+    };
+    Some(refused.is_err() && is_silent && is_left)
+}
+
+// The first of them that doesn't.
+fn first_not_refused<F, R>(rt: &R) -> Option<(usize, usize)>
+where
+    F: BackingFile + OpenFile + Read + Drop,
+    R: Files<File = F> + AllocGlobal + Clock + Eprint + Threads + Wait + Sync,
+{
+    for (place, wrong) in WRONG.iter().enumerate() {
+        if let Some(word) = first_taking(rt, *wrong) {
+            return Some((place, word));
+        }
+    }
+    None
+}
+
+fn first_taking<F, R>(rt: &R, wrong: Wrong) -> Option<usize>
+where
+    F: BackingFile + OpenFile + Read + Drop,
+    R: Files<File = F> + AllocGlobal + Clock + Eprint + Threads + Wait + Sync,
+{
+    for (place, words) in EVERY.iter().enumerate() {
+        if is_refused(rt, words, wrong) != Some(true) {
+            return Some(place);
+        }
+    }
+    None
+}
+
+#[test]
+fn every_word_refuses_what_is_no_image(rt: HostRuntime) {
+    assert!(rt; prepare(&rt).is_some());
+    assert!(rt; first_not_refused(&rt).is_none());
+}

@@ -2,10 +2,10 @@ use Rattle.std.proofs.Common.{◌≡◌, List, [], ◌∷◌, ℕ, None, Some, c
 use Rattle.clap.proofs.OnLiterals.{clap_on_literals}
 use Rattle.clap.specs.Faults.{fault_of, is_simple_and_free}
 use Rattle.clap.specs.Kinds.{HasKind}
-use Rattle.clap.specs.Simple.{App, is_simple, subcommand_of}
+use Rattle.clap.specs.Simple.{App, is_simple, subcommand_of, subcommand_rows_of}
 use Rattle.clap.specs.Takes.{takes}
-use Rattle.command_words.specs.Words.{AsksFor, program}
-use Rattle.command_words.proofs.PathLemmas.{both_lengths, idle_options, not_none, none_says_both, none_says_idle, none_says_other, not_run, one_file, other_sectors, run_says_both, run_says_idle, run_says_other, two_files}
+use Rattle.command_words.specs.Words.{AsksFor, names_asked, program}
+use Rattle.command_words.proofs.PathLemmas.{both_lengths, idle_options, not_none, none_says_both, none_says_idle, none_says_other, not_run, one_file, other_sectors, run_rows, run_says_both, run_says_idle, run_says_other, two_files}
 use Rattle.command_words.proofs.words.read_words.Goals as goal
 
 is_plain : is_simple_and_free program ≡ true
@@ -28,7 +28,7 @@ meets_none : (name : List ℕ) → subcommand_of program (name ∷ []) ≡ None
 unfolding clap_on_literals
 meets_none name = refl
 
-meets_run : (name : List ℕ) → subcommand_of program (name ∷ codes "run" ∷ []) ≡ Some (codes "run", [])
+meets_run : (name : List ℕ) → subcommand_of program (name ∷ codes "run" ∷ []) ≡ Some (codes "run", run_rows)
 unfolding clap_on_literals
 meets_run name = refl
 
@@ -64,7 +64,7 @@ returns-then-has_one_path-clause-run c = λ name words_are.
     let is = c.in_ok-command.ensures in
     let met = (c.in-Ok.ensures.matches (ap is_simple is ∙ is_plainly_read)).1 ∙ ap (λ (a : App). subcommand_of a (map (λ s. string_bytes s) c.args.words.now)) is in
     let asks = subst (λ found. AsksFor found c.asked_by-asked.result) met c.asked_by-asked.ensures in
-    absurd (not_run (map (λ s. string_bytes s) c.args.words.now) [] (ap (subcommand_of program) words_are ∙ meets_run name)
+    absurd (not_run (map (λ s. string_bytes s) c.args.words.now) run_rows (ap (subcommand_of program) words_are ∙ meets_run name)
     (one_file (map (λ s. string_bytes s) c.args.words.now) c.asked_by-asked.result asks (c.has_one_path.ensures.0 c.if-has_one_path.true)))
 
 pub returns-then-has_both_lengths-clause-exact : goal.returns-then-has_both_lengths-clause-exact
@@ -88,7 +88,7 @@ returns-then-has_both_lengths-clause-run c = λ name words_are.
     let is = c.in_ok-command.ensures in
     let met = (c.in-Ok.ensures.matches (ap is_simple is ∙ is_plainly_read)).1 ∙ ap (λ (a : App). subcommand_of a (map (λ s. string_bytes s) c.args.words.now)) is in
     let asks = subst (λ found. AsksFor found c.asked_by-asked.result) met c.asked_by-asked.ensures in
-    absurd (run_says_both (map (λ s. string_bytes s) c.args.words.now) [] (ap (subcommand_of program) words_are ∙ meets_run name)
+    absurd (run_says_both (map (λ s. string_bytes s) c.args.words.now) run_rows (ap (subcommand_of program) words_are ∙ meets_run name)
     (both_lengths (map (λ s. string_bytes s) c.args.words.now) c.asked_by-asked.result asks (c.has_both_lengths.ensures.0 c.if-has_both_lengths.true)))
 
 pub returns-then-has_other_sectors-clause-exact : goal.returns-then-has_other_sectors-clause-exact
@@ -112,7 +112,7 @@ returns-then-has_other_sectors-clause-run c = λ name words_are.
     let is = c.in_ok-command.ensures in
     let met = (c.in-Ok.ensures.matches (ap is_simple is ∙ is_plainly_read)).1 ∙ ap (λ (a : App). subcommand_of a (map (λ s. string_bytes s) c.args.words.now)) is in
     let asks = subst (λ found. AsksFor found c.asked_by-asked.result) met c.asked_by-asked.ensures in
-    absurd (run_says_other (map (λ s. string_bytes s) c.args.words.now) [] (ap (subcommand_of program) words_are ∙ meets_run name)
+    absurd (run_says_other (map (λ s. string_bytes s) c.args.words.now) run_rows (ap (subcommand_of program) words_are ∙ meets_run name)
     (other_sectors (map (λ s. string_bytes s) c.args.words.now) c.asked_by-asked.result asks (c.has_other_sectors.ensures.0 c.if-has_other_sectors.true)))
 
 pub returns-then-has_idle_options-clause-exact : goal.returns-then-has_idle_options-clause-exact
@@ -159,3 +159,9 @@ returns-clause-asked c =
     let met = (c.in-Ok.ensures.matches (ap is_simple is ∙ is_plainly_read)).1 ∙ ap (λ (a : App). subcommand_of a (map (λ s. string_bytes s) c.args.words.now)) is in
     let asks = subst (λ found. AsksFor found c.asked_by-asked.result) met c.asked_by-asked.ensures in
     asks
+
+pub returns-clause-names : goal.returns-clause-names
+returns-clause-names c =
+    let is = c.in_ok-command.ensures in
+    let met = (c.in-Ok.ensures.matches (ap is_simple is ∙ is_plainly_read)).1 ∙ ap (λ (a : App). subcommand_of a (map (λ s. string_bytes s) c.args.words.now)) is in
+    c.in_ok-names-in-Ok.ensures ∙ ap names_asked met

@@ -21,7 +21,7 @@ returns-in-Run o c =
     let unread = o.S.Read.remaining c.play.new.reader in
     let written = o.W.Write.contents c.args.writer.now in
     let now = o.W.Write.contents c.play.new.writer in
-    subst (λ (w : Words). Obeys o.D.Disk.device w c.play.result had has lies read unread written now) (sym c.in-Run.is) c.play.ensures
+    subst (λ (w : Words). Obeys o.D.Disk.device w c.args.names.now c.play.result had has lies read unread written now) (sym c.in-Run.is) c.play.ensures
 
 pub returns-in-Format : goal.returns-in-Format
 returns-in-Format o c =
@@ -36,7 +36,7 @@ returns-in-Format o c =
     let read = o.S.Read.remaining c.args.reader.now in
     let written = o.W.Write.contents c.args.writer.now in
     let now = o.W.Write.contents c.format_at.new.writer in
-    subst (λ (w : Words). Obeys o.D.Disk.device w c.on_format.result had has lies read read written now) (sym c.in-Format.is) (
+    subst (λ (w : Words). Obeys o.D.Disk.device w c.args.names.now c.on_format.result had has lies read read written now) (sym c.in-Format.is) (
       refl,
       subst (λ (s : Option SectorSize). Formats (on lanes capacity forced s) c.on_format.result (had path) (has path) (lies path) written now) c.size_of.ensures
           (subst (λ (r : Result (Unit {0}) WorkFault). Formats asked r (had path) (has path) (lies path) written now) (sym c.on_format.ensures)
@@ -50,7 +50,7 @@ returns-in-Show o c =
     let read = o.S.Read.remaining c.args.reader.now in
     let written = o.W.Write.contents c.args.writer.now in
     let now = o.W.Write.contents c.show_file.new.writer in
-    subst (λ (w : Words). Obeys o.D.Disk.device w c.on_image.result had had lies read read written now) (sym c.in-Show.is) (
+    subst (λ (w : Words). Obeys o.D.Disk.device w c.args.names.now c.on_image.result had had lies read read written now) (sym c.in-Show.is) (
       refl,
       subst (λ (r : Result (Unit {0}) WorkFault). TellsOf study_text r written now) (sym c.on_image.ensures)
           (told study_text c.show_file.result written now c.show_file.ensures.printed c.show_file.ensures.part c.show_file.ensures.silent),
@@ -64,7 +64,7 @@ returns-in-Draw o c =
     let written = o.W.Write.contents c.args.writer.now in
     let now = o.W.Write.contents c.draw_named_file.new.writer in
     let text = λ (given : Option Declarations) (s : Study). picture_text given c.in-Draw.last s in
-    subst (λ (w : Words). Obeys o.D.Disk.device w c.on_named.result had had lies read read written now) (sym c.in-Draw.is) (
+    subst (λ (w : Words). Obeys o.D.Disk.device w c.args.names.now c.on_named.result had had lies read read written now) (sym c.in-Draw.is) (
       refl,
       subst (λ (r : Result (Unit {0}) WorkFault). TellsOfNamed text c.in-Draw.schema r written now) (sym c.on_named.ensures)
           (told_named text c.in-Draw.schema c.draw_named_file.result written now c.draw_named_file.ensures.printed c.draw_named_file.ensures.part c.draw_named_file.ensures.silent),
@@ -77,7 +77,7 @@ returns-in-Dump o c =
     let read = o.S.Read.remaining c.args.reader.now in
     let written = o.W.Write.contents c.args.writer.now in
     let now = o.W.Write.contents c.dump_file.new.writer in
-    subst (λ (w : Words). Obeys o.D.Disk.device w c.on_named-in-Dump.result had had lies read read written now) (sym c.in-Dump.is) (
+    subst (λ (w : Words). Obeys o.D.Disk.device w c.args.names.now c.on_named-in-Dump.result had had lies read read written now) (sym c.in-Dump.is) (
       refl,
       subst (λ (r : Result (Unit {0}) WorkFault). TellsOfNamed dump_text c.in-Dump.schema r written now) (sym c.on_named-in-Dump.ensures)
           (told_named dump_text c.in-Dump.schema c.dump_file.result written now c.dump_file.ensures.printed c.dump_file.ensures.part c.dump_file.ensures.silent),
@@ -92,7 +92,7 @@ returns-in-Recover o c =
     let read = o.S.Read.remaining c.args.reader.now in
     let written = o.W.Write.contents c.args.writer.now in
     let now = o.W.Write.contents c.recover_at.new.writer in
-    subst (λ (w : Words). Obeys o.D.Disk.device w c.on_image-in-Recover.result had has lies read read written now) (sym c.in-Recover.is) (
+    subst (λ (w : Words). Obeys o.D.Disk.device w c.args.names.now c.on_image-in-Recover.result had has lies read read written now) (sym c.in-Recover.is) (
       refl,
       subst (λ (r : Result (Unit {0}) WorkFault). Recovers Current r (had path) (has path) written now) (sym c.on_image-in-Recover.ensures)
           (recovered Current c.recover_at.result (had path) (has path) written now c.recover_at.ensures.ok c.recover_at.ensures.kept c.recover_at.ensures.part c.recover_at.ensures.silent c.recover_at.ensures.too_old),
@@ -107,7 +107,7 @@ returns-in-Upgrade o c =
     let read = o.S.Read.remaining c.args.reader.now in
     let written = o.W.Write.contents c.args.writer.now in
     let now = o.W.Write.contents c.recover_at-in-Upgrade.new.writer in
-    subst (λ (w : Words). Obeys o.D.Disk.device w c.on_image-in-Upgrade.result had has lies read read written now) (sym c.in-Upgrade.is) (
+    subst (λ (w : Words). Obeys o.D.Disk.device w c.args.names.now c.on_image-in-Upgrade.result had has lies read read written now) (sym c.in-Upgrade.is) (
       refl,
       subst (λ (r : Result (Unit {0}) WorkFault). Recovers Both r (had path) (has path) written now) (sym c.on_image-in-Upgrade.ensures)
           (recovered Both c.recover_at-in-Upgrade.result (had path) (has path) written now c.recover_at-in-Upgrade.ensures.ok c.recover_at-in-Upgrade.ensures.kept c.recover_at-in-Upgrade.ensures.part c.recover_at-in-Upgrade.ensures.silent c.recover_at-in-Upgrade.ensures.too_old),
@@ -121,4 +121,30 @@ returns-in-Drive o c =
     let read = o.S.Read.remaining c.args.reader.now in
     let written = o.W.Write.contents c.args.writer.now in
     let now = o.W.Write.contents c.drive-driven.new.writer in
-    subst (λ (w : Words). Obeys o.D.Disk.device w c.drive-driven.result had has lies read read written now) (sym c.in-Drive.is) (refl, c.drive-driven.ensures)
+    subst (λ (w : Words). Obeys o.D.Disk.device w c.args.names.now c.drive-driven.result had has lies read read written now) (sym c.in-Drive.is) (refl, c.drive-driven.ensures)
+
+pub returns-in-Get : goal.returns-in-Get
+returns-in-Get o c =
+    let had = o.P.Images.holds c.args.images.now in
+    let has = o.P.Images.holds c.get_at.new.images in
+    let lies = o.P.Images.lies c.get_at.new.images in
+    let read = o.S.Read.remaining c.args.reader.now in
+    let written = o.W.Write.contents c.args.writer.now in
+    let now = o.W.Write.contents c.get_at.new.writer in
+    subst (λ (w : Words). Obeys o.D.Disk.device w c.args.names.now c.on_values.result had has lies read read written now) (sym c.in-Get.is) (
+      refl,
+      (c.get_at.result, c.on_values.ensures, c.get_at.ensures),
+    )
+
+pub returns-in-Set : goal.returns-in-Set
+returns-in-Set o c =
+    let had = o.P.Images.holds c.args.images.now in
+    let has = o.P.Images.holds c.set_at.new.images in
+    let lies = o.P.Images.lies c.set_at.new.images in
+    let read = o.S.Read.remaining c.args.reader.now in
+    let written = o.W.Write.contents c.args.writer.now in
+    let now = o.W.Write.contents c.set_at.new.writer in
+    subst (λ (w : Words). Obeys o.D.Disk.device w c.args.names.now c.on_set.result had has lies read read written now) (sym c.in-Set.is) (
+      refl,
+      (c.set_at.result, c.on_set.ensures, c.set_at.ensures),
+    )

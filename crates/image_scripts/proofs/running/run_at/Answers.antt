@@ -22,6 +22,6 @@ returns g c =
       record {
         given = given;
         is_named = c.in-Ok.ensures;
-        runs = subst (λ (has : Option (List ℕ)). RunsHeld given (lines_of script) ending c.run_image-ended.result had has old new) (sym c.tidy.ensures) (rw c.deref.ensures.value at c.run_image-ended.ensures);
+        runs = subst (λ (has : Option (List ℕ)). RunsHeld given (lines_of script) ending c.args.is_strict c.run_image-ended.result had has old new) (sym c.tidy.ensures) (rw c.deref.ensures.value at c.run_image-ended.ensures);
       },
     )

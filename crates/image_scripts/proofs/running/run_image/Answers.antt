@@ -4,4 +4,4 @@ use Rattle.image_scripts.proofs.running.run_image.Goals as goal
 
 pub returns-in-Err : goal.returns-in-Err
 returns-in-Err g c =
-    not_had c.args.given (lines_of c.args.script.now) c.args.ending _ _ (g.W.Write.contents c.args.writer.now) c.in-Err.why c.of_file.result c.of_file.ensures c.place_for.ensures.same
+    not_had c.args.given (lines_of c.args.script.now) c.args.ending c.args.is_strict _ _ (g.W.Write.contents c.args.writer.now) c.in-Err.why c.of_file.result c.of_file.ensures c.place_for.ensures.same

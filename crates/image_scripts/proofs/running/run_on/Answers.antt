@@ -3,12 +3,16 @@ use Rattle.std.specs.Io.KnownBytes.{Appends}
 use Rattle.script_lines.specs.Lines.{lines_of}
 use Rattle.scripts.specs.Runs.{AppendsPart}
 use Rattle.image_file.specs.Images.{IsThere}
-use Rattle.image_scripts.proofs.RunLemmas.{not_put}
+use Rattle.image_scripts.proofs.RunLemmas.{not_held, not_put}
 use Rattle.image_scripts.proofs.running.run_on.Goals as goal
+
+pub returns-in-Err : goal.returns-in-Err
+returns-in-Err g c =
+    not_held c.args.given (lines_of c.args.script.now) c.args.ending c.args.is_strict _ _ (g.W.Write.contents c.args.writer.now) c.in-Err.fault c.in-Err.ensures.refused c.in-Err.ensures.same
 
 pub returns-in-Err-put_image : goal.returns-in-Err-put_image
 returns-in-Err-put_image g c =
-    not_put c.args.given (lines_of c.args.script.now) c.args.ending (g.P.Images.holds c.args.images.now c.args.path.now) (g.P.Images.holds c.play_held.new.images c.args.path.now) (g.P.Images.holds c.put_image.new.images c.args.path.now)
+    not_put c.args.given (lines_of c.args.script.now) c.args.ending c.args.is_strict (g.P.Images.holds c.args.images.now c.args.path.now) (g.P.Images.holds c.play_held.new.images c.args.path.now) (g.P.Images.holds c.put_image.new.images c.args.path.now)
     (g.W.Write.contents c.args.writer.now) c.in-Ok.played.image.items c.in-Ok.played.text.items c.deref.result.now c.in-Err-put_image.why c.of_file.result
     c.of_file.ensures c.in-Ok.ensures.ok c.play_held.ensures.same c.deref.ensures.value c.in-Err-put_image.ensures.err
 

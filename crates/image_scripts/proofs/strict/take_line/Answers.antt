@@ -1,0 +1,1 @@
+use Rattle.image_scripts.proofs.strict.take_line.Goals as goal
