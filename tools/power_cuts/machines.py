@@ -141,7 +141,7 @@ class Guest:
         return [
             *f"qemu-system-x86_64 -M q35 {processor} -smp 2 -m {memory} -nodefaults -no-user-config -display none -no-reboot".split(),
             *["-kernel", parts.kernel, "-initrd", parts.initramfs, "-serial", f"file:{parts.folder}/console"],
-            *["-append", "console=ttyS0 quiet panic=-1 mitigations=off nokaslr cryptomgr.notests"],
+            *["-append", "console=ttyS0 quiet panic=-1 mitigations=off nokaslr no_timer_check cryptomgr.notests"],
             *["-drive", f"file=nbd:unix:{self.disk.socket},format=raw,if=none,id=disk,cache=none,discard=unmap", *device[kind].split()],
             *["-chardev", f"socket,id=c,path={control}", "-chardev", f"socket,id=t,path={self.disk.told_by}", "-device", "virtio-serial-pci"],
             *["-device", "virtserialport,chardev=c,name=control", "-device", "virtserialport,chardev=t,name=told"],
@@ -228,8 +228,9 @@ class Parts:
     def guest(self, disk, kind, system, memory):
         """A machine that was just switched on. It goes on from one that was saved before it had loaded its disk's driver."""
         saved = f"{self.folder}/machine-{kind}-{memory}"
-        if not os.path.exists(saved):
-            self.save(disk, kind, memory, saved)
+        for tries_left in (2, 1, 0):
+            if not os.path.exists(saved):
+                self.save(disk, kind, memory, saved, tries_left)
         guest = Guest(self, disk, kind, memory, "-incoming", f"exec:cat {saved}")
         try:
             status, printed = guest.run(f"begin {kind} {system}; [ -b /dev/data ]")
@@ -239,8 +240,8 @@ class Parts:
             raise
         return guest
 
-    def save(self, disk, kind, memory, path):
-        """Boots a machine and saves it. A first one that doesn't come up under KVM, as in a machine that is a guest itself, does without."""
+    def save(self, disk, kind, memory, path, tries_left):
+        """Boots a machine and saves it. Where the first doesn't come up under KVM, as in a machine that is a guest itself, none is tried."""
         monitor, may_hang = free(f"{self.folder}/monitor"), self.has_kvm and self.is_doubted
         guest = Guest(self, disk, kind, memory, "-qmp", f"unix:{monitor},server=on,wait=off")
         try:
@@ -248,9 +249,7 @@ class Parts:
             guest.save(monitor, path)
             self.is_doubted = False
         except TimeoutError:
-            must(may_hang, "a machine doesn't come up")
-            self.has_kvm = False
+            must(tries_left > 0, "a machine doesn't come up")
+            self.has_kvm &= not may_hang
         finally:
             guest.cut()
-        if not os.path.exists(path):
-            self.save(disk, kind, memory, path)
