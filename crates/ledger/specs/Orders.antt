@@ -1,0 +1,7 @@
+-- Which path asks for which transfer (this project's own).
+use Rattle.std.specs.Prelude.{ℕ, List, ◌++◌, codes, decimal}
+use Rattle.ledger.specs.declared.order.Order.{Order}
+
+-- the path that asks for it
+abbrev pub spelled : Order → List ℕ
+spelled o = codes "/transfer/" ++ (decimal o.from ++ (codes "/" ++ (decimal o.to ++ (codes "/" ++ decimal o.amount))))
