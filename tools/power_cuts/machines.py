@@ -142,8 +142,8 @@ class Guest:
             self.port, _ = door.accept()
 
     def words(self, parts, kind, memory, control, port):
-        # By translation a second processor costs more than it gives.
-        processor = "-accel kvm -cpu host -smp 2" if parts.has_kvm else "-accel tcg,tb-size=256 -cpu max -smp 1"
+        # A second processor, or a newer one, costs more in translation than it gives.
+        processor = "-accel kvm -cpu host -smp 2" if parts.has_kvm else "-accel tcg,tb-size=256 -cpu Nehalem -smp 1"
         device = {"virtio": "-device virtio-blk-pci,drive=disk", "scsi": "-device virtio-scsi-pci -device scsi-hd,drive=disk,dpofua=on"}
         # Where the heap's host is here, it tells the disk itself.
         told, network = f"socket,id=t,path={self.disk.told_by}", []
@@ -153,7 +153,8 @@ class Guest:
         return [
             *f"qemu-system-x86_64 -M q35 {processor} -m {memory} -nodefaults -no-user-config -display none -no-reboot".split(),
             *["-kernel", parts.kernel, "-initrd", parts.initramfs, "-serial", f"file:{parts.folder}/console"],
-            *["-append", "console=ttyS0 quiet panic=-1 mitigations=off nokaslr no_timer_check cryptomgr.notests"],
+            # Programs lie at the same place each time, so that they aren't translated anew.
+            *["-append", "console=ttyS0 quiet panic=-1 mitigations=off nokaslr norandmaps no_timer_check cryptomgr.notests"],
             *["-drive", f"file=nbd:unix:{self.disk.socket},format=raw,if=none,id=disk,cache=none,discard=unmap", *device[kind].split()],
             *["-chardev", f"socket,id=c,path={control}", "-chardev", told, "-device", "virtio-serial-pci"],
             *["-device", "virtserialport,chardev=c,name=control", "-device", "virtserialport,chardev=t,name=told", *network],

@@ -5,6 +5,7 @@ disk's record itself. When the power fails the host has to see that its device i
 """
 import socket
 import subprocess
+import time
 
 from machines import must
 from trials import Trial, tries_of
@@ -51,8 +52,12 @@ class ServedTrial(Trial):
         must(status == 0, f"nothing is served: {printed}")
 
     def begin(self):
+        """Until the host has the heap: by a network that takes longer than a cut waits."""
         self.serve()
         self.begin_host("count", self.disk.told_by)
+        until = time.monotonic() + PATIENCE
+        while "made" not in self.disk.told(2**63) and self.host.poll() is None and time.monotonic() < until:
+            time.sleep(0.1)
 
     def tried(self, name):
         """As `try` of a guest does."""

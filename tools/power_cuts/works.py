@@ -135,7 +135,7 @@ FEW = {
 }
 WHOLE = {
     "program": [
-        Run("drive", states=280, in_recovery=64, true=59),
+        Run("drive", states=340, in_recovery=64, true=59),
         Run("drive", states=60, disk="scsi"),
         Run("drive", "xfs", states=60, in_recovery=16),
         Run("drive", "btrfs", states=50, in_recovery=16),
@@ -160,20 +160,20 @@ WHOLE = {
         Run("threads", states=60, torn=2),
         Run("threads", states=60, is_first=True),
         Run("copy", states=60),
-        Run("64 MB", states=12),
-        Run("160 MB", states=8),
+        Run("64 MB", states=6),
+        Run("160 MB", states=4),
     ],
     "devices": [
-        Run("sectors of 512", "none", states=80, torn=3),
-        Run("sectors of 512", "none", states=60, torn=4),
-        Run("sectors of 4096", "none", states=60, torn=3),
-        Run("sectors in a file", "xfs", states=60, torn=4),
+        Run("sectors of 512", "none", states=40, torn=3),
+        Run("sectors of 512", "none", states=30, torn=4),
+        Run("sectors of 4096", "none", states=30, torn=3),
+        Run("sectors in a file", "xfs", states=30, torn=4),
     ],
     "service": [Run("service", states=120, in_recovery=16, true=24)],
-    "leases": [Run("leases", states=20, true=7)],
+    "leases": [Run("leases", states=6, true=3)],
     "network": [
-        Run("a file, served", states=40, in_recovery=16, true=15),
-        Run("a device, served", "none", states=20, true=7),
+        Run("a file, served", states=24, in_recovery=16, true=15),
+        Run("a device, served", "none", states=16, true=7),
     ],
     "control": [*(Run("threads", without=number) for number in (1, 2, 3, 4)), Run("threads", lies=True), Run("drive", lies=True)],
 }
