@@ -175,5 +175,8 @@ WHOLE = {
         Run("threads", states=60, disk="scsi"),
         Run("threads", states=280, in_recovery=64, true=99),
     ],
-    "control": [*(Run("threads", without=number) for number in (1, 2, 3, 4)), Run("threads", lies=True), Run("drive", lies=True)],
+    "control": [
+        *(Run("threads", without=number) for number in (1, 2, 3, 4)),
+        *(Run(work, lies=True) for work in ("threads", "drive", "set", "a file, served")),
+    ],
 }
