@@ -135,16 +135,16 @@ FEW = {
 }
 WHOLE = {
     "network": [
-        Run("a file, served", states=12, in_recovery=8, true=15),
-        Run("a device, served", "none", states=8, true=7),
+        Run("a file, served", states=40, in_recovery=16, true=15),
+        Run("a device, served", "none", states=20, true=7),
     ],
-    "leases": [Run("leases", states=4, true=2)],
-    "service": [Run("service", states=60, in_recovery=8, true=12)],
+    "leases": [Run("leases", states=20, true=7)],
+    "service": [Run("service", states=120, in_recovery=16, true=24)],
     "devices": [
-        Run("sectors of 512", "none", states=40, torn=3),
-        Run("sectors of 512", "none", states=30, torn=4),
-        Run("sectors of 4096", "none", states=30, torn=3),
-        Run("sectors in a file", "xfs", states=30, torn=4),
+        Run("sectors of 512", "none", states=80, torn=3),
+        Run("sectors of 512", "none", states=60, torn=4),
+        Run("sectors of 4096", "none", states=60, torn=3),
+        Run("sectors in a file", "xfs", states=60, torn=4),
     ],
     "program": [
         Run("set", states=60),
@@ -162,8 +162,8 @@ WHOLE = {
         Run("drive", states=400, in_recovery=64, true=69),
     ],
     "threads": [
-        Run("160 MB", states=4),
-        Run("64 MB", states=6),
+        Run("160 MB", states=8),
+        Run("64 MB", states=12),
         Run("copy", states=60),
         Run("threads", states=60, is_first=True),
         Run("threads", states=60, torn=1),
