@@ -1,31 +1,19 @@
 -- What a crash left by the end of a run of workers.
-use Rattle.std.proofs.Common.{ℕ, ◌≡◌, true, false, List, inl, inr, refl, sym, ap, subst}
-use Rattle.heap_model.specs.Log.{IsLegal}
-use Rattle.heap_model.specs.declared.event.Event.{Event}
-use Rattle.heap_model.specs.declared.record.Record.{Record}
+use Rattle.std.proofs.Common.{◌≡◌, inl, inr, sym, ap, subst}
 use Rattle.block_disk.specs.Device.{Device}
-use Rattle.durable.specs.Runs.{HasRun}
-use Rattle.durable.proofs.Running.{ran_then}
+use Rattle.heap_threads.specs.Crashes.{IsLeftBehind, KeepsSome}
+use Rattle.heap_threads.specs.Serving.{CrashesSince, HasStayed, LivesOn}
+use Rattle.heap_threads.proofs.Ends.{living_keeps}
 use Rattle.image.specs.declared.layout.Layout.{Layout}
 use Rattle.monitor.specs.Seats.{Home}
-use Rattle.running_heap.specs.Life.{HasLived}
 use Rattle.running_life.specs.Running.{CrashBetweenLaw}
 use Rattle.session.specs.declared.error.SessionError.{SessionError}
-use Rattle.steps.specs.Views.{plan}
-use Rattle.store_past.specs.Past.{Past, applied, no_past}
 use Rattle.store_past.specs.declared.error.StoreError.{StoreError}
-use Rattle.trim_helper.specs.Closed.{Stood}
 use Rattle.trim_helper.specs.Parts.{Parts}
-use Rattle.trim_helper.specs.declared.ended.Ended.{Ended}
-use Rattle.drive.specs.Crashes.{CrashesOf, IsLeftBehind, IsLeftByCalls, KeepsEach, KeepsSome, RunTakenLaw, TakesEach}
-use Rattle.drive.specs.Serving.{CrashesBy, CrashesSince, HasStayed, IsLiving, LivesOn}
+use Rattle.drive.specs.Crashes.{CrashesBy, CrashesOf}
 use Rattle.drive.specs.Stops.{StopsTelling}
 use Rattle.drive.specs.declared.error.DriveError.{DriveError}
 use Rattle.drive.specs.declared.error.DriveError.TheVariants.{NoMemory, Schema, Image, Helper, Session, Close, Recover, OtherSchema}
-
--- recovery takes what it keeps something of
-pub kept_taken : (h : Home) (l : Layout) (history : List (ℕ × Event)) (old new : Device) → KeepsEach h l history old new → TakesEach old new
-kept_taken h l history old new keeps image left = (keeps image left).accepted
 
 -- the recovery behind a closing is stopped by no other part of a run
 pub telling_crashes : (h : Home) (l : Layout) (opened closed new : Device) (e : DriveError) → IsLeftBehind h l opened new → StopsTelling closed new e → CrashesOf h l opened new e
@@ -43,16 +31,12 @@ on_layout : (h : Home) (l k : Layout) (opened new : Device) (e : DriveError) →
 on_layout h l k opened new e same crashes = subst (λ (m : Layout). CrashesOf h m opened new e) same crashes
 
 module _ {D : Type 0} (device : D → Device) where
-  -- between two rounds
-  living_keeps : (h : Home) (opened : Device) (x : Parts D) (p : Past) → CrashBetweenLaw device → IsLiving device h opened x p → KeepsSome h x.store.known.layout opened (device x.store.disk)
-  living_keeps h opened x p law was = record { seen = was.seen; each = λ image left. law h opened p x was.seen image was.lived (record { serves = was.lived.serving; legal = was.legal; seen_of = was.of }) left }
-
   -- of a helper whose device is given back: for want of memory, or since a worker's session was refused
   pub back_wanting : (h : Home) (x : Parts D) (disk : D) → CrashBetweenLaw device → disk ≡ x.store.disk → CrashesBy device h x (device disk) NoMemory
-  back_wanting h x disk law is opened p was = inl (subst (λ (d : Device). KeepsSome h x.store.known.layout opened d) (sym (ap device is)) (living_keeps h opened x p law was))
+  back_wanting h x disk law is opened p was = inl (subst (λ (d : Device). KeepsSome h x.store.known.layout opened d) (sym (ap device is)) (living_keeps device h opened x p law was))
 
   pub back_refused : (h : Home) (x : Parts D) (disk : D) (e : SessionError) → CrashBetweenLaw device → disk ≡ x.store.disk → CrashesBy device h x (device disk) (Session e)
-  back_refused h x disk e law is opened p was = subst (λ (d : Device). KeepsSome h x.store.known.layout opened d) (sym (ap device is)) (living_keeps h opened x p law was)
+  back_refused h x disk e law is opened p was = subst (λ (d : Device). KeepsSome h x.store.known.layout opened d) (sym (ap device is)) (living_keeps device h opened x p law was)
 
   -- since a round was refused
   pub back_stopped : (h : Home) (x y : Parts D) (disk : D) (e : StoreError) → HasStayed device x y → CrashesSince device h x y → disk ≡ y.store.disk → CrashesBy device h x (device disk) (Helper e)
@@ -68,21 +52,3 @@ module _ {D : Type 0} (device : D → Device) where
 
   pub back_same : (h : Home) (x y : Parts D) (new : Device) (e : DriveError) → y ≡ x → CrashesBy device h y new e → CrashesBy device h x new e
   back_same h x y new e same crashes = subst (λ (z : Parts D). CrashesBy device h z new e) same crashes
-
-  -- a closing that was stopped
-  pub closing_left : (h : Home) (opened d : Device) (x : Parts D) (p : Past) (ended : List Ended) → RunTakenLaw → HasLived device h opened x p → Stood x.store.known.layout (plan h) p ended (device x.store.disk) d →
-      IsLeftByCalls h x.store.known.layout opened d
-  closing_left h opened d x p ended law was stood =
-      let life = was.life in
-      let l = x.store.known.layout in
-      let ran : HasRun l (plan h) no_past opened stood.then d true =
-      ran_then l l (plan h) no_past p stood.then opened (device x.store.disk) d false true refl life.ran (life.ran.whole refl) stood.ran in
-      record {
-        began = life.began;
-        nothing = life.nothing;
-        layout = life.layout;
-        now = stood.then;
-        ran = ran;
-        legal = subst (λ (rs : List (ℕ × Record)). IsLegal (plan h) rs) (sym stood.same) stood.legal;
-        takes = law life.began (plan h) no_past stood.then opened d true life.nothing (subst (λ (k : Layout). HasRun k (plan h) no_past opened stood.then d true) (sym life.layout) ran);
-      }

@@ -1,23 +1,14 @@
 -- There is one worker a lane, from the sessions as they are opened to what they leave.
-use Rattle.std.proofs.Common.{ℕ, suc, ◌≡◌, ◌+◌, List, [], ◌∷◌, ◌++◌, length, map, reverse, refl, sym, ap, ◌∙◌, arith}
+use Rattle.std.proofs.Common.{ℕ, suc, ◌≡◌, ◌+◌, List, [], ◌∷◌, ◌++◌, length, map, reverse, sym, ap, ◌∙◌, arith}
 use Rattle.std.proofs.lemmas.List.{append-nil, append_assoc, map-append, reverse-append}
-use Rattle.std.specs.List.{range_with_len}
 use Rattle.running_heap.specs.Joined.{AreNew}
 use Rattle.session.specs.Sessions.{view_of}
 use Rattle.session.specs.declared.session.Session.{Session}
-use Rattle.drive.specs.Workers.{lanes_opened}
 
 -- the last of new sessions is of the lane behind those of the others
 pub new_popped : (n : ℕ) (ys : List Session) (s : Session) → AreNew n (ys ++ s ∷ []) → AreNew n ys × ((view_of s).lane.0 ≡ n + length ys) × ((view_of s).events ≡ [])
 new_popped n [] s new = (tt, new.0 ∙ omega arith, new.1)
 new_popped n (y ∷ ys) s new = let later = new_popped (suc n) ys s new.2 in ((new.0, new.1, later.0), later.1 ∙ omega arith, later.2)
-
--- new sessions are of the lanes from the first one on
-pub lanes_up : (n : ℕ) (sessions : List Session) → AreNew n sessions → lanes_opened sessions ≡ range_with_len n (length sessions)
-lanes_up n [] new = refl
-lanes_up n (s ∷ sessions) new =
-    let next : suc n ≡ n + 1 = omega arith in
-    ap (λ (l : ℕ). l ∷ lanes_opened sessions) new.0 ∙ ap (λ (ls : List ℕ). n ∷ ls) (lanes_up (suc n) sessions new.2 ∙ ap (λ (l : ℕ). range_with_len l (length sessions)) next)
 
 -- numbers that are taken from the end of one list, and put at the end of another
 pub moved : {X Y : Type 0} (of_x : X → ℕ) (of_y : Y → ℕ) (xs : List X) (left : List X) (x : X) (ys : List Y) (y : Y) (all : List ℕ) → xs ≡ left ++ x ∷ [] → of_y y ≡ of_x x

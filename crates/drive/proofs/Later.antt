@@ -8,7 +8,7 @@ use Rattle.monitor.specs.Seats.{Home}
 use Rattle.running_heap.specs.Laws.{EndedLaw}
 use Rattle.trim_helper.specs.Parts.{Parts}
 use Rattle.drive.specs.Driven.{EndsRun, IsRunBy}
-use Rattle.drive.specs.Serving.{HasStayed, LivesOn}
+use Rattle.heap_threads.specs.Serving.{HasStayed, LivesOn}
 use Rattle.drive.specs.Workers.{AreWorked, IsWorked}
 use Rattle.drive.specs.declared.driven.Driven.{Driven}
 use Rattle.drive.specs.declared.workers.Worked.{Worked}

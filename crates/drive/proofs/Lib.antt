@@ -1,5 +1,3 @@
-pub mod Served
-pub mod Taken
 pub mod Ends
 pub mod Jobs
 pub mod Later
@@ -9,6 +7,5 @@ pub mod Ending
 pub mod Lanes
 pub mod Stopped
 pub mod SchemaLemmas
-pub mod Theirs
 pub mod Recovered
 pub mod Refused

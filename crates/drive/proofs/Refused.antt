@@ -1,10 +1,11 @@
 -- What a refusal says, by the refusal of a part.
-use Rattle.std.proofs.Common.{ℕ, suc, ◌≡◌, ◌≤◌, ◌⊎◌, List, [], ◌∷◌, Result, Ok, Err, IfErr, IfOk, inl, inr, length, refl, ap, subst, ◌∙◌, arith}
-use Rattle.block_disk.specs.Device.{Device, HasFailed, Moment, SameMoments, synced}
-use Rattle.block_disk.proofs.Failures.{moments_trans}
-use Rattle.block_disk.proofs.Images.{and_then, stays}
+use Rattle.std.proofs.Common.{ℕ, suc, ◌≡◌, ◌≤◌, ◌⊎◌, List, inl, inr, length, refl, ap, subst, ◌∙◌, arith}
+use Rattle.block_disk.specs.Device.{Device, SameMoments}
 use Rattle.guards.specs.Schema.{Declarations, field_count, guard_of, object_count}
-use Rattle.image.specs.Calls.{Call, Write, Sync, after, after_one}
+use Rattle.heap_threads.specs.Runs.{IsNotFound}
+use Rattle.heap_threads.specs.Stops.{IsHomeOf}
+use Rattle.heap_threads.proofs.Recovered.{recovery_alike}
+use Rattle.heap_threads.proofs.Refused.{not_found_alike}
 use Rattle.image.specs.Layout.{size_of}
 use Rattle.image.specs.Recovered.{Parts}
 use Rattle.image.specs.declared.error.ImageError.{ImageError}
@@ -12,113 +13,20 @@ use Rattle.image.specs.declared.error.ImageError.TheVariants as images
 use Rattle.image.specs.declared.layout.Layout.{Layout}
 use Rattle.monitor.specs.Seats.{Home}
 use Rattle.monitor.specs.declared.view.Plan.{Plan}
-use Rattle.recover.specs.Reading.{IsOfOldVersion, RefusesImage}
-use Rattle.recover.specs.Recovery.{IsCutOff, IsOnTheWay, IsRecovery, IsWorn, RefusesRecovery, StudiedLaw}
-use Rattle.recover.specs.Study.{IsStudyOf}
-use Rattle.recover.specs.declared.error.RecoverError.{RecoverError}
-use Rattle.recover.specs.declared.error.RecoverError.TheVariants as recover
+use Rattle.recover.specs.Recovery.{IsRecovery}
 use Rattle.recover.specs.declared.report.Report.{Report}
-use Rattle.recover.specs.declared.studied.Study.{Study}
 use Rattle.session.specs.declared.error.SessionError.{SessionError}
 use Rattle.session.specs.declared.error.SessionError.TheVariants as sessions
 use Rattle.store_image.specs.Formatting.{RefusesFormat, layout_with}
 use Rattle.drive.specs.Crashes.{CrashesOf}
 use Rattle.drive.specs.Driven.{IsMadeOf, blank_device}
-use Rattle.drive.specs.Refusals.{IsMakingRefused, IsNotFound, IsOwnStop, IsStoppedFirst, IsStoppedLater, RefusesFinding, RefusesGoingOn, RefusesLook, RefusesNew, RefusesOn, RefusesStudy, RefusesWith}
+use Rattle.drive.specs.Refusals.{IsMakingRefused, IsOwnStop, IsStoppedFirst, IsStoppedLater, RefusesGoingOn, RefusesLook, RefusesNew, RefusesOn, RefusesWith}
 use Rattle.drive.specs.Schemas.{HoldsWorkers, IsOfWorkers, MayHaveImage, schema_of}
-use Rattle.drive.specs.Stops.{IsHomeOf, StopsBy, StopsRun}
+use Rattle.drive.specs.Stops.{StopsBy, StopsRun}
 use Rattle.drive.specs.Working.{StopsWorker}
 use Rattle.drive.specs.declared.error.DriveError.{DriveError}
 use Rattle.drive.specs.declared.error.DriveError.TheVariants.{NoMemory, Schema, Image, Helper, Session, Close, Recover, OtherSchema}
-use Rattle.drive.proofs.Recovered.{recovery_alike, synced_alike}
 use Rattle.drive.proofs.SchemaLemmas.{fields_are, guards_are, objects_are}
-use Rattle.drive.proofs.Stopped.{failed_since}
-
--- what holds anyway
-pub anyway : {A E P : Type 0} (r : Result A E) → P → IfOk r (λ x. P)
-anyway (Ok x) p = p
-anyway (Err e) p = tt
-
-pub weaker : {A E : Type 0} (r : Result A E) (P Q : E → Type 0) → ((e : E) → P e → Q e) → IfErr r P → IfErr r Q
-weaker (Ok x) P Q step p = tt
-weaker (Err e) P Q step p = step e p
-
-pub weaker_both : {A E : Type 0} (r : Result A E) (P Q S : E → Type 0) → ((e : E) → P e → Q e → S e) → IfErr r P → IfErr r Q → IfErr r S
-weaker_both (Ok x) P Q S step p q = tt
-weaker_both (Err e) P Q S step p q = step e p q
-
--- calls that succeed leave the count of failures
-pub after_failures : (calls : List Call) (d : Device) → (after calls d).failures ≡ d.failures
-after_failures [] d = refl
-after_failures (Write at bytes ∷ calls) d = after_failures calls (after_one (Write at bytes) d)
-after_failures (Sync ∷ calls) d = after_failures calls (after_one Sync d)
-
--- a study that is refused, and a recovery of what has a study
-pub study_stops : (old new : Device) (e : RecoverError) → RefusesImage old.now.bytes e → (e ≡ recover.Fault → HasFailed old.failures new.failures) → RefusesStudy old new e
-study_stops old new recover.Fault refused cause = cause refl
-study_stops old new recover.NotFormatted refused cause = refused
-study_stops old new recover.BadHeader refused cause = refused
-study_stops old new recover.TooSmall refused cause = refused
-study_stops old new recover.NoControl refused cause = refused
-study_stops old new recover.BadControl refused cause = refused
-study_stops old new recover.OldVersion refused cause = refused
-study_stops old new recover.Worn refused cause = refused
-study_stops old new (recover.BadRecord lane place) refused cause = refused
-study_stops old new (recover.IllegalLog lane place) refused cause = refused
-study_stops old new recover.NoMemory refused cause = refused
-
-neither : {P : Type 0} (e : RecoverError) → (e ≡ recover.Fault → ⊥) → (e ≡ recover.NoMemory → ⊥) → (e ≡ recover.Fault) ⊎ (e ≡ recover.NoMemory) → P
-neither e fault memory either = elim either [
-  | inl is ↦ absurd (fault is)
-  | inr is ↦ absurd (memory is)
-]
-
-pub finding_stops : (old new : Device) (s : Study) (e : RecoverError) → StudiedLaw → IsStudyOf old.now.bytes s → RefusesRecovery old.now.bytes e → (e ≡ recover.Fault → HasFailed old.failures new.failures) → RefusesFinding old new e
-finding_stops old new s recover.Fault law of refused cause = cause refl
-finding_stops old new s recover.NotFormatted law of refused cause = neither recover.NotFormatted (λ is. absurd cc) (λ is. absurd cc) (law old.now.bytes s recover.NotFormatted of refused)
-finding_stops old new s recover.BadHeader law of refused cause = neither recover.BadHeader (λ is. absurd cc) (λ is. absurd cc) (law old.now.bytes s recover.BadHeader of refused)
-finding_stops old new s recover.TooSmall law of refused cause = neither recover.TooSmall (λ is. absurd cc) (λ is. absurd cc) (law old.now.bytes s recover.TooSmall of refused)
-finding_stops old new s recover.NoControl law of refused cause = neither recover.NoControl (λ is. absurd cc) (λ is. absurd cc) (law old.now.bytes s recover.NoControl of refused)
-finding_stops old new s recover.BadControl law of refused cause = neither recover.BadControl (λ is. absurd cc) (λ is. absurd cc) (law old.now.bytes s recover.BadControl of refused)
-finding_stops old new s recover.OldVersion law of refused cause = refused
-finding_stops old new s recover.Worn law of refused cause = refused.1
-finding_stops old new s (recover.BadRecord lane place) law of refused cause = neither (recover.BadRecord lane place) (λ is. absurd cc) (λ is. absurd cc) (law old.now.bytes s (recover.BadRecord lane place) of refused.1)
-finding_stops old new s (recover.IllegalLog lane place) law of refused cause = neither (recover.IllegalLog lane place) (λ is. absurd cc) (λ is. absurd cc) (law old.now.bytes s (recover.IllegalLog lane place) of refused.1)
-finding_stops old new s recover.NoMemory law of refused cause = tt
-
--- the same of a device that was only read
-finding_alike : (old seen new : Device) (e : RecoverError) → SameMoments old seen → old.failures ≤ seen.failures → RefusesFinding seen new e → RefusesFinding old new e
-finding_alike old seen new recover.Fault same later refused = failed_since old.failures seen.failures new.failures later refused
-finding_alike old seen new recover.NotFormatted same later refused = absurd refused
-finding_alike old seen new recover.BadHeader same later refused = absurd refused
-finding_alike old seen new recover.TooSmall same later refused = absurd refused
-finding_alike old seen new recover.NoControl same later refused = absurd refused
-finding_alike old seen new recover.BadControl same later refused = absurd refused
-finding_alike old seen new recover.OldVersion same later refused = subst (λ (m : Moment). IsOfOldVersion m.bytes) same.now refused
-finding_alike old seen new recover.Worn same later refused = subst (λ (m : Moment). IsWorn m.bytes) same.now refused
-finding_alike old seen new (recover.BadRecord lane place) same later refused = absurd refused
-finding_alike old seen new (recover.IllegalLog lane place) same later refused = absurd refused
-finding_alike old seen new recover.NoMemory same later refused = tt
-
--- a recovery that was cut off, of a device that was only read before it
-cut_off_alike : (old seen new : Device) → SameMoments old seen → IsCutOff seen new → IsCutOff old new
-cut_off_alike old seen new same (inl none) = inl (moments_trans old seen new same none)
-cut_off_alike old seen new same (inr (inl one)) = inr (inl (moments_trans (synced old) (synced seen) new (synced_alike old seen same) one))
-cut_off_alike old seen new same (inr (inr (study, of, leaves))) = inr (inr (
-  study,
-  subst (λ (m : Moment). IsStudyOf m.bytes study) same.now of,
-  and_then (synced old) (synced seen) new (IsOnTheWay study) (stays (synced old) (synced seen) (IsOnTheWay study) (synced_alike old seen same)) leaves,
-))
-
-not_found_alike : (old seen new : Device) (e : RecoverError) → SameMoments old seen → old.failures ≤ seen.failures → IsNotFound seen new e → IsNotFound old new e
-not_found_alike old seen new e same later refused = record {
-  why = finding_alike old seen new e same later refused.why;
-  untouched = elim refused.untouched [
-    | inl fault ↦ inl fault
-    | inr one ↦ inr (moments_trans (synced old) (synced seen) new (synced_alike old seen same) one)
-  ];
-  cut_off = cut_off_alike old seen new same refused.cut_off;
-}
 
 -- a session refuses workers of their own schema only as behind or worn
 session_stops : (workers : ℕ) (h : Home) (capacity lanes : ℕ) (values : List ℕ) (e : SessionError) → lanes ≡ workers → IsHomeOf (schema_of workers) values lanes h → StopsWorker h capacity e → (e ≡ sessions.Behind) ⊎ (e ≡ sessions.Worn)

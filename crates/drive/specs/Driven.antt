@@ -20,8 +20,8 @@ use Rattle.store_past.specs.Past.{Past}
 use Rattle.trim_helper.specs.Parts as helpers
 use Rattle.trim_helper.specs.declared.ended.Ended.{Ended}
 use Rattle.trim_helper.specs.Endings.{HoldNone, IsComplete}
-use Rattle.drive.specs.Crashes.{KeepsEach}
-use Rattle.drive.specs.Serving.{IsLiving}
+use Rattle.heap_threads.specs.Crashes.{KeepsEach}
+use Rattle.heap_threads.specs.Serving.{IsLiving}
 use Rattle.drive.specs.Schemas.{IsOfWorkers, schema_of}
 use Rattle.drive.specs.declared.driven.Driven.{Driven}
 

@@ -8,5 +8,4 @@ pub mod Refusals
 -- What workers and helper keep.
 pub mod Working
 pub mod Workers
-pub mod Serving
 pub mod Racing

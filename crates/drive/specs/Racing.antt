@@ -4,8 +4,8 @@ use Rattle.block_disk.specs.Device.{Device}
 use Rattle.monitor.specs.Seats.{Home}
 use Rattle.running_heap.specs.Joined.{IsHelping}
 use Rattle.trim_helper.specs.Parts.{Parts}
-use Rattle.drive.specs.Serving.{CrashesSince, HasStayed, LivesOn}
-use Rattle.drive.specs.Stops.{StopsRound}
+use Rattle.heap_threads.specs.Serving.{CrashesSince, HasStayed, LivesOn}
+use Rattle.heap_threads.specs.Stops.{StopsRound}
 use Rattle.drive.specs.Workers.{HaveWorked}
 use Rattle.drive.specs.declared.racing.Raced.{Raced}
 use Rattle.drive.specs.declared.workers.Worker.{Worker}

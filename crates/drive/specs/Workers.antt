@@ -40,10 +40,7 @@ pub record IsWorked (h : Home) (capacity : ℕ) (rings : Rings) (w : Worked) : T
 abbrev pub AreWorked : (h : Home) (capacity : ℕ) (rings : Rings) → List Worked → Type 0
 AreWorked h capacity rings worked = All (IsWorked h capacity rings) worked
 
--- the lanes of these sessions, in order; of these workers; and of what they leave
-abbrev pub lanes_opened : List Session → List ℕ
-lanes_opened sessions = map (λ s. (view_of s).lane.0) sessions
-
+-- the lanes of these workers, in order, and of what they leave
 abbrev pub lanes_begun : List Worker → List ℕ
 lanes_begun workers = map (λ w. (view_of w.session).lane.0) workers
 

@@ -2,7 +2,7 @@
 ghost use Rattle.std.specs.Prelude.{◌≡◌, All, IfErr, IfOk, false, length, reverse, take};
 ghost use Rattle.std.specs.List.{range_with_len};
 ghost use Rattle.drive.specs.Driven.{EndsRun, IsDriven, IsTold};
-ghost use Rattle.drive.specs.Serving.{CrashesBy};
+ghost use Rattle.drive.specs.Crashes.{CrashesBy};
 ghost use Rattle.drive.specs.Stops.{StopsBy, StopsRun, StopsTelling};
 ghost use Rattle.drive.specs.Workers.{AreWorked, lanes_worked};
 ghost use Rattle.recover.specs.Recovery.{IsCutOff};
@@ -10,7 +10,6 @@ ghost use Rattle.running_heap.specs.Joined.{AreNew, IsHelping, IsJoined};
 ghost use Rattle.trim_helper.specs.Endings.{HoldNone, IsComplete, IsEnded};
 ghost use Rattle.trim_helper.specs.Opening.{FitsSchema};
 
-use crate::crashes::taken_law;
 use crate::driven::Driven;
 use crate::error::DriveError;
 use crate::meet::Meet;
@@ -20,6 +19,7 @@ use crate::workers::{Worked, number_all, part};
 use block_disk::Disk;
 use guards::Schema;
 use heap_model::LAST_NUMBER;
+use heap_threads::taken_law;
 use image::Recovered;
 use monitor::Shared;
 use recover::recover;

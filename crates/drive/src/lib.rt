@@ -7,13 +7,11 @@
 //! within each section.
 #![tactic(auto)]
 
-mod crashes;
 mod declaring;
 mod devices;
 mod driven;
 mod driving;
 mod error;
-mod fitting;
 mod meet;
 mod racing;
 mod serving;

@@ -1,7 +1,7 @@
 //! What the helper does beside the workers.
 ghost use Rattle.std.specs.Prelude.{◌≡◌, IfErr, OnErr, OnOk, false};
-ghost use Rattle.drive.specs.Serving.{CrashesSince, HasStayed, LivesOn};
-ghost use Rattle.drive.specs.Stops.{StopsRound};
+ghost use Rattle.heap_threads.specs.Serving.{CrashesSince, HasStayed, LivesOn};
+ghost use Rattle.heap_threads.specs.Stops.{StopsRound};
 ghost use Rattle.running_heap.specs.Joined.{IsHelping};
 ghost use Rattle.trim_helper.specs.Heard.{HasSeen};
 
@@ -45,7 +45,7 @@ pub fn serve<D: Disk, R: Wait>(
 }
 
 // Rounds until the workers have ended.
-#[tactic(auto, using(crate::proofs::Served::stays, crate::proofs::Served::stays_on))]
+#[tactic(auto, using(heap_threads::proofs::Served::stays, heap_threads::proofs::Served::stays_on))]
 fn make_rounds<D: Disk, R: Wait>(
     rt: &R,
     shared: &Shared,

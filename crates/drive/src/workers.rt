@@ -1,6 +1,7 @@
 //! The workers, as they begin and as they end.
 ghost use Rattle.std.specs.Prelude.{ℕ, ◌≡◌, ◌<◌, ◌≤◌, All, IfOk, IfSome, MatchOption, length, reverse};
-ghost use Rattle.drive.specs.Workers.{AreJoined, AreMadeReady, AreReady, AreWorked, HaveWorked, IsReady, IsWorked, lanes_begun, lanes_opened, lanes_worked};
+ghost use Rattle.drive.specs.Workers.{AreJoined, AreMadeReady, AreReady, AreWorked, HaveWorked, IsReady, IsWorked, lanes_begun, lanes_worked};
+ghost use Rattle.heap_threads.specs.Bodies.{lanes_opened};
 ghost use Rattle.drive.specs.Working.{StopsWorker};
 ghost use Rattle.monitor.specs.Seats.{Home};
 ghost use Rattle.running_heap.specs.Joined.{AreNew, IsJoined};

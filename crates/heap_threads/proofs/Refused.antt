@@ -105,7 +105,7 @@ cut_off_alike old seen new same (inr (inr (study, of, leaves))) = inr (inr (
   and_then (synced old) (synced seen) new (IsOnTheWay study) (stays (synced old) (synced seen) (IsOnTheWay study) (synced_alike old seen same)) leaves,
 ))
 
-not_found_alike : (old seen new : Device) (e : RecoverError) → SameMoments old seen → old.failures ≤ seen.failures → IsNotFound seen new e → IsNotFound old new e
+pub not_found_alike : (old seen new : Device) (e : RecoverError) → SameMoments old seen → old.failures ≤ seen.failures → IsNotFound seen new e → IsNotFound old new e
 not_found_alike old seen new e same later refused = record {
   why = finding_alike old seen new e same later refused.why;
   untouched = elim refused.untouched [

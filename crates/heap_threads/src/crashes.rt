@@ -10,8 +10,11 @@ use survival::has_study_law;
 /// Recovery takes whatever a crash left of a device that was recovered, at any moment of a run of store calls behind that, and at any
 /// moment of a recovery of what the run left.
 pub fn taken_law()
+    // Recovery accepts whatever a crash leaves of a device that was recovered, and on which nothing was done since.
     ensures recovered { RecoveredLaw }
+    // Recovery accepts whatever a crash left at any moment of a run of store calls.
     ensures run { RunTakenLaw }
+    // Recovery accepts whatever a crash left of a recovery of what such a run left, wherever that ended.
     ensures recovery { RecoveryTakenLaw }
 {
     has_study_law();

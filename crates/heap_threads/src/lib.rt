@@ -19,9 +19,10 @@ mod serving;
 mod thread;
 mod work;
 
-pub use crashes::durable_law;
+pub use crashes::{durable_law, taken_law};
 pub use devices::{Ran, run_new, run_on};
 pub use error::RunError;
+pub use fitting::is_of;
 pub use guards::{Schema, SchemaBuilder, SchemaError};
 pub use heap_model::{FieldId, Lane, ObjectId};
 pub use joint::Joint;

@@ -5,7 +5,8 @@ use Rattle.trim_helper.specs.Opening.{FitsSchema}
 use Rattle.drive.specs.Schemas.{schema_of}
 use Rattle.drive.specs.Refusals.{IsOwnStop, RefusesNew}
 use Rattle.drive.specs.Stops.{StopsRun}
-use Rattle.drive.proofs.Refused.{anyway, made_new, weaker_both}
+use Rattle.heap_threads.proofs.Refused.{anyway, weaker_both}
+use Rattle.drive.proofs.Refused.{made_new}
 use Rattle.drive.proofs.devices.drive_new.Goals as goal
 
 pub returns-in-Ok-make-clause-ok : goal.returns-in-Ok-make-clause-ok

@@ -4,7 +4,8 @@ use Rattle.block_disk.specs.Device.{Moment}
 use Rattle.drive.specs.Refusals.{RefusesGoingOn, RefusesOn}
 use Rattle.drive.specs.Schemas.{HoldsWorkers}
 use Rattle.drive.proofs.Recovered.{on_alike}
-use Rattle.drive.proofs.Refused.{anyway, going_as_on, look_on, weaker}
+use Rattle.heap_threads.proofs.Refused.{anyway, weaker}
+use Rattle.drive.proofs.Refused.{going_as_on, look_on}
 use Rattle.drive.proofs.devices.drive_on.Goals as goal
 
 pub go_on-requires-clause-theirs : goal.go_on-requires-clause-theirs

@@ -3,7 +3,8 @@ use Rattle.std.proofs.lemmas.Result.{IfOk-weaker}
 use Rattle.drive.specs.Refusals.{IsOwnStop, RefusesGoingOn}
 use Rattle.drive.specs.Schemas.{schema_of}
 use Rattle.drive.specs.Stops.{StopsRun}
-use Rattle.drive.proofs.Refused.{going_on, weaker_both}
+use Rattle.heap_threads.proofs.Refused.{weaker_both}
+use Rattle.drive.proofs.Refused.{going_on}
 use Rattle.drive.proofs.devices.go_on.Goals as goal
 
 pub returns-in-Ok-clause-ok : goal.returns-in-Ok-clause-ok

@@ -1,5 +1,5 @@
 use Rattle.std.proofs.Common.{◌≡◌, Err, true, false, ap, sym, ◌∙◌}
-use Rattle.drive.proofs.Refused.{study_stops}
+use Rattle.heap_threads.proofs.Refused.{study_stops}
 use Rattle.drive.proofs.devices.look.Goals as goal
 
 pub returns-in-Err-clause-refused : goal.returns-in-Err-clause-refused

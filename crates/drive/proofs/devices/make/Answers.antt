@@ -5,7 +5,7 @@ use Rattle.image.specs.Calls.{after}
 use Rattle.image.specs.Format.{format_calls}
 use Rattle.store_image.specs.Formatting.{layout_with}
 use Rattle.drive.specs.Schemas.{schema_of}
-use Rattle.drive.proofs.Refused.{after_failures}
+use Rattle.heap_threads.proofs.Refused.{after_failures}
 use Rattle.drive.proofs.SchemaLemmas.{first_is_zero}
 use Rattle.drive.proofs.devices.make.Goals as goal
 

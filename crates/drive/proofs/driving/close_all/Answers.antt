@@ -1,12 +1,14 @@
 use Rattle.std.proofs.Common.{◌≤◌, length, arith}
 use Rattle.std.proofs.lemmas.Result.{IfOk-weaker}
 use Rattle.recover.specs.Recovery.{IsCutOff}
-use Rattle.drive.specs.Crashes.{IsLeftBehind, KeepsEach, TakesEach}
-use Rattle.drive.specs.Serving.{CrashesBy}
+use Rattle.heap_threads.specs.Crashes.{IsLeftBehind, KeepsEach, TakesEach}
+use Rattle.heap_threads.proofs.Ends.{closing_left, kept_taken}
+use Rattle.heap_threads.proofs.Refused.{weaker, weaker_both}
+use Rattle.heap_threads.proofs.Stopped.{close_stops}
+use Rattle.drive.specs.Crashes.{CrashesBy}
 use Rattle.drive.specs.Stops.{StopsBy, StopsTelling}
-use Rattle.drive.proofs.Ends.{closing_left, kept_taken, telling_crashes}
-use Rattle.drive.proofs.Refused.{weaker, weaker_both}
-use Rattle.drive.proofs.Stopped.{close_stops, told_stops}
+use Rattle.drive.proofs.Ends.{telling_crashes}
+use Rattle.drive.proofs.Stopped.{told_stops}
 use Rattle.drive.proofs.driving.close_all.Goals as goal
 
 pub returns-in-Ok-clause-ok : goal.returns-in-Ok-clause-ok

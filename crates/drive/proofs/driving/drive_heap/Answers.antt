@@ -3,12 +3,13 @@ use Rattle.std.proofs.lemmas.Result.{IfOk-weaker}
 use Rattle.block_disk.specs.Device.{Device}
 use Rattle.image.specs.declared.layout.Layout.{Layout}
 use Rattle.running_heap.specs.Joined.{IsJoined}
-use Rattle.drive.specs.Crashes.{CrashesOf, TakesEach}
+use Rattle.heap_threads.specs.Crashes.{TakesEach}
+use Rattle.heap_threads.proofs.Refused.{weaker_both}
+use Rattle.heap_threads.proofs.Served.{begins_living}
+use Rattle.drive.specs.Crashes.{CrashesBy, CrashesOf}
 use Rattle.drive.specs.Driven.{IsRunBy}
 use Rattle.drive.specs.Stops.{StopsBy, StopsRun}
-use Rattle.drive.specs.Serving.{CrashesBy}
-use Rattle.drive.proofs.Refused.{run_stops, weaker_both}
-use Rattle.drive.proofs.Served.{begins_living}
+use Rattle.drive.proofs.Refused.{run_stops}
 use Rattle.store_past.specs.Past.{no_past}
 use Rattle.drive.proofs.driving.drive_heap.Goals as goal
 

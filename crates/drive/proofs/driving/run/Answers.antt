@@ -3,14 +3,15 @@ use Rattle.std.proofs.lemmas.Result.{IfOk-weaker}
 use Rattle.std.proofs.lemmas.List.{reverse-reverse}
 use Rattle.image.specs.declared.layout.Layout.{Layout}
 use Rattle.std.specs.List.{range_with_len}
-use Rattle.drive.specs.Serving.{CrashesBy, CrashesSince, LivesOn}
+use Rattle.heap_threads.specs.Serving.{CrashesSince, LivesOn}
+use Rattle.heap_threads.proofs.Lanes.{lanes_up}
+use Rattle.heap_threads.proofs.Refused.{weaker}
+use Rattle.drive.specs.Crashes.{CrashesBy}
 use Rattle.drive.specs.Stops.{StopsBy}
 use Rattle.drive.specs.declared.error.DriveError.TheVariants.{NoMemory}
 use Rattle.drive.specs.Workers.{AreWorked, lanes_begun, lanes_worked}
 use Rattle.drive.proofs.Ends.{back_before, back_same, back_stopped, back_wanting}
-use Rattle.drive.proofs.Lanes.{lanes_up}
 use Rattle.drive.proofs.Later.{run_before, worked_later}
-use Rattle.drive.proofs.Refused.{weaker}
 use Rattle.drive.proofs.Stopped.{stops_since}
 use Rattle.drive.proofs.driving.run.Goals as goal
 

@@ -1,7 +1,7 @@
 use Rattle.std.proofs.Common.{take, ap, ◌∙◌}
 use Rattle.image.specs.declared.layout.Layout.{Layout}
-use Rattle.drive.proofs.Stopped.{telling_stops}
-use Rattle.drive.proofs.Taken.{cut_off_there}
+use Rattle.heap_threads.proofs.Stopped.{telling_stops}
+use Rattle.heap_threads.proofs.Taken.{cut_off_there}
 use Rattle.drive.proofs.driving.tell.Goals as goal
 
 pub returns-clause-ok : goal.returns-clause-ok

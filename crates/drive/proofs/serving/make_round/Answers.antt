@@ -1,8 +1,8 @@
 use Rattle.std.proofs.Common.{◌≡◌, false}
 use Rattle.steps.specs.Views.{plan}
-use Rattle.drive.specs.Serving.{LivesOn}
-use Rattle.drive.proofs.Served.{crashes_since, lives_on, on_ok, runs_on}
-use Rattle.drive.proofs.Stopped.{round_stops, worn_out}
+use Rattle.heap_threads.specs.Serving.{LivesOn}
+use Rattle.heap_threads.proofs.Served.{crashes_since, lives_on, on_ok, runs_on}
+use Rattle.heap_threads.proofs.Stopped.{round_stops, worn_out}
 use Rattle.drive.proofs.serving.make_round.Goals as goal
 
 pub returns-clause-helping : goal.returns-clause-helping

@@ -1,4 +1,4 @@
-use Rattle.drive.proofs.Served.{crashes_then, lives_same, lives_then, stays, stays_on}
+use Rattle.heap_threads.proofs.Served.{crashes_then, lives_same, lives_then, stays, stays_on}
 use Rattle.drive.proofs.serving.make_rounds.Goals as goal
 
 pub loop-init : goal.loop-init

@@ -1,6 +1,6 @@
 use Rattle.std.proofs.Common.{◌≡◌, false}
 use Rattle.running_heap.specs.Joined.{IsHelping}
-use Rattle.drive.specs.Serving.{HasStayed, LivesOn}
+use Rattle.heap_threads.specs.Serving.{HasStayed, LivesOn}
 use Rattle.drive.proofs.serving.make_rounds.Given as goal
 
 -- Each round so far was answered; the store calls of all of them, behind those since the opening, have made what the helper serves, and what it has seen of the

@@ -3,7 +3,8 @@ use Rattle.std.proofs.lemmas.List.Elements.{All-nil, All-pop, All-push}
 use Rattle.running_heap.specs.Joined.{AreNew, IsJoined}
 use Rattle.session.specs.Sessions.{view_of}
 use Rattle.session.specs.declared.session.Session.{Session}
-use Rattle.drive.specs.Workers.{AreJoined, AreReady, IsReady, lanes_begun, lanes_opened}
+use Rattle.heap_threads.specs.Bodies.{lanes_opened}
+use Rattle.drive.specs.Workers.{AreJoined, AreReady, IsReady, lanes_begun}
 use Rattle.drive.specs.declared.workers.Worker.{Worker}
 use Rattle.drive.proofs.Holding.{at_first}
 use Rattle.drive.proofs.Lanes.{all_moved, moved, new_popped}

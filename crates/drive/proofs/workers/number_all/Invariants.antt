@@ -2,7 +2,8 @@ use Rattle.std.proofs.Common.{ℕ, ◌≡◌, ◌≤◌, ◌++◌, All, length, 
 use Rattle.monitor.specs.Seats.{Home}
 use Rattle.running_heap.specs.Joined.{AreNew, IsJoined}
 use Rattle.trim_helper.specs.Endings.{Rings}
-use Rattle.drive.specs.Workers.{AreJoined, AreReady, lanes_begun, lanes_opened}
+use Rattle.heap_threads.specs.Bodies.{lanes_opened}
+use Rattle.drive.specs.Workers.{AreJoined, AreReady, lanes_begun}
 use Rattle.drive.proofs.workers.number_all.Given as goal
 
 -- those that are numbered are joined and ready, by lanes that come down

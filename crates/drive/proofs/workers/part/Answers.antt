@@ -6,7 +6,8 @@ use Rattle.drive.specs.Workers.{IsWorked, lanes_worked}
 use Rattle.trim_helper.specs.Endings.{lanes_ended}
 use Rattle.drive.specs.Working.{StopsWorker}
 use Rattle.drive.specs.declared.workers.Worked.{Worked}
-use Rattle.drive.proofs.Ending.{first_stops, none_hold}
+use Rattle.heap_threads.proofs.Ending.{none_hold}
+use Rattle.drive.proofs.Ending.{first_stops}
 use Rattle.drive.proofs.Lanes.{all_moved, moved}
 use Rattle.drive.proofs.workers.part.Goals as goal
 

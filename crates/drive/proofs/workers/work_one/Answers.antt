@@ -1,6 +1,7 @@
 use Rattle.std.proofs.Common.{ℕ, IfSome, subst}
 use Rattle.drive.specs.Working.{StopsWorker}
-use Rattle.drive.proofs.Ending.{held_none, lane_kept}
+use Rattle.heap_threads.proofs.Ending.{lane_kept}
+use Rattle.drive.proofs.Ending.{held_none}
 use Rattle.drive.proofs.workers.work_one.Goals as goal
 
 pub returns-clause-lane : goal.returns-clause-lane
