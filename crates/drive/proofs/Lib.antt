@@ -1,11 +1,6 @@
-pub mod Ends
-pub mod Jobs
-pub mod Later
 pub mod Holding
 pub mod Refusing
 pub mod Ending
-pub mod Lanes
-pub mod Stopped
+pub mod Standing
 pub mod SchemaLemmas
-pub mod Recovered
 pub mod Refused

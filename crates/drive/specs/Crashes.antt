@@ -2,11 +2,8 @@
 use Rattle.std.specs.Prelude.{◌⊎◌}
 use Rattle.block_disk.specs.Device.{Device}
 use Rattle.heap_threads.specs.Crashes.{IsLeftBehind, IsLeftByCalls, KeepsSome}
-use Rattle.heap_threads.specs.Serving.{IsLiving}
 use Rattle.image.specs.declared.layout.Layout.{Layout}
 use Rattle.monitor.specs.Seats.{Home}
-use Rattle.store_past.specs.Past.{Past}
-use Rattle.trim_helper.specs.Parts.{Parts}
 use Rattle.drive.specs.declared.error.DriveError.{DriveError}
 use Rattle.drive.specs.declared.error.DriveError.TheVariants.{NoMemory, Helper, Session, Close, Recover}
 
@@ -21,7 +18,3 @@ CrashesOf h l opened new (Session e) = KeepsSome h l opened new
 CrashesOf h l opened new (Close e) = IsLeftByCalls h l opened new
 CrashesOf h l opened new (Recover e) = IsLeftBehind h l opened new
 CrashesOf h l opened new _ = ⊥
-
--- Of whatever a crash left at any moment since the opening, recovery makes this, where the run was stopped so, on this device.
-abbrev pub CrashesBy : {D : Type 0} (device : D → Device) → Home → (helper : Parts D) → (new : Device) → DriveError → Type 0
-CrashesBy device h x new e = (opened : Device) (p : Past) → IsLiving device h opened x p → CrashesOf h x.store.known.layout opened new e

@@ -1,7 +1,6 @@
 -- Which refusal of workers comes when.
 use Rattle.std.specs.Prelude.{ℕ, ◌≡◌, ◌⊎◌, ◌≤◌}
 use Rattle.block_disk.specs.Device.{Device, SameMoments}
-use Rattle.guards.specs.Schema.{Declarations}
 use Rattle.guards.specs.declared.error.SchemaError.TheVariants as schemas
 use Rattle.heap_threads.specs.Runs.{IsNotFound, RefusesStudy}
 use Rattle.image.specs.Recovered.{Parts}
@@ -21,17 +20,6 @@ abbrev pub RefusesSize : (workers : ℕ) → DriveError → Type 0
 RefusesSize workers (Schema e) = e ≡ schemas.NoMemory
 RefusesSize workers (Image e) = (e ≡ images.BadHeader) × (MayHaveImage workers → ⊥)
 RefusesSize workers _ = ⊥
-
--- no image of this schema, with so many lanes of 4,000 records, is made of a device
-abbrev pub IsMakingRefused : (schema : Declarations) (lanes : ℕ) (old new : Device) → DriveError → Type 0
-IsMakingRefused schema lanes old new (Image e) = RefusesFormat schema lanes 4000 old new e
-IsMakingRefused schema lanes old new _ = ⊥
-
--- an image isn't one on which so many workers go on: it is only read
-abbrev pub RefusesLook : (workers : ℕ) (old new : Device) → DriveError → Type 0
-RefusesLook workers old new (Recover e) = RefusesStudy old new e
-RefusesLook workers old new OtherSchema = HoldsOthers workers old.now.bytes
-RefusesLook workers old new _ = ⊥
 
 -- Where objects and fields are the workers' own, a session refuses only since the helper is behind, or since numbers have come to their end.
 abbrev pub IsOwnStop : DriveError → Type 0

@@ -3,20 +3,27 @@ use Rattle.std.specs.Prelude.{◌≡◌, ◌⊎◌}
 use Rattle.block_disk.specs.Device.{Device}
 use Rattle.guards.specs.Schema.{Declarations}
 use Rattle.heap_threads.specs.Crashes.{TakesEach}
-use Rattle.heap_threads.specs.Stops.{IsHomeOf, IsLostAfter, RefusesTelling, StopsClosing, StopsRound}
+use Rattle.heap_threads.specs.Stops.{IsHomeOf, IsLostAfter, StopsClosing, StopsRound}
+use Rattle.heap_threads.specs.declared.error.RunError.{RunError}
+use Rattle.heap_threads.specs.declared.error.RunError.TheVariants as run
 use Rattle.image.specs.Recovered.{Parts}
 use Rattle.image.specs.declared.layout.Layout.{Layout}
 use Rattle.monitor.specs.Seats.{Home}
 use Rattle.drive.specs.Crashes.{CrashesOf}
 use Rattle.drive.specs.Working.{StopsWorker}
 use Rattle.drive.specs.declared.error.DriveError.{DriveError}
-use Rattle.drive.specs.declared.error.DriveError.TheVariants.{NoMemory, Helper, Session, Close, Recover}
+use Rattle.drive.specs.declared.error.DriveError.TheVariants.{NoMemory, Image, Helper, Session, Close, Recover, OtherSchema}
 
--- the device that closing gave back isn't recovered, or it isn't told what is there
-abbrev pub StopsTelling : (closed new : Device) → DriveError → Type 0
-StopsTelling closed new NoMemory = Unit {0}
-StopsTelling closed new (Recover e) = RefusesTelling closed new e
-StopsTelling closed new _ = ⊥
+-- what is told of a refusal of the heap's threads. No worker ends with a monitor held.
+abbrev pub said_of : RunError → DriveError
+said_of run.NoMemory = NoMemory
+said_of run.NoThread = NoMemory
+said_of (run.Image e) = Image e
+said_of (run.Helper e) = Helper e
+said_of run.Unfinished = OtherSchema
+said_of (run.Close e) = Close e
+said_of (run.Recover e) = Recover e
+said_of run.OtherSchema = OtherSchema
 
 -- why a run by these words is stopped, that began on the one device and leaves the other
 abbrev pub StopsBy : Home → Layout → (old new : Device) → DriveError → Type 0

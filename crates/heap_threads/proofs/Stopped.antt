@@ -84,7 +84,7 @@ close_stops lanes es x old new close.Failed running none complete refused why = 
 close_stops lanes es x old new close.Worn running none complete refused why = why.worn refl
 close_stops lanes es x old new close.Fault running none complete refused why = why.fault refl
 
-pub closing_since : (first old new : Device) (e : CloseError) → first.failures ≤ old.failures → StopsClosing old new e → StopsClosing first new e
+closing_since : (first old new : Device) (e : CloseError) → first.failures ≤ old.failures → StopsClosing old new e → StopsClosing first new e
 closing_since first old new (close.Missing l) low stops = absurd stops
 closing_since first old new (close.Unfinished l) low stops = absurd stops
 closing_since first old new close.Failed low stops = absurd stops
