@@ -51,6 +51,12 @@ def is_installed(command):
     return shutil.which(command, path=PATHS) is not None
 
 
+def has_nbd():
+    """Whether a server and a client of network block devices are installed."""
+    asked = subprocess.run(["cc", "-E", "-x", "c", "-", "-o", os.devnull], input="#include <libnbd.h>\n", capture_output=True, text=True, check=False)
+    return is_installed("nbdkit") and asked.returncode == 0
+
+
 def kernels():
     """The kernels of /boot that can be read and have modules, the newest last."""
     found = sorted(glob.glob("/boot/vmlinuz-*"), key=lambda path: [int(it) if it.isdigit() else 0 for it in re.split(r"\D+", path)])
@@ -124,27 +130,34 @@ class Disk:
 
 
 class Guest:
-    """A machine whose disk is cutdisk's. It runs the lines that it is sent."""
+    """A machine whose disk is cutdisk's. It runs the lines that it is sent. With a port of this machine, it serves by that."""
 
-    def __init__(self, parts, disk, kind, memory, *words):
+    def __init__(self, parts, disk, kind, memory, port, *words):
         self.disk, self.got, path = disk, b"", free(f"{parts.folder}/control")
         with socket.socket(socket.AF_UNIX) as door:
             door.bind(path)
             door.listen(1)
             door.settimeout(120)
-            self.running = subprocess.Popen([*self.words(parts, kind, memory, path), *words], stdin=subprocess.DEVNULL)
+            self.running = subprocess.Popen([*self.words(parts, kind, memory, path, port), *words], stdin=subprocess.DEVNULL)
             self.port, _ = door.accept()
 
-    def words(self, parts, kind, memory, control):
-        processor = "-accel kvm -cpu host" if parts.has_kvm else "-accel tcg,thread=multi,tb-size=256 -cpu max"
+    def words(self, parts, kind, memory, control, port):
+        # A second processor, or a newer one, costs more in translation than it gives.
+        processor = "-accel kvm -cpu host -smp 2" if parts.has_kvm else "-accel tcg,tb-size=256 -cpu Nehalem -smp 1"
         device = {"virtio": "-device virtio-blk-pci,drive=disk", "scsi": "-device virtio-scsi-pci -device scsi-hd,drive=disk,dpofua=on"}
+        # Where the heap's host is here, it tells the disk itself.
+        told, network = f"socket,id=t,path={self.disk.told_by}", []
+        if port:
+            told = "null,id=t"
+            network = ["-netdev", f"user,id=n,restrict=on,hostfwd=tcp:127.0.0.1:{port}-:10809", "-device", "virtio-net-pci,netdev=n,romfile="]
         return [
-            *f"qemu-system-x86_64 -M q35 {processor} -smp 2 -m {memory} -nodefaults -no-user-config -display none -no-reboot".split(),
+            *f"qemu-system-x86_64 -M q35 {processor} -m {memory} -nodefaults -no-user-config -display none -no-reboot".split(),
             *["-kernel", parts.kernel, "-initrd", parts.initramfs, "-serial", f"file:{parts.folder}/console"],
-            *["-append", "console=ttyS0 quiet panic=-1 mitigations=off nokaslr no_timer_check cryptomgr.notests"],
+            # Programs lie at the same place each time, so that they aren't translated anew.
+            *["-append", "console=ttyS0 quiet panic=-1 mitigations=off nokaslr norandmaps no_timer_check cryptomgr.notests"],
             *["-drive", f"file=nbd:unix:{self.disk.socket},format=raw,if=none,id=disk,cache=none,discard=unmap", *device[kind].split()],
-            *["-chardev", f"socket,id=c,path={control}", "-chardev", f"socket,id=t,path={self.disk.told_by}", "-device", "virtio-serial-pci"],
-            *["-device", "virtserialport,chardev=c,name=control", "-device", "virtserialport,chardev=t,name=told"],
+            *["-chardev", f"socket,id=c,path={control}", "-chardev", told, "-device", "virtio-serial-pci"],
+            *["-device", "virtserialport,chardev=c,name=control", "-device", "virtserialport,chardev=t,name=told", *network],
         ]
 
     def line(self, seconds):
@@ -195,7 +208,7 @@ class Guest:
 
 
 class Parts:
-    """What guests are made of, in a folder. The programs of `needs` (cargo, python) are among them."""
+    """What guests are made of, in a folder. The programs of `needs` (cargo, python, nbd) are among them."""
 
     def __init__(self, folder, needs, has_kvm):
         is_built = os.path.exists(PROGRAM) and os.path.exists(f"{LIBRARY}/libzelamiku.a")
@@ -208,6 +221,11 @@ class Parts:
         programs = [PROGRAM, f"{folder}/counts", *(shutil.which(name, path=PATHS) for name in ("e2fsck", "filefrag"))]
         programs += [self.rust_program()] if "cargo" in needs else []
         files = self.python_files() if "python" in needs else []
+        if "nbd" in needs:
+            linked = [f"{LIBRARY}/libzelamiku.a", "-pthread", "-lnbd"]
+            must_run("cc", *flags, f"{HERE}/counts_nbd.c", "-I", f"{TOP}/bindings/c", *linked, "-o", f"{folder}/counts_nbd")
+            programs += [shutil.which("nbdkit", path=PATHS)]
+            files += [re.search(r"plugindir=(.*)", must_run("nbdkit", "--dump-config"))[1] + "/nbdkit-file-plugin.so"]
         self.kernel, self.initramfs = unpacked(kernel, f"{folder}/kernel"), f"{folder}/initramfs"
         must_run(f"{HERE}/initramfs", self.initramfs, kernel.partition("-")[2], *programs, "--", *files)
 
@@ -225,13 +243,14 @@ class Parts:
         self.leases = f"env {' '.join(f'{name}={value}' for name, value in variables.items())} {python} -S {HERE}/leases.py"
         return sorted({python, f"{LIBRARY}/libzelamiku.so.0", f"{sysconfig.get_path('stdlib')}/os.py", *listed})
 
-    def guest(self, disk, kind, system, memory):
+    def guest(self, disk, kind, system, memory, port):
         """A machine that was just switched on. It goes on from one that was saved before it had loaded its disk's driver."""
-        saved = f"{self.folder}/machine-{kind}-{memory}"
+        words = disk, kind, memory, port
+        saved = f"{self.folder}/machine-{kind}-{memory}{'-network' if port else ''}"
         for tries_left in (2, 1, 0):
             if not os.path.exists(saved):
-                self.save(disk, kind, memory, saved, tries_left)
-        guest = Guest(self, disk, kind, memory, "-incoming", f"exec:cat {saved}")
+                self.save(words, saved, tries_left)
+        guest = Guest(self, *words, "-incoming", f"exec:cat {saved}")
         try:
             status, printed = guest.run(f"begin {kind} {system}; [ -b /dev/data ]")
             must(status == 0, f"a machine has no disk: {printed}")
@@ -240,10 +259,10 @@ class Parts:
             raise
         return guest
 
-    def save(self, disk, kind, memory, path, tries_left):
+    def save(self, words, path, tries_left):
         """Boots a machine and saves it. Where the first doesn't come up under KVM, as in a machine that is a guest itself, none is tried."""
         monitor, may_hang = free(f"{self.folder}/monitor"), self.has_kvm and self.is_doubted
-        guest = Guest(self, disk, kind, memory, "-qmp", f"unix:{monitor},server=on,wait=off")
+        guest = Guest(self, *words, "-qmp", f"unix:{monitor},server=on,wait=off")
         try:
             guest.line(20 if may_hang else 600)
             guest.save(monitor, path)

@@ -1,3 +1,4 @@
 mod FileLemmas
+mod HeadLemmas
 mod ObeyLemmas
 mod TellingLemmas

@@ -14,13 +14,9 @@ use Rattle.image_file.specs.Recovering.{RecoversAt}
 use Rattle.image_file.specs.declared.error.ImageFault.TheVariants as images
 use Rattle.image_file.specs.declared.new_image.NewImage.{NewImage}
 use Rattle.image_file.specs.declared.error.ImageFault.{ImageFault}
-use Rattle.recover.specs.declared.studied.Study.{Study}
-use Rattle.guards.specs.Schema.{Declarations}
-use Rattle.image_file.specs.declared.error.NamedFault.{NamedFault}
-use Rattle.image_file.specs.Naming.{TellsNamed, TellsLessNamed}
-use Rattle.image_file.specs.Telling.{MayBeRefusedBy, Tells, TellsLess, TellsLessOfVersions}
+use Rattle.image_file.specs.Telling.{MayBeRefusedBy, TellsLessOfVersions}
 use Rattle.recover.specs.declared.versions.Versions.{Versions}
-use Rattle.commands.specs.Obeying.{Formats, IsSilentImage, IsSilentNamed, PlaysScript, Recovers, TellsOf, TellsOfNamed, told_of_format, told_of_image, told_of_named, told_of_script}
+use Rattle.commands.specs.Obeying.{Formats, IsSilentImage, PlaysScript, Recovers, told_of_format, told_of_image, told_of_script}
 
 pub played : (r : Result (Unit {0}) ScriptError) (read unread written now : Option (List ℕ)) → OfScript read unread (λ lines ending. Ends lines ending r written now)
     → PlaysScript (told_of_script r) read unread written now
@@ -36,17 +32,6 @@ pub made : (asked : NewImage) (r : Result (Unit {0}) FormatError) (had has : Opt
     → OnErr r (PrintsLess asked.lanes asked.capacity written now) → Formats asked (told_of_format r) had has lies written now
 made asked (Ok done) had has lies written now makes left numbers silent part = makes
 made asked (Err error) had has lies written now makes left numbers silent part = record { left = left; numbers = numbers; silent = silent; part = part }
-
-pub told : (text : Study → List ℕ) (r : Result (Unit {0}) ImageFault) (written now : Option (List ℕ)) → OnOk r (Tells text written now)
-    → OnErr r (TellsLess text written now) → IfErr r (λ error. IsSilentImage error written now) → TellsOf text (told_of_image r) written now
-told text (Ok done) written now all part silent = all
-told text (Err error) written now all part silent = (part, silent)
-
-pub told_named : {P : Type 0} (text : Option Declarations → Study → List ℕ) (path : Option P) (r : Result (Unit {0}) NamedFault) (written now : Option (List ℕ))
-    → OnOk r (TellsNamed text path written now) → OnErr r (TellsLessNamed text path written now) → IfErr r (λ error. IsSilentNamed error written now)
-    → TellsOfNamed text path (told_of_named r) written now
-told_named text path (Ok done) written now all part silent = all
-told_named text path (Err error) written now all part silent = (part, silent)
 
 pub recovered : (versions : Versions) (r : Result (Unit {0}) ImageFault) (had has written now : Option (List ℕ)) → OnOk r (RecoversAt versions had has written now)
     → IfErr r (λ error. error ≢ images.Image Fault → Stays had has) → OnErr r (TellsLessOfVersions versions written now) → IfErr r (λ error. IsSilentImage error written now)

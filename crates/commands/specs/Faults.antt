@@ -1,5 +1,5 @@
 -- Why workers haven't worked, by where they were to.
-use Rattle.std.specs.Prelude.{ℕ, ◌≡◌, ◌⊎◌, List, Option, None, Some}
+use Rattle.std.specs.Prelude.{ℕ, ◌≡◌, List, Option, None, Some}
 use Rattle.std.specs.Borrow.{Bor}
 use Rattle.block_disk.specs.Device.{Device}
 use Rattle.block_disk.specs.Memory.{device_of}
@@ -7,7 +7,7 @@ use Rattle.drive.specs.Refusals.{RefusesOn, RefusesWith}
 use Rattle.drive.specs.Schemas.{MayHaveImage}
 use Rattle.drive.specs.declared.error.DriveError.{DriveError}
 use Rattle.image_file.specs.Formatting.{IsBeforeFile, MayBeMade}
-use Rattle.image_file.specs.Images.{IsLeft, Stays}
+use Rattle.image_file.specs.Images.{IsLeft}
 use Rattle.image_file.specs.declared.error.FormatError.{FormatError}
 use Rattle.commands.specs.Telling.{BeginsAt, asked_by}
 use Rattle.commands.specs.declared.fault.WorkFault.{WorkFault}

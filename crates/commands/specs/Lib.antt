@@ -5,3 +5,4 @@ pub mod DrivenText
 pub mod Telling
 pub mod Faults
 pub mod Status
+pub mod Heads

@@ -8,12 +8,10 @@ use Rattle.std.specs.Io.KnownBytes.{Appends}
 use Rattle.script_lines.specs.Endings.{OfScript}
 use Rattle.scripts.specs.Runs.{Ends}
 use Rattle.inspect.specs.StudyText.{study_text}
-use Rattle.inspect.specs.WholeGraph.{picture_text}
 use Rattle.script_lines.specs.declared.error.ScriptError.{ScriptError}
 use Rattle.image_file.specs.declared.error.ImageFault.{ImageFault}
 use Rattle.image_file.specs.declared.error.ImageFault.TheVariants as images
 use Rattle.image_file.specs.declared.error.NamedFault.{NamedFault}
-use Rattle.image_file.specs.declared.error.NamedFault.TheVariants as named
 use Rattle.recover.specs.declared.error.RecoverError.TheVariants.{Fault}
 use Rattle.recover.specs.declared.studied.Study.{Study}
 use Rattle.recover.specs.declared.versions.Versions.{Versions}
@@ -23,10 +21,10 @@ use Rattle.image_file.specs.Formatting.{IsSilent, MakesAt, MayBeMade, MayBlameNu
 use Rattle.image_file.specs.Images.{Stays}
 use Rattle.image_file.specs.Recovering.{RecoversAt}
 use Rattle.image_file.specs.declared.new_image.NewImage.{NewImage}
-use Rattle.guards.specs.Schema.{Declarations}
-use Rattle.image_schema.specs.Dumping.{dump_text}
-use Rattle.image_file.specs.Naming.{TellsNamed, TellsLessNamed}
-use Rattle.image_file.specs.Telling.{MayBeRefusedBy, Tells, TellsLess, TellsLessOfVersions}
+use Rattle.image_file.specs.Drawing.{DrawsBy}
+use Rattle.image_file.specs.Dumping.{DumpsBy}
+use Rattle.image_file.specs.Showing.{ShowsBy}
+use Rattle.image_file.specs.Telling.{MayBeRefusedBy, TellsLessOfVersions}
 use Rattle.image_scripts.specs.Assigning.{SetsAt}
 use Rattle.image_scripts.specs.Running.{RunsAt}
 use Rattle.image_scripts.specs.Strict.{EndsStrictly}
@@ -157,24 +155,22 @@ Formats asked (Err _) had has lies written now = ⊥
 abbrev pub IsSilentImage : ImageFault → (written now : Option (List ℕ)) → Type 0
 IsSilentImage error written now = error ≢ images.Image Fault → Appends written now []
 
-abbrev pub IsSilentNamed : NamedFault → (written now : Option (List ℕ)) → Type 0
-IsSilentNamed error written now = error ≢ named.Image (images.Image Fault) → Appends written now []
+-- this text of a study of the image at a path is written
+abbrev pub TellsOf : (text : Study → List ℕ) → Result (Unit {0}) WorkFault → (had has written now : Option (List ℕ)) → Type 0
+TellsOf text result had has written now =
+    (r : Result (Unit {0}) ImageFault) × (result ≡ told_of_image r) × ShowsBy text r had has written now
 
--- this text of a study of an image is written
-abbrev pub TellsOf : (text : Study → List ℕ) → Result (Unit {0}) WorkFault → (written now : Option (List ℕ)) → Type 0
-TellsOf text (Ok done) written now = Tells text written now
-TellsOf text (Err (fault.Image error)) written now = TellsLess text written now × IsSilentImage error written now
-TellsOf text (Err _) written now = ⊥
+-- the image at a path is drawn, or dumped, by the names of the schema file where one is named
+abbrev pub DrawsOf : {P : Type 0} (schema : Option P) (last : ℕ) → Result (Unit {0}) WorkFault
+    → (had has written now : Option (List ℕ)) → Type 0
+DrawsOf schema last result had has written now =
+    (r : Result (Unit {0}) NamedFault) × (result ≡ told_of_named r) × DrawsBy schema last r had has written now
 
--- this text of a study of an image is written, by the names of the schema file where one is named
-abbrev pub TellsOfNamed : {P : Type 0} (text : Option Declarations → Study → List ℕ) (path : Option P) → Result (Unit {0}) WorkFault
-    → (written now : Option (List ℕ)) → Type 0
-TellsOfNamed text path (Ok done) written now = TellsNamed text path written now
-TellsOfNamed text path (Err (fault.Named error)) written now =
-    TellsLessNamed text path written now × IsSilentNamed error written now
-TellsOfNamed text path (Err _) written now = ⊥
+abbrev pub DumpsOf : {P : Type 0} (schema : Option P) → Result (Unit {0}) WorkFault → (had has written now : Option (List ℕ)) → Type 0
+DumpsOf schema result had has written now =
+    (r : Result (Unit {0}) NamedFault) × (result ≡ told_of_named r) × DumpsBy schema r had has written now
 
--- why the image at a path isn't recovered, or isn't told of; what is there then, and what was written
+-- why the image at a path isn't recovered; what is there then, and what was written
 pub record IsNotRecovered (versions : Versions) (had has : Option (List ℕ)) (error : ImageFault)
     (written now : Option (List ℕ)) : Type 0 where
   pub kept : error ≢ images.Image Fault → Stays had has
@@ -203,11 +199,11 @@ Obeys device (words.Format image schema lanes capacity sectors is_forced) names 
     (unread ≡ read)
     × Formats (asked_of lanes capacity sectors is_forced) result (had image.now) (has image.now) (lies image.now) written now
 Obeys device (words.Show image last schema) names result had has lies read unread written now =
-    (unread ≡ read) × TellsOf study_text result written now
+    (unread ≡ read) × TellsOf study_text result (had image.now) (has image.now) written now
 Obeys device (words.Draw image last schema) names result had has lies read unread written now =
-    (unread ≡ read) × TellsOfNamed (λ given s. picture_text given last s) schema result written now
+    (unread ≡ read) × DrawsOf schema last result (had image.now) (has image.now) written now
 Obeys device (words.Dump image schema) names result had has lies read unread written now =
-    (unread ≡ read) × TellsOfNamed dump_text schema result written now
+    (unread ≡ read) × DumpsOf schema result (had image.now) (has image.now) written now
 Obeys device (words.Recover image) names result had has lies read unread written now =
     (unread ≡ read) × Recovers Current result (had image.now) (has image.now) written now
 Obeys device (words.Upgrade image) names result had has lies read unread written now =

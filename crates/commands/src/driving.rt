@@ -20,9 +20,9 @@ use std::io::Write;
 use std::sync::Wait;
 use std::thread::Threads;
 
-/// Lets so many workers work so many rounds each, or as long as `meet` lets them, on the image file at this path or, where none is named,
-/// in memory, and writes what they have done when all have ended: how many sections of each lane are acknowledged, and the values of the
-/// heap. `meet` is told before that they have ended.
+/// Lets so many workers work so many rounds each, or as long as `meet` lets them, on the image file at this path. Where none is named they
+/// work in memory. When all have ended, `meet` is told so, and then it is written what they have done: how many sections of each lane are
+/// acknowledged, and the values of the heap.
 ///
 /// Refusals, in this order. Nothing is written, but for the last:
 /// - `File`: the image file can't be had or read; `Format`: where there is none, or an empty one, none is made;

@@ -4,6 +4,7 @@
 
 use crate::causes::{Path, is_wrong_path, tell, tell_cause};
 use crate::fault::WorkFault;
+use crate::head::{Head, read_head, tell_slots};
 use crate::refused::{
     tell_refused_image, tell_refused_line, tell_refused_schema, tell_stopped_script,
 };
@@ -11,7 +12,7 @@ use crate::values::{tell_other_heap, tell_transient, tell_unknown, tell_wrong_wo
 use command_words::Words;
 use drive::DriveError;
 use file_disk::BackingFile;
-use image::{Layout, read_header};
+use image::Layout;
 use image_file::{FileFault, FormatError, ImageFault, KEPT, NamedFault, Place, Trouble};
 use image_scripts::{RunFault, SetFault, StrictFault, ValueFault};
 use recover::RecoverError;
@@ -150,30 +151,36 @@ where
 {
     match why {
         RecoverError::Fault | RecoverError::NoMemory => explain_call(rt, words, trouble),
-        RecoverError::NoControl
+        RecoverError::BadHeader
+        | RecoverError::NoControl
         | RecoverError::BadControl
         | RecoverError::BadRecord { .. }
         | RecoverError::IllegalLog { .. } => {
             tell_refused_image(rt, image, why);
-            tell_header(rt, image);
+            tell_head(rt, image);
         }
         _ => tell_refused_image(rt, image, why),
     }
 }
 
-// Tells what the header of an image says, which is refused for what stands behind it.
-fn tell_header<F, R>(rt: &R, image: &str)
+// Tells what can still be read of an image that is refused: its header, what both slots of its control hold, and the lanes.
+fn tell_head<F, R>(rt: &R, image: &str)
 where
     F: BackingFile + Read + Drop,
     R: Files<File = F> + Eprint + AllocGlobal,
 {
-    if let Some(layout) = layout_of(rt, rt.alloc(), image) {
-        let (lanes, capacity) = (layout.lanes, layout.capacity);
-        let (objects, fields) = (layout.objects, layout.fields);
-        let _ = eprintln!(rt;
-            "heapctl: {image}: its header can be read: {lanes} lanes of {capacity} records, {objects} objects and {fields} fields"
-        );
+    if let Some(head) = head_of(rt, rt.alloc(), image) {
+        tell_header(rt, image, &head.layout);
+        tell_slots(rt, image, &head);
     }
+}
+
+fn tell_header<R: Eprint>(rt: &R, image: &str, layout: &Layout) {
+    let (lanes, capacity) = (layout.lanes, layout.capacity);
+    let (objects, fields) = (layout.objects, layout.fields);
+    let _ = eprintln!(rt;
+        "heapctl: {image}: its header can be read: {lanes} lanes of {capacity} records, {objects} objects and {fields} fields"
+    );
 }
 
 // What the first call that failed was about, and what the system says of it.
@@ -235,8 +242,8 @@ fn schema_of<'a>(words: &Words<'a>) -> &'a str {
     }
 }
 
-// The layout in the header of an image file.
-fn layout_of<F, R>(rt: &R, alloc: Global, image: &str) -> Option<Layout>
+// What an image file begins with, where its header can be read.
+fn head_of<F, R>(rt: &R, alloc: Global, image: &str) -> Option<Head>
 where
     F: BackingFile + Read + Drop,
     R: Files<File = F>,
@@ -249,12 +256,9 @@ where
         Ok(disk) => disk,
         Err(_) => return None,
     };
-    let read = read_header(&mut disk);
+    let head = read_head(&mut disk);
     drop(disk);
-    match read {
-        Ok(layout) => Some(layout),
-        Err(_) => None,
-    }
+    head
 }
 
 // Tells of an image that isn't one of so many workers whose it is.
@@ -266,9 +270,10 @@ where
     let Words::Drive { workers, .. } = words else {
         return;
     };
-    let Some(layout) = layout_of(rt, rt.alloc(), image) else {
+    let Some(head) = head_of(rt, rt.alloc(), image) else {
         return;
     };
+    let layout = head.layout;
     let (lanes, objects, fields) = (layout.lanes, layout.objects, layout.fields);
     if objects == u32::from(lanes) + 1 && fields == objects && lanes != *workers {
         let _ = eprintln!(rt;

@@ -11,6 +11,7 @@ mod driving;
 mod explaining;
 mod fault;
 mod files;
+mod head;
 mod obeying;
 mod progress;
 mod refused;

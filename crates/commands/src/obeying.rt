@@ -9,8 +9,8 @@ use block_disk::Disk;
 use command_words::Words;
 use file_disk::BackingFile;
 use image_file::{
-    FormatError, ImageFault, Images, NamedFault, NewImage, Trouble, draw_named_file, dump_file,
-    format_at, recover_at, show_file,
+    FormatError, ImageFault, Images, NamedFault, NewImage, Trouble, draw_named_at, dump_at,
+    format_at, recover_at, show_at,
 };
 use image_scripts::{
     RunFault, SetFault, StrictFault, ValueFault, get_at, run_at, run_strictly, set_at,
@@ -26,7 +26,7 @@ use std::sync::Wait;
 use std::thread::Threads;
 
 /// Does what the words ask for: plays the script that `reader` has, in memory or over an image, works on an image, or lets workers work,
-/// and writes what that prints. Images are those of `images`; one that is only told of, and a schema file, is read of `rt`.
+/// and writes what that prints. Images are those of `images`; a schema file is read of `rt`.
 /// `names` are those of the fields that are told, or what is assigned to them. `is_telling`: how far workers are is told on standard error,
 /// which is a terminal. What the system says of a call on a file that fails is
 /// noted as trouble.
@@ -47,8 +47,8 @@ where
     R: Files<File = F> + AllocGlobal + Clock + Eprint + Threads + Wait + Sync,
     S: Read,
     W: Write,
-    // Each word does what it asks for, on the image at the path that it names. What is written is that word's output, of
-    // `show` and `dump` the text of some image, and a refusal writes nothing, or a beginning of the text after a fault.
+    // Each word does what it asks for, on the image at the path that it names. What is written is that word's output, and
+    // a refusal writes nothing, or a beginning of the text after a fault.
     ensures { Obeys D.device words.entry names.now result (P.holds images.old) (P.holds images.new)
         (P.lies images.new) (S.remaining reader.old) (S.remaining reader.new)
         (W.contents writer.old) (W.contents writer.new) }
@@ -84,14 +84,14 @@ where
             };
             on_format(format_at(rt, images, alloc, trouble, image, schema, new, writer))
         }
-        Words::Show { image, .. } => on_image(show_file(rt, alloc, trouble, image, writer)),
+        Words::Show { image, .. } => on_image(show_at(images, alloc, image, writer)),
         Words::Draw {
             image,
             last,
             schema,
-        } => on_named(draw_named_file(rt, alloc, trouble, image, schema, last, writer)),
-        Words::Dump { image, schema } => on_named(dump_file(
-            rt, alloc, trouble, image, schema, writer,
+        } => on_named(draw_named_at(rt, images, alloc, trouble, image, schema, last, writer)),
+        Words::Dump { image, schema } => on_named(dump_at(
+            rt, images, alloc, trouble, image, schema, writer,
         )),
         Words::Recover { image } => {
             on_image(recover_at(images, alloc, Versions::Current, image, writer))

@@ -32,8 +32,8 @@ pub trait Watch: Meet {
     fn end(&self);
 }
 
-/// Tells how far workers are, on one line of standard error that each next text overwrites, where it is to tell: at each tenth of their
-/// sections; or at each second, where that is how long they work, and ends them then.
+/// Tells how far workers are, where it is to tell, on one line of standard error that each next text overwrites. It does so at each tenth
+/// of their sections. Where they work for a time it does so at each second, and ends them then.
 #[derive(Drop)]
 pub(crate) struct Progress<'a, R> {
     rt: &'a R,

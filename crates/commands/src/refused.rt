@@ -33,7 +33,7 @@ fn refused_text(why: &RecoverError) -> &'static str {
             "the gates of both control slots are closed: it is damaged; restore it from a copy"
         }
         RecoverError::BadControl => {
-            "neither control slot holds a control of its layout: it is damaged; restore it from a copy"
+            "no control slot counts: it is damaged; restore it from a copy"
         }
         RecoverError::OldVersion => {
             "it is of version 1; 'heapctl upgrade' makes it one of version 2, in place, and keeps its heap"

@@ -1,34 +1,47 @@
--- What a session that holds nothing leaves.
-use Rattle.std.proofs.Common.{ℕ, ◌≡◌, List, [], ◌∷◌, All, Option, None, Some, IfSome, MatchOption, length, map, ap, subst, sym, ◌∙◌}
-use Rattle.std.proofs.lemmas.List.Elements.{All-head, All-tail}
+-- What a worker's session leaves.
+use Rattle.std.proofs.Common.{ℕ, zero, suc, ◌≡◌, ◌+◌, ◌<◌, List, [], ◌∷◌, Err, length, map, inl, inr, ap, subst, sym, ◌∙◌, arith}
+use Rattle.std.specs.List.{range_with_len}
 use Rattle.heap_model.specs.Own.{own_log}
 use Rattle.heap_model.specs.OwnSections.{held_objects}
 use Rattle.heap_model.specs.Sections.{action, holding}
 use Rattle.heap_model.specs.Setting.{Setting}
+use Rattle.heap_threads.specs.Bodies.{IsFirstRefusal, LeftOpen}
 use Rattle.monitor.specs.Seats.{Home, Sitting}
-use Rattle.monitor.specs.Views.{lane_of}
 use Rattle.monitor.specs.Words.{setting_of}
-use Rattle.session.specs.Sessions.{IsSessionOf, SameRing, seat_of, view_of}
+use Rattle.session.specs.Sessions.{IsSessionOf, seat_of, view_of}
+use Rattle.session.specs.declared.error.SessionError.{SessionError}
 use Rattle.session.specs.declared.session.Session.{Session}
-use Rattle.trim_helper.specs.Endings.{HoldNone, IsEnded, Rings}
+use Rattle.trim_helper.specs.Endings.{IsEnded, Rings, lanes_ended}
 use Rattle.trim_helper.specs.declared.ended.Ended.{Ended}
-use Rattle.drive.specs.Working.{HoldsJust}
+use Rattle.drive.specs.Working.{HasCounted, HoldsJust, StopsAt}
 
-pub held_none : (h : Home) (capacity : ℕ) (rings : Rings) (s : Session) (e : Ended) → IsEnded h capacity rings e → e.seat ≡ seat_of s → IsSessionOf h s → HoldsJust (view_of s) [] 0 → e.held ≡ 0
+held_none : (h : Home) (capacity : ℕ) (rings : Rings) (s : Session) (e : Ended) → IsEnded h capacity rings e → e.seat ≡ seat_of s → IsSessionOf h s → HoldsJust (view_of s) [] 0 → e.held ≡ 0
 held_none h capacity rings s e ended same of free =
     ended.held
     ∙ ap (λ (x : Sitting). length (holding (map action (own_log (setting_of h.plan) x.view.events)))) same
     ∙ ap (λ (g : Setting). length (held_objects g (seat_of s).view.events)) (sym of.1)
     ∙ ap (λ (os : List ℕ). length os) free.held
 
-pub lane_kept : (h : Home) (capacity : ℕ) (rings : Rings) (old s : Session) (e : Ended) → IsEnded h capacity rings e → e.seat ≡ seat_of s → SameRing old s → e.lane.0 ≡ (view_of old).lane.0
-lane_kept h capacity rings old s e ended same ring = ended.lane ∙ ap (λ (x : Sitting). (lane_of x.view).0) same ∙ (λ i. (ring.2 i).0)
+-- no worker leaves a monitor held
+pub never_open : (h : Home) → LeftOpen HasCounted h → ⊥
+never_open h left = left.holds (held_none h left.capacity left.rings left.called.left left.ended left.is_ended left.called.seat left.called.did.of left.called.did.free)
 
-pub none_hold : (es : List Ended) → All (λ (e : Ended). e.held ≡ 0) es → HoldNone es
-none_hold [] all = tt
-none_hold (e ∷ es) all = (All-head (λ (x : Ended). x.held ≡ 0) e es all, none_hold es (All-tail (λ (x : Ended). x.held ≡ 0) e es all))
-
--- of two refusals, the first, where there is one
-pub first_stops : {E : Type 0} (one later r : Option E) (P : E → Type 0) → MatchOption one (r ≡ later) (λ e. r ≡ one) → IfSome one P → IfSome later P → IfSome r P
-first_stops None later r P is stops after = subst (λ (x : Option _). IfSome x P) (sym is) after
-first_stops (Some e) later r P is stops after = subst (λ (x : Option _). IfSome x P) (sym is) stops
+-- the first refusal of some lanes is why one of them has ended early
+pub first_stops : (h : Home) (n k m : ℕ) (r : SessionError) (es : List Ended) → lanes_ended es ≡ range_with_len k m → IsFirstRefusal HasCounted h n r es → (lane : ℕ) × (lane < k + m) × StopsAt h (lane + 1) n r
+first_stops h n k m r [] lanes has = absurd has
+first_stops h n k zero r (e ∷ es) lanes has = absurd (let clash : ◌≡◌ {A = List ℕ} (e.lane.0 ∷ lanes_ended es) [] = lanes in cc)
+first_stops h n k (suc m) r (e ∷ es) lanes has =
+    let both : ◌≡◌ {A = List ℕ} (e.lane.0 ∷ lanes_ended es) (k ∷ range_with_len (k + 1) m) = lanes in
+    let here : e.lane.0 ≡ k = cc in
+    let rest : lanes_ended es ≡ range_with_len (k + 1) m = cc in
+    elim has [
+      | inl called ↦ (
+        e.lane.0,
+        omega (arith, here),
+        subst (λ (l : ℕ). StopsAt h (l + 1) n r) called.lane (subst (λ (c : ℕ). StopsAt h ((view_of called.first).lane.0 + 1) c r) called.holds called.did.refused),
+      )
+      | inr later ↦ (
+          let stops = first_stops h n (k + 1) m r es rest later.1 in
+          let low = stops.1 in
+          (stops.0, omega (arith, low), stops.2))
+    ]

@@ -1,14 +1,6 @@
-pub mod Served
-pub mod Taken
-pub mod Ends
-pub mod Jobs
-pub mod Later
 pub mod Holding
 pub mod Refusing
 pub mod Ending
-pub mod Lanes
-pub mod Stopped
+pub mod Standing
 pub mod SchemaLemmas
-pub mod Theirs
-pub mod Recovered
 pub mod Refused

@@ -1,231 +1,101 @@
 -- What a refusal says, by the refusal of a part.
-use Rattle.std.proofs.Common.{ℕ, suc, ◌≡◌, ◌≤◌, ◌⊎◌, List, [], ◌∷◌, Result, Ok, Err, IfErr, IfOk, inl, inr, length, refl, ap, subst, ◌∙◌, arith}
-use Rattle.block_disk.specs.Device.{Device, HasFailed, Moment, SameMoments, synced}
-use Rattle.block_disk.proofs.Failures.{moments_trans}
-use Rattle.block_disk.proofs.Images.{and_then, stays}
-use Rattle.guards.specs.Schema.{Declarations, field_count, guard_of, object_count}
-use Rattle.image.specs.Calls.{Call, Write, Sync, after, after_one}
+use Rattle.std.proofs.Common.{ℕ, suc, ◌≡◌, ◌<◌, ◌≤◌, ◌⊎◌, List, inl, inr, length, refl, sym, ap, subst, ◌∙◌, arith}
+use Rattle.block_disk.specs.Device.{Device}
+use Rattle.guards.specs.Schema.{Declarations, field_count, first_of, guard_of, object_count}
+use Rattle.heap_threads.specs.Runs.{HasFound, RefusesFound}
+use Rattle.heap_threads.specs.Runs as threads
+use Rattle.heap_threads.specs.Stops.{IsHomeOf}
+use Rattle.heap_threads.specs.declared.error.RunError.{RunError}
+use Rattle.heap_threads.specs.declared.error.RunError.TheVariants as run
+use Rattle.image.specs.Calls.{after}
+use Rattle.image.specs.Format.{format_calls}
 use Rattle.image.specs.Layout.{size_of}
 use Rattle.image.specs.Recovered.{Parts}
 use Rattle.image.specs.declared.error.ImageError.{ImageError}
 use Rattle.image.specs.declared.error.ImageError.TheVariants as images
-use Rattle.image.specs.declared.layout.Layout.{Layout}
 use Rattle.monitor.specs.Seats.{Home}
 use Rattle.monitor.specs.declared.view.Plan.{Plan}
-use Rattle.recover.specs.Reading.{IsOfOldVersion, RefusesImage}
-use Rattle.recover.specs.Recovery.{IsCutOff, IsOnTheWay, IsRecovery, IsWorn, RefusesRecovery, StudiedLaw}
-use Rattle.recover.specs.Study.{IsStudyOf}
-use Rattle.recover.specs.declared.error.RecoverError.{RecoverError}
-use Rattle.recover.specs.declared.error.RecoverError.TheVariants as recover
 use Rattle.recover.specs.declared.report.Report.{Report}
-use Rattle.recover.specs.declared.studied.Study.{Study}
 use Rattle.session.specs.declared.error.SessionError.{SessionError}
 use Rattle.session.specs.declared.error.SessionError.TheVariants as sessions
 use Rattle.store_image.specs.Formatting.{RefusesFormat, layout_with}
-use Rattle.drive.specs.Crashes.{CrashesOf}
 use Rattle.drive.specs.Driven.{IsMadeOf, blank_device}
-use Rattle.drive.specs.Refusals.{IsMakingRefused, IsNotFound, IsOwnStop, IsStoppedFirst, IsStoppedLater, RefusesFinding, RefusesGoingOn, RefusesLook, RefusesNew, RefusesOn, RefusesStudy, RefusesWith}
+use Rattle.drive.specs.Refusals.{IsOwnStop, IsStoppedFirst, RefusesNew, RefusesOn, RefusesWith}
 use Rattle.drive.specs.Schemas.{HoldsWorkers, IsOfWorkers, MayHaveImage, schema_of}
-use Rattle.drive.specs.Stops.{IsHomeOf, StopsBy, StopsRun}
+use Rattle.drive.specs.Stops.{StopsRun, said_of}
 use Rattle.drive.specs.Working.{StopsWorker}
 use Rattle.drive.specs.declared.error.DriveError.{DriveError}
 use Rattle.drive.specs.declared.error.DriveError.TheVariants.{NoMemory, Schema, Image, Helper, Session, Close, Recover, OtherSchema}
-use Rattle.drive.proofs.Recovered.{recovery_alike, synced_alike}
-use Rattle.drive.proofs.SchemaLemmas.{fields_are, guards_are, objects_are}
-use Rattle.drive.proofs.Stopped.{failed_since}
-
--- what holds anyway
-pub anyway : {A E P : Type 0} (r : Result A E) → P → IfOk r (λ x. P)
-anyway (Ok x) p = p
-anyway (Err e) p = tt
-
-pub weaker : {A E : Type 0} (r : Result A E) (P Q : E → Type 0) → ((e : E) → P e → Q e) → IfErr r P → IfErr r Q
-weaker (Ok x) P Q step p = tt
-weaker (Err e) P Q step p = step e p
-
-pub weaker_both : {A E : Type 0} (r : Result A E) (P Q S : E → Type 0) → ((e : E) → P e → Q e → S e) → IfErr r P → IfErr r Q → IfErr r S
-weaker_both (Ok x) P Q S step p q = tt
-weaker_both (Err e) P Q S step p q = step e p q
-
--- calls that succeed leave the count of failures
-pub after_failures : (calls : List Call) (d : Device) → (after calls d).failures ≡ d.failures
-after_failures [] d = refl
-after_failures (Write at bytes ∷ calls) d = after_failures calls (after_one (Write at bytes) d)
-after_failures (Sync ∷ calls) d = after_failures calls (after_one Sync d)
-
--- a study that is refused, and a recovery of what has a study
-pub study_stops : (old new : Device) (e : RecoverError) → RefusesImage old.now.bytes e → (e ≡ recover.Fault → HasFailed old.failures new.failures) → RefusesStudy old new e
-study_stops old new recover.Fault refused cause = cause refl
-study_stops old new recover.NotFormatted refused cause = refused
-study_stops old new recover.BadHeader refused cause = refused
-study_stops old new recover.TooSmall refused cause = refused
-study_stops old new recover.NoControl refused cause = refused
-study_stops old new recover.BadControl refused cause = refused
-study_stops old new recover.OldVersion refused cause = refused
-study_stops old new recover.Worn refused cause = refused
-study_stops old new (recover.BadRecord lane place) refused cause = refused
-study_stops old new (recover.IllegalLog lane place) refused cause = refused
-study_stops old new recover.NoMemory refused cause = refused
-
-neither : {P : Type 0} (e : RecoverError) → (e ≡ recover.Fault → ⊥) → (e ≡ recover.NoMemory → ⊥) → (e ≡ recover.Fault) ⊎ (e ≡ recover.NoMemory) → P
-neither e fault memory either = elim either [
-  | inl is ↦ absurd (fault is)
-  | inr is ↦ absurd (memory is)
-]
-
-pub finding_stops : (old new : Device) (s : Study) (e : RecoverError) → StudiedLaw → IsStudyOf old.now.bytes s → RefusesRecovery old.now.bytes e → (e ≡ recover.Fault → HasFailed old.failures new.failures) → RefusesFinding old new e
-finding_stops old new s recover.Fault law of refused cause = cause refl
-finding_stops old new s recover.NotFormatted law of refused cause = neither recover.NotFormatted (λ is. absurd cc) (λ is. absurd cc) (law old.now.bytes s recover.NotFormatted of refused)
-finding_stops old new s recover.BadHeader law of refused cause = neither recover.BadHeader (λ is. absurd cc) (λ is. absurd cc) (law old.now.bytes s recover.BadHeader of refused)
-finding_stops old new s recover.TooSmall law of refused cause = neither recover.TooSmall (λ is. absurd cc) (λ is. absurd cc) (law old.now.bytes s recover.TooSmall of refused)
-finding_stops old new s recover.NoControl law of refused cause = neither recover.NoControl (λ is. absurd cc) (λ is. absurd cc) (law old.now.bytes s recover.NoControl of refused)
-finding_stops old new s recover.BadControl law of refused cause = neither recover.BadControl (λ is. absurd cc) (λ is. absurd cc) (law old.now.bytes s recover.BadControl of refused)
-finding_stops old new s recover.OldVersion law of refused cause = refused
-finding_stops old new s recover.Worn law of refused cause = refused.1
-finding_stops old new s (recover.BadRecord lane place) law of refused cause = neither (recover.BadRecord lane place) (λ is. absurd cc) (λ is. absurd cc) (law old.now.bytes s (recover.BadRecord lane place) of refused.1)
-finding_stops old new s (recover.IllegalLog lane place) law of refused cause = neither (recover.IllegalLog lane place) (λ is. absurd cc) (λ is. absurd cc) (law old.now.bytes s (recover.IllegalLog lane place) of refused.1)
-finding_stops old new s recover.NoMemory law of refused cause = tt
-
--- the same of a device that was only read
-finding_alike : (old seen new : Device) (e : RecoverError) → SameMoments old seen → old.failures ≤ seen.failures → RefusesFinding seen new e → RefusesFinding old new e
-finding_alike old seen new recover.Fault same later refused = failed_since old.failures seen.failures new.failures later refused
-finding_alike old seen new recover.NotFormatted same later refused = absurd refused
-finding_alike old seen new recover.BadHeader same later refused = absurd refused
-finding_alike old seen new recover.TooSmall same later refused = absurd refused
-finding_alike old seen new recover.NoControl same later refused = absurd refused
-finding_alike old seen new recover.BadControl same later refused = absurd refused
-finding_alike old seen new recover.OldVersion same later refused = subst (λ (m : Moment). IsOfOldVersion m.bytes) same.now refused
-finding_alike old seen new recover.Worn same later refused = subst (λ (m : Moment). IsWorn m.bytes) same.now refused
-finding_alike old seen new (recover.BadRecord lane place) same later refused = absurd refused
-finding_alike old seen new (recover.IllegalLog lane place) same later refused = absurd refused
-finding_alike old seen new recover.NoMemory same later refused = tt
-
--- a recovery that was cut off, of a device that was only read before it
-cut_off_alike : (old seen new : Device) → SameMoments old seen → IsCutOff seen new → IsCutOff old new
-cut_off_alike old seen new same (inl none) = inl (moments_trans old seen new same none)
-cut_off_alike old seen new same (inr (inl one)) = inr (inl (moments_trans (synced old) (synced seen) new (synced_alike old seen same) one))
-cut_off_alike old seen new same (inr (inr (study, of, leaves))) = inr (inr (
-  study,
-  subst (λ (m : Moment). IsStudyOf m.bytes study) same.now of,
-  and_then (synced old) (synced seen) new (IsOnTheWay study) (stays (synced old) (synced seen) (IsOnTheWay study) (synced_alike old seen same)) leaves,
-))
-
-not_found_alike : (old seen new : Device) (e : RecoverError) → SameMoments old seen → old.failures ≤ seen.failures → IsNotFound seen new e → IsNotFound old new e
-not_found_alike old seen new e same later refused = record {
-  why = finding_alike old seen new e same later refused.why;
-  untouched = elim refused.untouched [
-    | inl fault ↦ inl fault
-    | inr one ↦ inr (moments_trans (synced old) (synced seen) new (synced_alike old seen same) one)
-  ];
-  cut_off = cut_off_alike old seen new same refused.cut_off;
-}
+use Rattle.drive.proofs.SchemaLemmas.{fields_are, first_is_zero, guards_are, objects_are}
 
 -- a session refuses workers of their own schema only as behind or worn
-session_stops : (workers : ℕ) (h : Home) (capacity lanes : ℕ) (values : List ℕ) (e : SessionError) → lanes ≡ workers → IsHomeOf (schema_of workers) values lanes h → StopsWorker h capacity e → (e ≡ sessions.Behind) ⊎ (e ≡ sessions.Worn)
-session_stops workers h capacity lanes values sessions.UnknownObject are home stops =
+own_session : (workers : ℕ) (h : Home) (capacity lanes : ℕ) (values : List ℕ) (e : SessionError) → lanes ≡ workers → IsHomeOf (schema_of workers) values lanes h → StopsWorker h capacity e → (e ≡ sessions.Behind) ⊎ (e ≡ sessions.Worn)
+own_session workers h capacity lanes values sessions.UnknownObject are home stops =
     let most : h.plan.lanes ≡ lanes = ap (λ (p : Plan). p.lanes) home in
     let count : object_count h.plan.schema ≡ suc workers = ap (λ (p : Plan). object_count p.schema) home ∙ objects_are workers in
     let few : object_count h.plan.schema ≤ h.plan.lanes = stops in
     absurd (omega (arith, are, most, count, few))
-session_stops workers h capacity lanes values sessions.UnknownField are home stops =
+own_session workers h capacity lanes values sessions.UnknownField are home stops =
     let most : h.plan.lanes ≡ lanes = ap (λ (p : Plan). p.lanes) home in
     let count : field_count h.plan.schema ≡ suc workers = ap (λ (p : Plan). field_count p.schema) home ∙ fields_are workers in
     let few : field_count h.plan.schema ≤ h.plan.lanes = stops in
     absurd (omega (arith, are, most, count, few))
-session_stops workers h capacity lanes values sessions.NotHeld are home stops =
+own_session workers h capacity lanes values sessions.NotHeld are home stops =
     let most : h.plan.lanes ≡ lanes = ap (λ (p : Plan). p.lanes) home in
     let low : stops.0 ≤ h.plan.lanes = stops.1 in
     absurd (stops.2 (ap (λ (p : Plan). guard_of p.schema stops.0) home ∙ guards_are workers stops.0 (omega (arith, are, most, low))))
-session_stops workers h capacity lanes values sessions.Behind are home stops = inl refl
-session_stops workers h capacity lanes values sessions.SectionFull are home stops = absurd stops
-session_stops workers h capacity lanes values sessions.TooMany are home stops = absurd stops
-session_stops workers h capacity lanes values sessions.TooDeep are home stops = absurd stops
-session_stops workers h capacity lanes values sessions.NoFat are home stops = absurd stops
-session_stops workers h capacity lanes values sessions.Worn are home stops = inr refl
-session_stops workers h capacity lanes values (sessions.Held x) are home stops = absurd stops
+own_session workers h capacity lanes values sessions.Behind are home stops = inl refl
+own_session workers h capacity lanes values sessions.SectionFull are home stops = absurd stops
+own_session workers h capacity lanes values sessions.TooMany are home stops = absurd stops
+own_session workers h capacity lanes values sessions.TooDeep are home stops = absurd stops
+own_session workers h capacity lanes values sessions.NoFat are home stops = absurd stops
+own_session workers h capacity lanes values sessions.Worn are home stops = inr refl
+own_session workers h capacity lanes values (sessions.Held x) are home stops = absurd stops
 
 module _ {D : Type 0} (device : D → Device) where
-  -- a run by the words of a heap, as the heap's
-  pub run_stops : (schema : Declarations) (was : Parts D) (h : Home) (l : Layout) (old new : Device) (e : DriveError) → IsHomeOf schema was.heap was.layout.lanes h → l ≡ was.layout → old ≡ device was.disk → CrashesOf h was.layout (device was.disk) new e → StopsBy h l old new e → StopsRun device schema was new e
-  run_stops schema was h l old new NoMemory home layouts devices crashes stops = inr (record { shared = h; plan = home; crashes = crashes; stops = tt })
-  run_stops schema was h l old new (Schema e) home layouts devices crashes stops = absurd stops
-  run_stops schema was h l old new (Image e) home layouts devices crashes stops = absurd stops
-  run_stops schema was h l old new (Helper e) home layouts devices crashes stops = record { shared = h; plan = home; crashes = crashes; stops = subst (λ (d : Device). StopsBy h was.layout d new (Helper e)) devices stops }
-  run_stops schema was h l old new (Session e) home layouts devices crashes stops = record { shared = h; plan = home; crashes = crashes; stops = subst (λ (k : Layout). StopsWorker h k.capacity e) layouts stops }
-  run_stops schema was h l old new (Close e) home layouts devices crashes stops = record { shared = h; plan = home; crashes = crashes; stops = subst (λ (d : Device). StopsBy h was.layout d new (Close e)) devices stops }
-  run_stops schema was h l old new (Recover e) home layouts devices crashes stops =
-      record { shared = h; plan = home; crashes = crashes; stops = subst (λ (d : Device). StopsBy h was.layout d new (Recover e)) devices (subst (λ (k : Layout). StopsBy h k old new (Recover e)) layouts stops) }
-  run_stops schema was h l old new OtherSchema home layouts devices crashes stops = absurd stops
-
   pub own_stops : (workers : ℕ) (was : Parts D) (new : Device) (e : DriveError) → IsOfWorkers workers was.layout was.guards → StopsRun device (schema_of workers) was new e → IsOwnStop e
   own_stops workers was new NoMemory theirs stops = tt
   own_stops workers was new (Schema e) theirs stops = tt
   own_stops workers was new (Image e) theirs stops = tt
   own_stops workers was new (Helper e) theirs stops = tt
-  own_stops workers was new (Session e) theirs stops = session_stops workers stops.shared was.layout.capacity was.layout.lanes was.heap e theirs.lanes_are stops.plan stops.stops
+  own_stops workers was new (Session e) theirs stops = own_session workers stops.shared was.layout.capacity was.layout.lanes was.heap e theirs.lanes_are stops.plan stops.stops
   own_stops workers was new (Close e) theirs stops = tt
   own_stops workers was new (Recover e) theirs stops = tt
   own_stops workers was new OtherSchema theirs stops = tt
 
   -- behind the image that was found
-  pub going_on : (workers : ℕ) (old : Device) (was : Parts D) (report : Report) (new : Device) (e : DriveError) → IsRecovery old (device was.disk) was report → IsOfWorkers workers was.layout was.guards → old.failures ≤ (device was.disk).failures
-      → StopsRun device (schema_of workers) was new e → IsOwnStop e → RefusesGoingOn device workers old new e
-  going_on workers old was report new NoMemory found theirs later stops own = record { was = was; report = report; found = found; stopped = record { theirs = theirs; later = later; stops = stops; own = own } }
-  going_on workers old was report new (Schema e) found theirs later stops own = record { was = was; report = report; found = found; stopped = record { theirs = theirs; later = later; stops = stops; own = own } }
-  going_on workers old was report new (Image e) found theirs later stops own = record { was = was; report = report; found = found; stopped = record { theirs = theirs; later = later; stops = stops; own = own } }
-  going_on workers old was report new (Helper e) found theirs later stops own = record { was = was; report = report; found = found; stopped = record { theirs = theirs; later = later; stops = stops; own = own } }
-  going_on workers old was report new (Session e) found theirs later stops own = record { was = was; report = report; found = found; stopped = record { theirs = theirs; later = later; stops = stops; own = own } }
-  going_on workers old was report new (Close e) found theirs later stops own = record { was = was; report = report; found = found; stopped = record { theirs = theirs; later = later; stops = stops; own = own } }
-  going_on workers old was report new (Recover e) found theirs later stops own = inr (record { was = was; report = report; found = found; stopped = record { theirs = theirs; later = later; stops = stops; own = own } })
-  going_on workers old was report new OtherSchema found theirs later stops own = record { was = was; report = report; found = found; stopped = record { theirs = theirs; later = later; stops = stops; own = own } }
-
-  -- the same of a device that was only read
-  later_alike : (workers : ℕ) (old seen new : Device) (e : DriveError) → SameMoments old seen → old.failures ≤ seen.failures → IsStoppedLater device workers seen new e → IsStoppedLater device workers old new e
-  later_alike workers old seen new e same low stopped =
-      let before = stopped.stopped.later in
-      record {
-        was = stopped.was;
-        report = stopped.report;
-        found = recovery_alike old seen (device stopped.was.disk) stopped.was stopped.report same stopped.found;
-        stopped = record { theirs = stopped.stopped.theirs; later = omega (arith, low, before); stops = stopped.stopped.stops; own = stopped.stopped.own };
-      }
-
-  pub going_as_on : (workers : ℕ) (old seen new : Device) (e : DriveError) → HoldsWorkers workers old.now.bytes → SameMoments old seen → old.failures ≤ seen.failures → RefusesGoingOn device workers seen new e → RefusesOn device workers old new e
-  going_as_on workers old seen new NoMemory holds same low refused = (holds, later_alike workers old seen new NoMemory same low refused)
-  going_as_on workers old seen new (Schema e) holds same low refused = elim refused.stopped.stops.stops [ ]
-  going_as_on workers old seen new (Image e) holds same low refused = elim refused.stopped.stops.stops [ ]
-  going_as_on workers old seen new (Helper e) holds same low refused = (holds, later_alike workers old seen new (Helper e) same low refused)
-  going_as_on workers old seen new (Session e) holds same low refused = (holds, later_alike workers old seen new (Session e) same low refused)
-  going_as_on workers old seen new (Close e) holds same low refused = (holds, later_alike workers old seen new (Close e) same low refused)
-  going_as_on workers old seen new (Recover e) holds same low refused = inr (
-    holds,
-    elim refused [
-      | inl first ↦ inl (not_found_alike old seen new e same low first)
-      | inr later ↦ inr (later_alike workers old seen new (Recover e) same low later)
-    ],
-  )
-  going_as_on workers old seen new OtherSchema holds same low refused = elim refused.stopped.stops.stops [ ]
+  pub stopped_on : (workers : ℕ) (old : Device) (was : Parts D) (report : Report) (new : Device) (e : DriveError) → HoldsWorkers workers old.now.bytes → HasFound device (schema_of workers) workers old report was
+      → StopsRun device (schema_of workers) was new e → IsOwnStop e → RefusesOn device workers old new e
+  stopped_on workers old was report new NoMemory holds found stops own = (holds, record { was = was; report = report; found = found.found; stopped = record { theirs = found.theirs; later = found.later; stops = stops; own = own } })
+  stopped_on workers old was report new (Helper e) holds found stops own = (holds, record { was = was; report = report; found = found.found; stopped = record { theirs = found.theirs; later = found.later; stops = stops; own = own } })
+  stopped_on workers old was report new (Session e) holds found stops own = (holds, record { was = was; report = report; found = found.found; stopped = record { theirs = found.theirs; later = found.later; stops = stops; own = own } })
+  stopped_on workers old was report new (Close e) holds found stops own = (holds, record { was = was; report = report; found = found.found; stopped = record { theirs = found.theirs; later = found.later; stops = stops; own = own } })
+  stopped_on workers old was report new (Recover e) holds found stops own = inr (holds, inr (record { was = was; report = report; found = found.found; stopped = record { theirs = found.theirs; later = found.later; stops = stops; own = own } }))
+  stopped_on workers old was report new (Schema e) holds found stops own = elim stops.stops [ ]
+  stopped_on workers old was report new (Image e) holds found stops own = elim stops.stops [ ]
+  stopped_on workers old was report new OtherSchema holds found stops own = elim stops.stops [ ]
 
   -- before it
-  pub look_on : (workers : ℕ) (old new : Device) (e : DriveError) → SameMoments old new → RefusesLook workers old new e → RefusesOn device workers old new e
-  look_on workers old new NoMemory same refused = elim refused [ ]
-  look_on workers old new (Schema e) same refused = elim refused [ ]
-  look_on workers old new (Image e) same refused = elim refused [ ]
-  look_on workers old new (Helper e) same refused = elim refused [ ]
-  look_on workers old new (Session e) same refused = elim refused [ ]
-  look_on workers old new (Close e) same refused = elim refused [ ]
-  look_on workers old new (Recover e) same refused = inl (refused, same)
-  look_on workers old new OtherSchema same refused = (refused, same)
+  pub unfound_on : (workers : ℕ) (old new : Device) (e : RunError) → RefusesFound (schema_of workers) workers old new e → RefusesOn device workers old new (said_of e)
+  unfound_on workers old new run.NoMemory refused = absurd refused
+  unfound_on workers old new run.NoThread refused = absurd refused
+  unfound_on workers old new (run.Image e) refused = absurd refused
+  unfound_on workers old new (run.Helper e) refused = absurd refused
+  unfound_on workers old new run.Unfinished refused = absurd refused
+  unfound_on workers old new (run.Close e) refused = absurd refused
+  unfound_on workers old new (run.Recover e) refused = elim refused [
+    | inl study ↦ inl study
+    | inr found ↦ inr (found.0, inl found.1)
+  ]
+  unfound_on workers old new run.OtherSchema refused = refused
 
-  pub making_new : (schema : Declarations) (workers : ℕ) (old new : Device) (e : DriveError) → schema ≡ schema_of workers → IsMakingRefused schema workers old new e → RefusesNew device workers old new e
-  making_new schema workers old new NoMemory is refused = elim refused [ ]
-  making_new schema workers old new (Schema e) is refused = elim refused [ ]
-  making_new schema workers old new (Image e) is refused = subst (λ (s : Declarations). RefusesFormat s workers 4000 old new e) is refused
-  making_new schema workers old new (Helper e) is refused = elim refused [ ]
-  making_new schema workers old new (Session e) is refused = elim refused [ ]
-  making_new schema workers old new (Close e) is refused = elim refused [ ]
-  making_new schema workers old new (Recover e) is refused = elim refused [ ]
-  making_new schema workers old new OtherSchema is refused = elim refused [ ]
+  -- an image that was made for the workers' schema
+  pub made_from : (workers : ℕ) (schema : Declarations) (old : Device) (made : Parts D) → schema ≡ schema_of workers → threads.IsMadeOf device schema workers 4000 old made → IsMadeOf device workers old made
+  made_from workers schema old made is so = record {
+    layout = so.layout ∙ ap (λ (s : Declarations). layout_with s workers 4000) is;
+    first = λ f below. so.first f (subst (λ (s : Declarations). f < field_count s) (sym is) below) ∙ ap (λ (s : Declarations). first_of s f) is ∙ first_is_zero workers f;
+    calls = so.calls ∙ ap (λ (s : Declarations). after (format_calls made.layout s) old) is;
+  }
 
   -- behind the image that was made
   pub made_new : (workers : ℕ) (old : Device) (was : Parts D) (new : Device) (e : DriveError) → MayHaveImage workers → IsMadeOf device workers old was → IsOfWorkers workers was.layout was.guards → old.failures ≤ (device was.disk).failures

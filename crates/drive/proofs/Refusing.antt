@@ -15,7 +15,7 @@ use Rattle.session.specs.Logs.{held_count}
 use Rattle.session.specs.declared.error.SessionError.{SessionError}
 use Rattle.session.specs.declared.error.SessionError.TheVariants.{UnknownObject, UnknownField, NotHeld, Behind, SectionFull, TooMany, TooDeep, NoFat, Worn, Held}
 use Rattle.steps.specs.Views.{IsHeld, Lengthens, View, hold, plan}
-use Rattle.drive.specs.Working.{HoldsJust, MayTake, RefusesCount, RefusesEnter, StopsWorker}
+use Rattle.drive.specs.Working.{HoldsJust, MayTake, RefusesCount, RefusesEnter, StopsAt, StopsWorker}
 use Rattle.drive.proofs.Holding.{entered, held_by_none, loaded, looked, not_locked, stored, told, weaker}
 
 -- a call that was told nothing
@@ -193,29 +193,42 @@ stores_all P v w f value objects n (Err Worn) room holds so = absurd so
 stores_all P v w f value objects n (Err (Held x)) room holds so = absurd so
 
 -- what stops a worker at an enter, and where it counts
-pub enter_stops : (h : Home) (c d : ℕ) (o : ObjectId) (e : SessionError) → c ≡ d → o.0 ≤ h.plan.lanes → RefusesEnter h c o e → StopsWorker h d e
-enter_stops h c d o UnknownObject same low refused = omega (arith, low, refused)
-enter_stops h c d o UnknownField same low refused = absurd refused
-enter_stops h c d o NotHeld same low refused = absurd refused
-enter_stops h c d o Behind same low refused = subst (λ (k : ℕ). StopsWorker h k Behind) same refused
-enter_stops h c d o SectionFull same low refused = absurd refused
-enter_stops h c d o TooMany same low refused = absurd refused
-enter_stops h c d o TooDeep same low refused = absurd refused
-enter_stops h c d o NoFat same low refused = absurd refused
-enter_stops h c d o Worn same low refused = refused
-enter_stops h c d o (Held x) same low refused = absurd refused
+pub enter_stops : (h : Home) (most c d : ℕ) (o : ObjectId) (e : SessionError) → c ≡ d → o.0 ≤ most → RefusesEnter h c o e → StopsAt h most d e
+enter_stops h most c d o UnknownObject same low refused = omega (arith, low, refused)
+enter_stops h most c d o UnknownField same low refused = absurd refused
+enter_stops h most c d o NotHeld same low refused = absurd refused
+enter_stops h most c d o Behind same low refused = subst (λ (k : ℕ). StopsAt h most k Behind) same refused
+enter_stops h most c d o SectionFull same low refused = absurd refused
+enter_stops h most c d o TooMany same low refused = absurd refused
+enter_stops h most c d o TooDeep same low refused = absurd refused
+enter_stops h most c d o NoFat same low refused = absurd refused
+enter_stops h most c d o Worn same low refused = refused
+enter_stops h most c d o (Held x) same low refused = absurd refused
 
-pub count_stops : (h : Home) (c : ℕ) (f : FieldId) (o : ℕ) (objects : List ℕ) (e : SessionError) → o ≡ f.0 → f.0 ≤ h.plan.lanes → RefusesCount h f (o ∷ objects) e → StopsWorker h c e
-count_stops h c f o objects UnknownObject same low refused = absurd refused
-count_stops h c f o objects UnknownField same low refused = omega (arith, low, refused)
-count_stops h c f o objects NotHeld same low refused = (f.0, low, subst (λ (n : ℕ). (plan h).guard f.0 ≢ n) same (not_locked o objects ((plan h).guard f.0) refused))
-count_stops h c f o objects Behind same low refused = absurd refused
-count_stops h c f o objects SectionFull same low refused = absurd refused
-count_stops h c f o objects TooMany same low refused = absurd refused
-count_stops h c f o objects TooDeep same low refused = absurd refused
-count_stops h c f o objects NoFat same low refused = absurd refused
-count_stops h c f o objects Worn same low refused = absurd refused
-count_stops h c f o objects (Held x) same low refused = absurd refused
+pub count_stops : (h : Home) (most c : ℕ) (f : FieldId) (o : ℕ) (objects : List ℕ) (e : SessionError) → o ≡ f.0 → f.0 ≤ most → RefusesCount h f (o ∷ objects) e → StopsAt h most c e
+count_stops h most c f o objects UnknownObject same low refused = absurd refused
+count_stops h most c f o objects UnknownField same low refused = omega (arith, low, refused)
+count_stops h most c f o objects NotHeld same low refused = (f.0, low, subst (λ (n : ℕ). (plan h).guard f.0 ≢ n) same (not_locked o objects ((plan h).guard f.0) refused))
+count_stops h most c f o objects Behind same low refused = absurd refused
+count_stops h most c f o objects SectionFull same low refused = absurd refused
+count_stops h most c f o objects TooMany same low refused = absurd refused
+count_stops h most c f o objects TooDeep same low refused = absurd refused
+count_stops h most c f o objects NoFat same low refused = absurd refused
+count_stops h most c f o objects Worn same low refused = absurd refused
+count_stops h most c f o objects (Held x) same low refused = absurd refused
+
+-- a worker whose objects and fields are below those of all stops as one of them
+pub stops_low : (h : Home) (most c d : ℕ) (e : SessionError) → most ≤ h.plan.lanes → c ≡ d → StopsAt h most c e → StopsWorker h d e
+stops_low h most c d UnknownObject low same stops = omega (arith, low, stops)
+stops_low h most c d UnknownField low same stops = omega (arith, low, stops)
+stops_low h most c d NotHeld low same stops = (stops.0, (let under = stops.1 in omega (arith, low, under)), stops.2)
+stops_low h most c d Behind low same stops = subst (λ (k : ℕ). StopsAt h most k Behind) same stops
+stops_low h most c d SectionFull low same stops = absurd stops
+stops_low h most c d TooMany low same stops = absurd stops
+stops_low h most c d TooDeep low same stops = absurd stops
+stops_low h most c d NoFat low same stops = absurd stops
+stops_low h most c d Worn low same stops = stops
+stops_low h most c d (Held x) low same stops = absurd stops
 
 pub refused_as : {A E : Type 0} (r s : Result A E) (P Q : E → Type 0) → r ≡ s → ((e : E) → P e → Q e) → IfErr s P → IfErr r Q
 refused_as r (Ok x) P Q same step refused = subst (λ (y : Result _ _). IfErr y Q) (sym same) tt

@@ -1,9 +1,11 @@
 -- What workers leave of a heap.
-use Rattle.std.specs.Prelude.{ℕ, ◌≡◌, ◌<◌, List, [], replicate, slice_index, take}
+use Rattle.std.specs.Prelude.{ℕ, ◌≡◌, ◌<◌, List, [], replicate, slice_index, take, Ok}
 use Rattle.block_disk.specs.Device.{Device, synced}
 use Rattle.block_disk.specs.Images.{LeavesOnly}
 use Rattle.guards.specs.Schema.{Declarations, field_count}
 use Rattle.heap_model.specs.declared.limits.TheConstants.{LAST_NUMBER}
+use Rattle.heap_threads.specs.Bodies.{WereCalled}
+use Rattle.heap_threads.specs.declared.outcome.Outcome.{Outcome}
 use Rattle.image.specs.Calls.{after}
 use Rattle.image.specs.Format.{format_calls}
 use Rattle.image.specs.Layout.{size_of}
@@ -16,18 +18,20 @@ use Rattle.recover.specs.declared.report.Report.{Report}
 use Rattle.recover.specs.declared.studied.Study.{Study}
 use Rattle.running_heap.specs.Closed.{IsClosed}
 use Rattle.store_image.specs.Formatting.{layout_with}
-use Rattle.store_past.specs.Past.{Past}
-use Rattle.trim_helper.specs.Parts as helpers
 use Rattle.trim_helper.specs.declared.ended.Ended.{Ended}
 use Rattle.trim_helper.specs.Endings.{HoldNone, IsComplete}
-use Rattle.drive.specs.Crashes.{KeepsEach}
-use Rattle.drive.specs.Serving.{IsLiving}
+use Rattle.heap_threads.specs.Crashes.{KeepsEach}
 use Rattle.drive.specs.Schemas.{IsOfWorkers, schema_of}
+use Rattle.drive.specs.Working.{HasCounted}
 use Rattle.drive.specs.declared.driven.Driven.{Driven}
 
 -- zero bytes, of the size of so many workers' image, of which nothing was asked yet
 abbrev pub blank_device : (workers : ℕ) → Device
 blank_device workers = record { name = []; now = record { bytes = replicate (size_of (layout_with (schema_of workers) workers 4000)) 0; pending = [] }; past = []; failures = 0 }
+
+-- what workers have done, by what the heap's threads leave
+abbrev pub driven_by : Outcome → Driven
+driven_by outcome = record { acknowledged = outcome.acknowledged; heap = outcome.heap }
 
 module _ {D : Type 0} (device : D → Device) where
   -- Recovery has this of a device that was recovered, and tells what workers have done. A crash of it leaves images on its way.
@@ -51,6 +55,8 @@ module _ {D : Type 0} (device : D → Device) where
     pub none : HoldNone ended
     -- There was one session a lane.
     pub complete : IsComplete layout.lanes ended
+    -- Each worker has worked with the session of its lane, to its end: none was refused.
+    pub called : WereCalled HasCounted shared layout.capacity (Ok tt) ended
     pub disk : D
     -- One legal history has what each session was told as its part, and the device that was closed stands for its heap.
     pub closed : IsClosed shared layout ended (device disk)
@@ -58,10 +64,6 @@ module _ {D : Type 0} (device : D → Device) where
     -- have kept whole sections of that same history, each with all that it depends on.
     pub crashes : KeepsEach shared layout closed.history opened (device disk)
     pub told : IsTold (device disk) now driven
-
-  -- So it ran since its opening, whatever its helper had lived through until now.
-  abbrev pub EndsRun : (shared : Home) (helper : helpers.Parts D) (now : Parts D) (driven : Driven) → Type 0
-  EndsRun shared helper now driven = (opened : Device) (p : Past) → IsLiving device shared opened helper p → IsRunBy shared helper.store.known.layout opened now driven
 
   -- A heap of this schema ran, from the values that it had, on the device that had them.
   pub record IsDriven (schema : Declarations) (was now : Parts D) (driven : Driven) : Type 0 where

@@ -5,8 +5,5 @@ pub mod Schemas
 pub mod Crashes
 pub mod Stops
 pub mod Refusals
--- What workers and helper keep.
+-- What workers keep.
 pub mod Working
-pub mod Workers
-pub mod Serving
-pub mod Racing

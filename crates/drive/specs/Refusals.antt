@@ -1,14 +1,11 @@
 -- Which refusal of workers comes when.
 use Rattle.std.specs.Prelude.{ℕ, ◌≡◌, ◌⊎◌, ◌≤◌}
-use Rattle.block_disk.specs.Device.{Device, HasFailed, SameMoments, synced}
-use Rattle.guards.specs.Schema.{Declarations}
+use Rattle.block_disk.specs.Device.{Device, SameMoments}
 use Rattle.guards.specs.declared.error.SchemaError.TheVariants as schemas
+use Rattle.heap_threads.specs.Runs.{IsNotFound, RefusesStudy}
 use Rattle.image.specs.Recovered.{Parts}
 use Rattle.image.specs.declared.error.ImageError.TheVariants as images
-use Rattle.recover.specs.Reading.{IsOfOldVersion, RefusesImage}
-use Rattle.recover.specs.Recovery.{IsCutOff, IsRecovery, IsWorn}
-use Rattle.recover.specs.declared.error.RecoverError.{RecoverError}
-use Rattle.recover.specs.declared.error.RecoverError.TheVariants as recover
+use Rattle.recover.specs.Recovery.{IsRecovery}
 use Rattle.recover.specs.declared.report.Report.{Report}
 use Rattle.session.specs.declared.error.SessionError.TheVariants as sessions
 use Rattle.store_image.specs.Formatting.{RefusesFormat}
@@ -23,40 +20,6 @@ abbrev pub RefusesSize : (workers : ℕ) → DriveError → Type 0
 RefusesSize workers (Schema e) = e ≡ schemas.NoMemory
 RefusesSize workers (Image e) = (e ≡ images.BadHeader) × (MayHaveImage workers → ⊥)
 RefusesSize workers _ = ⊥
-
--- no image of this schema, with so many lanes of 4,000 records, is made of a device
-abbrev pub IsMakingRefused : (schema : Declarations) (lanes : ℕ) (old new : Device) → DriveError → Type 0
-IsMakingRefused schema lanes old new (Image e) = RefusesFormat schema lanes 4000 old new e
-IsMakingRefused schema lanes old new _ = ⊥
-
--- the image on a device isn't studied
-abbrev pub RefusesStudy : (old new : Device) → RecoverError → Type 0
-RefusesStudy old new recover.Fault = HasFailed old.failures new.failures
-RefusesStudy old new e = RefusesImage old.now.bytes e
-
--- an image isn't one on which so many workers go on: it is only read
-abbrev pub RefusesLook : (workers : ℕ) (old new : Device) → DriveError → Type 0
-RefusesLook workers old new (Recover e) = RefusesStudy old new e
-RefusesLook workers old new OtherSchema = HoldsOthers workers old.now.bytes
-RefusesLook workers old new _ = ⊥
-
--- why an image that was studied isn't recovered
-abbrev pub RefusesFinding : (old new : Device) → RecoverError → Type 0
-RefusesFinding old new recover.Fault = HasFailed old.failures new.failures
-RefusesFinding old new recover.OldVersion = IsOfOldVersion old.now.bytes
-RefusesFinding old new recover.Worn = IsWorn old.now.bytes
-RefusesFinding old new recover.NoMemory = Unit {0}
-RefusesFinding old new _ = ⊥
-
--- An image that was studied isn't recovered, for this reason. Nothing was done then but a sync; behind a fault each image that a crash leaves since then is
--- one from before, or one on recovery's way.
-pub record IsNotFound (old new : Device) (e : RecoverError) : Type 0 where
-  -- An image that was studied is recovered, but for a fault, version 1, a worn control, or want of memory.
-  pub why : RefusesFinding old new e
-  -- An image of the workers that isn't recovered is as it was, but that a sync was made, unless by a fault.
-  pub untouched : (e ≡ recover.Fault) ⊎ SameMoments (synced old) new
-  -- After a fault each image that a crash leaves since then is one from before, or one on recovery's way.
-  pub cut_off : IsCutOff old new
 
 -- Where objects and fields are the workers' own, a session refuses only since the helper is behind, or since numbers have come to their end.
 abbrev pub IsOwnStop : DriveError → Type 0

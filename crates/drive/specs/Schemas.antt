@@ -1,12 +1,10 @@
 -- The schema of workers, and which image is theirs.
-use Rattle.std.specs.Prelude.{ℕ, zero, suc, ◌≡◌, false, List, ◌++◌, codes, decimal}
+use Rattle.std.specs.Prelude.{ℕ, zero, suc, false, List, ◌++◌, codes, decimal}
 use Rattle.guards.specs.Schema.{Declarations, Field, nothing, with_field, with_object}
+use Rattle.heap_threads.specs.Runs.{Holds, HoldsAnother, IsOf}
 use Rattle.image.specs.declared.guard_row.GuardRow.{GuardRow}
 use Rattle.image.specs.declared.layout.Layout.{Layout}
-use Rattle.recover.specs.Study.{IsStudyOf}
-use Rattle.recover.specs.declared.studied.Study.{Study}
 use Rattle.store_image.specs.Formatting.{AreLimits}
-use Rattle.trim_helper.specs.Opening.{FitsSchema}
 
 -- a persistent field that its object guards, and that begins with 0
 abbrev pub count_field : (name : List ℕ) (object : ℕ) → Field
@@ -29,14 +27,13 @@ abbrev pub MayHaveImage : (workers : ℕ) → Type 0
 MayHaveImage workers = AreLimits workers 4000
 
 -- an image of this layout with these guard rows is one of so many workers: each has a lane, and objects and fields are theirs
-pub record IsOfWorkers (workers : ℕ) (layout : Layout) (guards : List GuardRow) : Type 0 where
-  pub lanes_are : layout.lanes ≡ workers
-  pub fits : FitsSchema (schema_of workers) layout guards
+abbrev pub IsOfWorkers : (workers : ℕ) (layout : Layout) (guards : List GuardRow) → Type 0
+IsOfWorkers workers layout guards = IsOf (schema_of workers) workers layout guards
 
 -- this is an image of so many workers
 abbrev pub HoldsWorkers : (workers : ℕ) (image : List ℕ) → Type 0
-HoldsWorkers workers image = (s : Study) × IsStudyOf image s × IsOfWorkers workers s.layout s.guards.items
+HoldsWorkers workers image = Holds (schema_of workers) workers image
 
 -- this is an image, and none of so many workers
 abbrev pub HoldsOthers : (workers : ℕ) (image : List ℕ) → Type 0
-HoldsOthers workers image = (s : Study) × IsStudyOf image s × (IsOfWorkers workers s.layout s.guards.items → ⊥)
+HoldsOthers workers image = HoldsAnother (schema_of workers) workers image

@@ -1,68 +1,29 @@
 -- Why a run of workers is stopped, by the part of it that was refused.
-use Rattle.std.specs.Prelude.{ℕ, ◌≡◌, ◌⊎◌, ◌≤◌, List}
-use Rattle.block_disk.specs.Device.{Device, HasFailed}
+use Rattle.std.specs.Prelude.{◌≡◌, ◌⊎◌}
+use Rattle.block_disk.specs.Device.{Device}
 use Rattle.guards.specs.Schema.{Declarations}
-use Rattle.heap_model.specs.declared.limits.TheConstants.{LAST_NUMBER}
+use Rattle.heap_threads.specs.Crashes.{TakesEach}
+use Rattle.heap_threads.specs.Stops.{IsHomeOf, IsLostAfter, StopsClosing, StopsRound}
+use Rattle.heap_threads.specs.declared.error.RunError.{RunError}
+use Rattle.heap_threads.specs.declared.error.RunError.TheVariants as run
 use Rattle.image.specs.Recovered.{Parts}
 use Rattle.image.specs.declared.layout.Layout.{Layout}
 use Rattle.monitor.specs.Seats.{Home}
-use Rattle.recover.specs.Recovery.{IsWorn, RefusesRecovery}
-use Rattle.recover.specs.declared.error.RecoverError.{RecoverError}
-use Rattle.recover.specs.declared.error.RecoverError.TheVariants as recover
-use Rattle.running_heap.specs.Closed.{IsClosed}
-use Rattle.store_past.specs.declared.error.StoreError.{StoreError}
-use Rattle.store_past.specs.declared.error.StoreError.TheVariants as store
-use Rattle.trim_helper.specs.Endings.{HoldNone, IsComplete, IsWornOut}
-use Rattle.trim_helper.specs.declared.close_error.CloseError.{CloseError}
-use Rattle.trim_helper.specs.declared.close_error.CloseError.TheVariants as close
-use Rattle.trim_helper.specs.declared.ended.Ended.{Ended}
-use Rattle.drive.specs.Crashes.{CrashesOf, TakesEach}
+use Rattle.drive.specs.Crashes.{CrashesOf}
 use Rattle.drive.specs.Working.{StopsWorker}
 use Rattle.drive.specs.declared.error.DriveError.{DriveError}
-use Rattle.drive.specs.declared.error.DriveError.TheVariants.{NoMemory, Helper, Session, Close, Recover}
+use Rattle.drive.specs.declared.error.DriveError.TheVariants.{NoMemory, Image, Helper, Session, Close, Recover, OtherSchema}
 
--- A round of the helper is refused: the device's control is at its last sequence, or the device has failed since the run began. It isn't by `Failed`,
--- since the first fault ends the rounds.
-abbrev pub StopsRound : (old new : Device) → StoreError → Type 0
-StopsRound old new store.Worn = IsWornOut new
-StopsRound old new store.Fault = HasFailed old.failures new.failures
-StopsRound old new _ = ⊥
-
--- The closing is refused, for the same causes. No lane's session is missing, none holds a monitor, and the device hadn't failed before.
-abbrev pub StopsClosing : (old new : Device) → CloseError → Type 0
-StopsClosing old new close.Worn = IsWornOut new
-StopsClosing old new close.Fault = HasFailed old.failures new.failures
-StopsClosing old new _ = ⊥
-
--- the device that closing gave back isn't recovered
-abbrev pub RefusesTelling : (closed new : Device) → RecoverError → Type 0
-RefusesTelling closed new recover.Fault = HasFailed closed.failures new.failures
-RefusesTelling closed new e = RefusesRecovery closed.now.bytes e
-
--- nor is it told what is there
-abbrev pub StopsTelling : (closed new : Device) → DriveError → Type 0
-StopsTelling closed new NoMemory = Unit {0}
-StopsTelling closed new (Recover e) = RefusesTelling closed new e
-StopsTelling closed new _ = ⊥
-
--- Recovery takes what a good closing gave back, so that only a call may fail, memory be wanting, or the control be at its last sequence.
-abbrev pub LosesClosed : (closed new : Device) → RecoverError → Type 0
-LosesClosed closed new recover.Fault = HasFailed closed.failures new.failures
-LosesClosed closed new recover.Worn = IsWorn closed.now.bytes
-LosesClosed closed new recover.NoMemory = Unit {0}
-LosesClosed closed new _ = ⊥
-
--- The heap ran to its end and was closed, one session a lane, and then the device wasn't recovered.
-pub record IsLostAfter (h : Home) (l : Layout) (old new : Device) (e : RecoverError) : Type 0 where
-  pub ended : List Ended
-  pub none : HoldNone ended
-  pub complete : IsComplete l.lanes ended
-  pub closed : Device
-  pub later : old.failures ≤ closed.failures
-  pub ran : IsClosed h l ended closed
-  -- Recovery accepts what a good closing gave back. Where it isn't recovered, a call of the device has failed since,
-  -- memory ran out, or its control is at its last sequence.
-  pub refused : LosesClosed closed new e
+-- what is told of a refusal of the heap's threads. No worker ends with a monitor held.
+abbrev pub said_of : RunError → DriveError
+said_of run.NoMemory = NoMemory
+said_of run.NoThread = NoMemory
+said_of (run.Image e) = Image e
+said_of (run.Helper e) = Helper e
+said_of run.Unfinished = OtherSchema
+said_of (run.Close e) = Close e
+said_of (run.Recover e) = Recover e
+said_of run.OtherSchema = OtherSchema
 
 -- why a run by these words is stopped, that began on the one device and leaves the other
 abbrev pub StopsBy : Home → Layout → (old new : Device) → DriveError → Type 0
@@ -72,10 +33,6 @@ StopsBy h l old new (Session e) = StopsWorker h l.capacity e
 StopsBy h l old new (Close e) = StopsClosing old new e
 StopsBy h l old new (Recover e) = IsLostAfter h l old new e
 StopsBy h l old new _ = ⊥
-
--- the words of a heap of this schema that begins with these values, of so many lanes
-abbrev pub IsHomeOf : Declarations → (values : List ℕ) → (lanes : ℕ) → Home → Type 0
-IsHomeOf schema values lanes h = h.plan ≡ record { schema = schema; first = values; last = LAST_NUMBER; lanes = lanes }
 
 module _ {D : Type 0} (device : D → Device) where
   -- A heap of this schema ran on an image in this state, and was stopped. Of whatever a crash left since then, at any moment of the run, of the closing, and

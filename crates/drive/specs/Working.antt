@@ -1,5 +1,5 @@
 -- What a worker holds in its sections, and why its session refuses a call.
-use Rattle.std.specs.Prelude.{ℕ, ◌≡◌, ◌≢◌, ◌⊎◌, ◌+◌, ◌<◌, ◌≤◌, ◌==◌, if◌then◌else◌, List, [], ◌∷◌, length, Option, None, Some, option_map}
+use Rattle.std.specs.Prelude.{ℕ, ◌≡◌, ◌≢◌, ◌⊎◌, ◌+◌, ◌<◌, ◌≤◌, ◌==◌, if◌then◌else◌, List, [], ◌∷◌, length, Option, None, Some, option_map, IfErr}
 use Rattle.heap_model.specs.Own as by_events
 use Rattle.heap_model.specs.OwnSections.{held_objects, open_records}
 use Rattle.heap_model.specs.Setting.{Setting}
@@ -10,10 +10,13 @@ use Rattle.heap_model.specs.declared.ids.FieldId.{FieldId}
 use Rattle.heap_model.specs.declared.ids.ObjectId.{ObjectId}
 use Rattle.heap_model.specs.declared.limits.TheConstants.{LAST_PLACE, SECTION_RECORDS}
 use Rattle.monitor.specs.Seats.{Home}
+use Rattle.heap_threads.specs.Bodies.{Answer}
 use Rattle.session.specs.Calls.{IsBehind}
 use Rattle.session.specs.Logs.{place}
+use Rattle.session.specs.Sessions.{IsSessionOf, capacity_of, view_of}
 use Rattle.session.specs.declared.limits.TheConstants.{MOST_HELD}
 use Rattle.session.specs.declared.error.SessionError.{SessionError}
+use Rattle.session.specs.declared.session.Session.{Session}
 use Rattle.session.specs.declared.error.SessionError.TheVariants.{UnknownObject, UnknownField, NotHeld, Behind, Worn}
 use Rattle.steps.specs.Views.{View, plan}
 
@@ -71,12 +74,23 @@ RefusesCount h f objects UnknownField = (plan h).fields ≤ f.0
 RefusesCount h f objects NotHeld = locks_of objects ((plan h).guard f.0) ≡ None
 RefusesCount h f objects _ = ⊥
 
--- Why a worker ends early, by the clauses of `Session::{enter, load, store, exit}`. Worker k counts in field k + 1 with object k + 1 held, and then in field 0
--- with object 0 held: the heap has too few objects or fields, or another object guards one of them; the helper is behind; or numbers have come to their end.
+-- Why a worker ends early, by the clauses of `HeapThread::{enter, load, store, exit}`, where it uses objects and fields up to this number. Worker k counts in
+-- field k + 1 with object k + 1 held, and then in field 0 with object 0 held: the heap has too few objects or fields, or another object guards one of them; the
+-- helper is behind; or numbers have come to their end.
+abbrev pub StopsAt : Home → (most capacity : ℕ) → SessionError → Type 0
+StopsAt h most capacity UnknownObject = (plan h).objects ≤ most
+StopsAt h most capacity UnknownField = (plan h).fields ≤ most
+StopsAt h most capacity NotHeld = (f : ℕ) × (f ≤ most) × ((plan h).guard f ≢ f)
+StopsAt h most capacity Behind = ViewOf h (IsBehind capacity SECTION_RECORDS)
+StopsAt h most capacity Worn = ViewOf h IsAtEnd
+StopsAt h most capacity _ = ⊥
+
+-- why one of as many workers as there are lanes does
 abbrev pub StopsWorker : Home → (capacity : ℕ) → SessionError → Type 0
-StopsWorker h capacity UnknownObject = (plan h).objects ≤ h.plan.lanes
-StopsWorker h capacity UnknownField = (plan h).fields ≤ h.plan.lanes
-StopsWorker h capacity NotHeld = (f : ℕ) × (f ≤ h.plan.lanes) × ((plan h).guard f ≢ f)
-StopsWorker h capacity Behind = ViewOf h (IsBehind capacity SECTION_RECORDS)
-StopsWorker h capacity Worn = ViewOf h IsAtEnd
-StopsWorker h capacity _ = ⊥
+StopsWorker h capacity e = StopsAt h h.plan.lanes capacity e
+
+-- What a worker makes of its session: it holds nothing at the end, and where it has ended early, its session has refused a call.
+pub record HasCounted (h : Home) (old new : Session) (answer : Answer) : Type 0 where
+  pub of : IsSessionOf h new
+  pub free : HoldsJust (view_of new) [] 0
+  pub refused : IfErr answer (StopsAt h ((view_of old).lane.0 + 1) (capacity_of old))

@@ -1,24 +1,16 @@
-//! Real threads on a heap: workers, each with a session of its own, in threads of their own as far as the system gives them, beside
-//! the helper that makes durable what they do.
+//! Workers on a heap, each in a thread of its own, beside the helper that makes durable what they do: a [`Work`](heap_threads::Work).
 //!
 //! [`drive_with`] lets them work on a disk in memory, [`drive_new`] and [`drive_on`] on any device, and [`drive_heap`] on a heap that
-//! was recovered. What each answers is what [`recover`](recover::recover) gives of the device that
-//! [`close`](running_heap::close) gave back. [`Meet`] is called
-//! within each section.
+//! was recovered. What each answers is what [`recover`](recover::recover) gives of the device that the closing gave back. [`Meet`] is
+//! called within each section.
 #![tactic(auto)]
 
-mod crashes;
 mod declaring;
 mod devices;
 mod driven;
 mod driving;
 mod error;
-mod fitting;
 mod meet;
-mod racing;
-mod serving;
-mod signals;
-mod workers;
 mod working;
 
 pub use declaring::declare;

@@ -14,6 +14,7 @@ use image_file::{FileImages, Images, NewImage, Trouble, make_image};
 use recover::Report;
 use std::alloc::Global;
 use std::fs::OpenFile;
+use std::io::Read;
 use std::rt::Files;
 use std::sync::Wait;
 use std::thread::Threads;
@@ -35,7 +36,7 @@ pub fn run_file<F, W, R>(
     work: &W,
 ) -> Result<(Outcome, Report), FileRunError>
 where
-    F: BackingFile + OpenFile + Drop,
+    F: BackingFile + OpenFile + Read + Drop,
     W: Work + Sync,
     R: Files<File = F> + Threads + Wait + Sync,
     // Threads on an image file go on with the heap that recovery gives of its bytes, or with one that was made for them.

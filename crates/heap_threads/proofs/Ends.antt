@@ -43,7 +43,7 @@ on_layout h l k opened new e same crashes = subst (λ (m : Layout). CrashesOf h 
 
 module _ {D : Type 0} (device : D → Device) where
   -- between two rounds
-  living_keeps : (h : Home) (opened : Device) (x : Parts D) (p : Past) → CrashBetweenLaw device → IsLiving device h opened x p → KeepsSome h x.store.known.layout opened (device x.store.disk)
+  pub living_keeps : (h : Home) (opened : Device) (x : Parts D) (p : Past) → CrashBetweenLaw device → IsLiving device h opened x p → KeepsSome h x.store.known.layout opened (device x.store.disk)
   living_keeps h opened x p law was = record { seen = was.seen; each = λ image left. law h opened p x was.seen image was.lived (record { serves = was.lived.serving; legal = was.legal; seen_of = was.of }) left }
 
   -- of a helper whose device is given back: for want of memory, since a monitor is held, or for want of a thread

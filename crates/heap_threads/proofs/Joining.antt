@@ -18,44 +18,44 @@ use Rattle.heap_threads.specs.declared.body.Worked.{Worked}
 
 module _ (does : Home → Session → Session → Answer → Type 0) (h : Home) where
   -- a refusal that is the first of some lanes is the first of them and more
-  refused_more : (r : SessionError) (es : List Ended) (e : Ended) → IsFirstRefusal does h r es → IsFirstRefusal does h r (es ++ e ∷ [])
-  refused_more r [] e has = absurd has
-  refused_more r (x ∷ es) e has = elim has [
+  refused_more : (n : ℕ) (r : SessionError) (es : List Ended) (e : Ended) → IsFirstRefusal does h n r es → IsFirstRefusal does h n r (es ++ e ∷ [])
+  refused_more n r [] e has = absurd has
+  refused_more n r (x ∷ es) e has = elim has [
     | inl here ↦ inl here
-    | inr later ↦ inr (later.0, refused_more r es e later.1)
+    | inr later ↦ inr (later.0, refused_more n r es e later.1)
   ]
 
   -- and so is that of the last, where there was none
-  refused_last : (r : SessionError) (es : List Ended) (e : Ended) → All (λ x. WasCalled does h x (Ok tt)) es → WasCalled does h e (Err r) → IsFirstRefusal does h r (es ++ e ∷ [])
-  refused_last r [] e all here = inl here
-  refused_last r (x ∷ es) e all here = inr (All-head (λ y. WasCalled does h y (Ok tt)) x es all, refused_last r es e (All-tail (λ y. WasCalled does h y (Ok tt)) x es all) here)
+  refused_last : (n : ℕ) (r : SessionError) (es : List Ended) (e : Ended) → All (λ x. WasCalled does h n x (Ok tt)) es → WasCalled does h n e (Err r) → IsFirstRefusal does h n r (es ++ e ∷ [])
+  refused_last n r [] e all here = inl here
+  refused_last n r (x ∷ es) e all here = inr (All-head (λ y. WasCalled does h n y (Ok tt)) x es all, refused_last n r es e (All-tail (λ y. WasCalled does h n y (Ok tt)) x es all) here)
 
   -- each was called, with some answer
-  some_answer : (a : Answer) (es : List Ended) → WereCalled does h a es → All (λ e. (x : Answer) × WasCalled does h e x) es
-  some_answer (Ok done) es all = All-weaker (λ e. WasCalled does h e (Ok tt)) (λ e. (x : Answer) × WasCalled does h e x) (λ e one. (Ok tt, one)) es all
-  some_answer (Err r) es all = all.0
+  some_answer : (n : ℕ) (a : Answer) (es : List Ended) → WereCalled does h n a es → All (λ e. (x : Answer) × WasCalled does h n e x) es
+  some_answer n (Ok done) es all = All-weaker (λ e. WasCalled does h n e (Ok tt)) (λ e. (x : Answer) × WasCalled does h n e x) (λ e one. (Ok tt, one)) es all
+  some_answer n (Err r) es all = all.0
 
-  called_one : (before one : Option Answer) (es : List Ended) (e : Ended) → IfSome before (λ a. WereCalled does h a es) → IfSome one (λ a. WasCalled does h e a) → IfSome (both_of before one) (λ a. WereCalled does h a (es ++ e ∷ []))
-  called_one None one es e all here = tt
-  called_one (Some (Ok done)) None es e all here = tt
-  called_one (Some (Err r)) None es e all here = tt
-  called_one (Some (Ok done)) (Some (Ok d)) es e all here = All-push (λ x. WasCalled does h x (Ok tt)) es e all here
-  called_one (Some (Ok done)) (Some (Err r)) es e all here = (
-    All-push (λ x. (a : Answer) × WasCalled does h x a) es e (some_answer (Ok done) es all) (Err r, here),
-    refused_last r es e all here,
+  called_one : (n : ℕ) (before one : Option Answer) (es : List Ended) (e : Ended) → IfSome before (λ a. WereCalled does h n a es) → IfSome one (λ a. WasCalled does h n e a) → IfSome (both_of before one) (λ a. WereCalled does h n a (es ++ e ∷ []))
+  called_one n None one es e all here = tt
+  called_one n (Some (Ok done)) None es e all here = tt
+  called_one n (Some (Err r)) None es e all here = tt
+  called_one n (Some (Ok done)) (Some (Ok d)) es e all here = All-push (λ x. WasCalled does h n x (Ok tt)) es e all here
+  called_one n (Some (Ok done)) (Some (Err r)) es e all here = (
+    All-push (λ x. (a : Answer) × WasCalled does h n x a) es e (some_answer n (Ok done) es all) (Err r, here),
+    refused_last n r es e all here,
   )
-  called_one (Some (Err r)) (Some a) es e all here = (
-    All-push (λ x. (b : Answer) × WasCalled does h x b) es e all.0 (a, here),
-    refused_more r es e all.1,
+  called_one n (Some (Err r)) (Some a) es e all here = (
+    All-push (λ x. (b : Answer) × WasCalled does h n x b) es e all.0 (a, here),
+    refused_more n r es e all.1,
   )
 
   -- a thread whose session was joined to the helper was called with it
-  was_called : (capacity : ℕ) (rings : Rings) (first : Session) (w : Worked) → IsFirst h first → IsJoined h capacity rings first → HasWorked does h first w → IfSome w.answer (λ a. WasCalled does h w.ended a)
+  was_called : (capacity : ℕ) (rings : Rings) (first : Session) (w : Worked) → IsFirst h first → IsJoined h capacity rings first → HasWorked does h first w → IfSome w.answer (λ a. WasCalled does h capacity w.ended a)
   was_called capacity rings first w is joined has = some_called w.answer has.did
     where
-      some_called : (answer : Option Answer) → IfSome answer (does h first has.left) → IfSome answer (λ a. WasCalled does h w.ended a)
+      some_called : (answer : Option Answer) → IfSome answer (does h first has.left) → IfSome answer (λ a. WasCalled does h capacity w.ended a)
       some_called None did = tt
-      some_called (Some a) did = record { first = first; is_first = is; lane = sym (has.lane capacity rings joined); left = has.left; did = did; seat = has.seat }
+      some_called (Some a) did = record { first = first; is_first = is; holds = joined.holds; lane = sym (has.lane capacity rings joined); left = has.left; did = did; seat = has.seat }
 
   and_one : (capacity : ℕ) (rings : Rings) (sessions : List Session) (s : Session) (before all : AllWorked) (one : Worked) → AreWorked does h capacity rings sessions before → IsFirst h s → IsJoined h capacity rings s → HasWorked does h s one
       → all.ended.items ≡ before.ended.items ++ one.ended ∷ [] → all.answer ≡ both_of before.answer one.answer → AreWorked does h capacity rings (sessions ++ s ∷ []) all
@@ -68,9 +68,9 @@ module _ (does : Home → Session → Session → Answer → Type 0) (h : Home) 
         ∙ ap (λ (n : ℕ). lanes_opened sessions ++ n ∷ []) (has.lane capacity rings joined)
         ∙ sym (map-append (λ x. (view_of x).lane.0) sessions (s ∷ []));
     called =
-        subst (λ a. IfSome a (λ x. WereCalled does h x all.ended.items)) (sym answer)
-        (subst (λ es. IfSome (both_of before.answer one.answer) (λ x. WereCalled does h x es)) (sym items)
-        (called_one before.answer one.answer before.ended.items one.ended worked.called (was_called capacity rings s one is joined has)));
+        subst (λ a. IfSome a (λ x. WereCalled does h capacity x all.ended.items)) (sym answer)
+        (subst (λ es. IfSome (both_of before.answer one.answer) (λ x. WereCalled does h capacity x es)) (sym items)
+        (called_one capacity before.answer one.answer before.ended.items one.ended worked.called (was_called capacity rings s one is joined has)));
   }
 
   -- nobody
@@ -78,15 +78,15 @@ module _ (does : Home → Session → Session → Answer → Type 0) (h : Home) 
   none_worked capacity rings w items answer = record {
     ended = subst (λ es. All (IsEnded h capacity rings) es) (sym items) (All-nil (IsEnded h capacity rings));
     lanes = ap (λ es. lanes_ended es) items;
-    called = subst (λ a. IfSome a (λ x. WereCalled does h x w.ended.items)) (sym answer) (subst (λ es. All (λ e. WasCalled does h e (Ok tt)) es) (sym items) (All-nil (λ e. WasCalled does h e (Ok tt))));
+    called = subst (λ a. IfSome a (λ x. WereCalled does h capacity x w.ended.items)) (sym answer) (subst (λ es. All (λ e. WasCalled does h capacity e (Ok tt)) es) (sym items) (All-nil (λ e. WasCalled does h capacity e (Ok tt))));
   }
 
   -- one that holds a monitor was called, and has left it open
-  pub left_open : (capacity : ℕ) (rings : Rings) (es : List Ended) (a : Answer) (k : ℕ) → k < length es → All (IsEnded h capacity rings) es → WereCalled does h a es
+  pub left_open : (capacity : ℕ) (rings : Rings) (es : List Ended) (a : Answer) (k : ℕ) → k < length es → All (IsEnded h capacity rings) es → WereCalled does h capacity a es
       → ((d : Ended) → (slice_index_or es k d).held ≡ 0 → ⊥) → LeftOpen does h
   left_open capacity rings [] a k low ended called holds = absurd (omega (arith, low))
   left_open capacity rings (e ∷ es) a k low ended called holds =
-      let one = some_answer a (e ∷ es) called k e low in
+      let one = some_answer capacity a (e ∷ es) called k e low in
       record { ended = slice_index_or (e ∷ es) k e; answer = one.0; called = one.1; capacity = capacity; rings = rings; is_ended = ended k e low; holds = holds e }
 
   -- with what a further thread leaves

@@ -3,17 +3,12 @@ use Rattle.std.proofs.Common.{List, All, sym, subst}
 use Rattle.std.proofs.lemmas.List.Elements.{All-weaker}
 use Rattle.block_disk.specs.Device.{Device}
 use Rattle.image.specs.declared.layout.Layout.{Layout}
-use Rattle.image.specs.Recovered as image
 use Rattle.monitor.specs.Seats.{Home}
 use Rattle.running_heap.specs.Laws.{EndedLaw}
-use Rattle.session.specs.declared.session.Session.{Session}
 use Rattle.trim_helper.specs.Endings.{IsEnded}
 use Rattle.trim_helper.specs.Parts.{Parts}
 use Rattle.trim_helper.specs.declared.ended.Ended.{Ended}
-use Rattle.heap_threads.specs.Bodies.{Answer}
-use Rattle.heap_threads.specs.Outcomes.{EndsRun, IsRunBy}
-use Rattle.heap_threads.specs.Serving.{HasStayed, LivesOn}
-use Rattle.heap_threads.specs.declared.outcome.Outcome.{Outcome}
+use Rattle.heap_threads.specs.Serving.{HasStayed}
 
 pub ended_later : {D : Type 0} (device : D → Device) (h : Home) (old new : Parts D) (ended : List Ended) → EndedLaw → HasStayed device old new
     → All (IsEnded h old.store.known.layout.capacity old.rings) ended → All (IsEnded h new.store.known.layout.capacity new.rings) ended
@@ -21,8 +16,3 @@ ended_later device h old new ended law stayed all =
     subst (λ (l : Layout). All (IsEnded h l.capacity new.rings) ended) (sym stayed.layout)
     (All-weaker (IsEnded h old.store.known.layout.capacity old.rings) (IsEnded h old.store.known.layout.capacity new.rings)
     (λ e one. law h old.store.known.layout.capacity old.rings new.rings e one stayed.rings) ended all)
-
-pub run_before : (does : Home → Session → Session → Answer → Type 0) {D : Type 0} (device : D → Device) (h : Home) (old new : Parts D) (now : image.Parts D) (outcome : Outcome) → HasStayed device old new → LivesOn device h old new → EndsRun does device h new now outcome → EndsRun does device h old now outcome
-run_before does device h old new now outcome stayed lives ran opened p was =
-    let on = lives opened p was in
-    subst (λ (l : Layout). IsRunBy does device h l opened now outcome) stayed.layout (ran opened on.0 on.1)

@@ -2,6 +2,7 @@ pub mod Served
 pub mod Taken
 pub mod Durables
 pub mod Ends
+pub mod Returning
 pub mod Joining
 pub mod Later
 pub mod Ending

@@ -11,12 +11,6 @@ use Rattle.recover.specs.Recovery.{IsMadeBy, IsRecovery, put_back_on}
 use Rattle.recover.specs.Study.{IsStudyOf}
 use Rattle.recover.specs.declared.report.Report.{Report}
 use Rattle.recover.specs.declared.studied.Study.{Study}
-use Rattle.guards.specs.Schema.{Declarations}
-use Rattle.monitor.specs.Seats.{Home}
-use Rattle.session.specs.declared.session.Session.{Session}
-use Rattle.heap_threads.specs.Bodies.{Answer}
-use Rattle.heap_threads.specs.Runs.{HasRunOn}
-use Rattle.heap_threads.specs.declared.outcome.Outcome.{Outcome}
 
 one_same : (call : Call) (a b : Device) → SameMoments a b → SameMoments (after_one call a) (after_one call b)
 one_same (Write at bytes) a b same = record {
@@ -60,14 +54,4 @@ recovery_alike old seen new r report same found = record {
   heap_is = found.heap_is;
   report_is = found.report_is;
   made = made_alike found.study old seen new same found.made;
-}
-
--- threads that went on from what was found on a device that was only read went on from what was there before
-pub on_alike : (does : Home → Session → Session → Answer → Type 0) {D : Type 0} (device : D → Device) (schema : Declarations) (lanes : ℕ) (old seen : Device) (report : Report) (now : Parts D) (outcome : Outcome) → SameMoments old seen
-    → HasRunOn does device schema lanes seen report now outcome → HasRunOn does device schema lanes old report now outcome
-on_alike does device schema lanes old seen report now outcome same on = record {
-  was = on.was;
-  found = recovery_alike old seen (device on.was.disk) on.was report same on.found;
-  theirs = on.theirs;
-  ran = on.ran;
 }

@@ -1,5 +1,5 @@
 -- What a refusal says, by the refusal of a part.
-use Rattle.std.proofs.Common.{ℕ, ◌≡◌, ◌≤◌, ◌⊎◌, List, [], ◌∷◌, Result, Ok, Err, IfErr, IfOk, inl, inr, refl, subst, arith}
+use Rattle.std.proofs.Common.{ℕ, ◌≡◌, ◌≤◌, ◌⊎◌, List, [], ◌∷◌, Result, Ok, Err, IfErr, IfOk, inl, inr, refl, subst}
 use Rattle.block_disk.specs.Device.{Device, HasFailed, Moment, SameMoments, synced}
 use Rattle.block_disk.proofs.Failures.{moments_trans}
 use Rattle.block_disk.proofs.Images.{and_then, stays}
@@ -9,7 +9,7 @@ use Rattle.image.specs.Recovered.{Parts}
 use Rattle.image.specs.declared.layout.Layout.{Layout}
 use Rattle.monitor.specs.Seats.{Home}
 use Rattle.recover.specs.Reading.{IsOfOldVersion, RefusesImage}
-use Rattle.recover.specs.Recovery.{IsCutOff, IsOnTheWay, IsRecovery, IsWorn, RefusesRecovery, StudiedLaw}
+use Rattle.recover.specs.Recovery.{IsCutOff, IsOnTheWay, IsWorn, RefusesRecovery, StudiedLaw}
 use Rattle.recover.specs.Study.{IsStudyOf}
 use Rattle.recover.specs.declared.error.RecoverError.{RecoverError}
 use Rattle.recover.specs.declared.error.RecoverError.TheVariants as recover
@@ -18,11 +18,11 @@ use Rattle.recover.specs.declared.studied.Study.{Study}
 use Rattle.session.specs.declared.session.Session.{Session}
 use Rattle.heap_threads.specs.Bodies.{Answer}
 use Rattle.heap_threads.specs.Crashes.{CrashesOf}
-use Rattle.heap_threads.specs.Runs.{Holds, IsMadeOf, IsNotFound, IsOf, IsStoppedLater, RefusesFinding, RefusesGoingOn, RefusesLook, RefusesNew, RefusesOn, RefusesStudy}
+use Rattle.heap_threads.specs.Runs.{HasFound, Holds, IsMadeOf, IsNotFound, RefusesFinding, RefusesFound, RefusesLook, RefusesNew, RefusesOn, RefusesStudy}
 use Rattle.heap_threads.specs.Stops.{IsHomeOf, StopsBy, StopsRun}
 use Rattle.heap_threads.specs.declared.error.RunError.{RunError}
 use Rattle.heap_threads.specs.declared.error.RunError.TheVariants.{NoMemory, NoThread, Image, Helper, Unfinished, Close, Recover, OtherSchema}
-use Rattle.heap_threads.proofs.Recovered.{recovery_alike, synced_alike}
+use Rattle.heap_threads.proofs.Recovered.{synced_alike}
 use Rattle.heap_threads.proofs.Stopped.{failed_since}
 
 -- what holds anyway
@@ -105,7 +105,7 @@ cut_off_alike old seen new same (inr (inr (study, of, leaves))) = inr (inr (
   and_then (synced old) (synced seen) new (IsOnTheWay study) (stays (synced old) (synced seen) (IsOnTheWay study) (synced_alike old seen same)) leaves,
 ))
 
-not_found_alike : (old seen new : Device) (e : RecoverError) → SameMoments old seen → old.failures ≤ seen.failures → IsNotFound seen new e → IsNotFound old new e
+pub not_found_alike : (old seen new : Device) (e : RecoverError) → SameMoments old seen → old.failures ≤ seen.failures → IsNotFound seen new e → IsNotFound old new e
 not_found_alike old seen new e same later refused = record {
   why = finding_alike old seen new e same later refused.why;
   untouched = elim refused.untouched [
@@ -114,6 +114,17 @@ not_found_alike old seen new e same later refused = record {
   ];
   cut_off = cut_off_alike old seen new same refused.cut_off;
 }
+
+-- what a look at the image refuses
+pub looked : (schema : Declarations) (lanes : ℕ) (old new : Device) (e : RunError) → SameMoments old new → RefusesLook schema lanes old new e → RefusesFound schema lanes old new e
+looked schema lanes old new NoMemory same refused = absurd refused
+looked schema lanes old new NoThread same refused = absurd refused
+looked schema lanes old new (Image e) same refused = absurd refused
+looked schema lanes old new (Helper e) same refused = absurd refused
+looked schema lanes old new Unfinished same refused = absurd refused
+looked schema lanes old new (Close e) same refused = absurd refused
+looked schema lanes old new (Recover e) same refused = inl (refused, same)
+looked schema lanes old new OtherSchema same refused = (refused, same)
 
 module _ (does : Home → Session → Session → Answer → Type 0) {D : Type 0} (device : D → Device) where
   -- a run by the words of a heap, as the heap's
@@ -128,55 +139,30 @@ module _ (does : Home → Session → Session → Answer → Type 0) {D : Type 0
   run_stops schema was h l old new OtherSchema home layouts devices crashes stops = absurd stops
 
   -- behind the image that was found
-  pub going_on : (schema : Declarations) (lanes : ℕ) (old : Device) (was : Parts D) (report : Report) (new : Device) (e : RunError) → IsRecovery old (device was.disk) was report → IsOf schema lanes was.layout was.guards → old.failures ≤ (device was.disk).failures
-      → StopsRun does device schema was new e → RefusesGoingOn does device schema lanes old new e
-  going_on schema lanes old was report new NoMemory found theirs later stops = record { was = was; report = report; found = found; theirs = theirs; stopped = record { later = later; stops = stops } }
-  going_on schema lanes old was report new NoThread found theirs later stops = record { was = was; report = report; found = found; theirs = theirs; stopped = record { later = later; stops = stops } }
-  going_on schema lanes old was report new (Image e) found theirs later stops = record { was = was; report = report; found = found; theirs = theirs; stopped = record { later = later; stops = stops } }
-  going_on schema lanes old was report new (Helper e) found theirs later stops = record { was = was; report = report; found = found; theirs = theirs; stopped = record { later = later; stops = stops } }
-  going_on schema lanes old was report new Unfinished found theirs later stops = record { was = was; report = report; found = found; theirs = theirs; stopped = record { later = later; stops = stops } }
-  going_on schema lanes old was report new (Close e) found theirs later stops = record { was = was; report = report; found = found; theirs = theirs; stopped = record { later = later; stops = stops } }
-  going_on schema lanes old was report new (Recover e) found theirs later stops = inr (record { was = was; report = report; found = found; theirs = theirs; stopped = record { later = later; stops = stops } })
-  going_on schema lanes old was report new OtherSchema found theirs later stops = record { was = was; report = report; found = found; theirs = theirs; stopped = record { later = later; stops = stops } }
-
-  -- the same of a device that was only read
-  later_alike : (schema : Declarations) (lanes : ℕ) (old seen new : Device) (e : RunError) → SameMoments old seen → old.failures ≤ seen.failures → IsStoppedLater does device schema lanes seen new e → IsStoppedLater does device schema lanes old new e
-  later_alike schema lanes old seen new e same low stopped =
-      let before = stopped.stopped.later in
-      record {
-        was = stopped.was;
-        report = stopped.report;
-        found = recovery_alike old seen (device stopped.was.disk) stopped.was stopped.report same stopped.found;
-        theirs = stopped.theirs;
-        stopped = record { later = omega (arith, low, before); stops = stopped.stopped.stops };
-      }
-
-  pub going_as_on : (schema : Declarations) (lanes : ℕ) (old seen new : Device) (e : RunError) → Holds schema lanes old.now.bytes → SameMoments old seen → old.failures ≤ seen.failures → RefusesGoingOn does device schema lanes seen new e → RefusesOn does device schema lanes old new e
-  going_as_on schema lanes old seen new NoMemory holds same low refused = (holds, later_alike schema lanes old seen new NoMemory same low refused)
-  going_as_on schema lanes old seen new NoThread holds same low refused = (holds, later_alike schema lanes old seen new NoThread same low refused)
-  going_as_on schema lanes old seen new (Image e) holds same low refused = absurd refused.stopped.stops.stops
-  going_as_on schema lanes old seen new (Helper e) holds same low refused = (holds, later_alike schema lanes old seen new (Helper e) same low refused)
-  going_as_on schema lanes old seen new Unfinished holds same low refused = (holds, later_alike schema lanes old seen new Unfinished same low refused)
-  going_as_on schema lanes old seen new (Close e) holds same low refused = (holds, later_alike schema lanes old seen new (Close e) same low refused)
-  going_as_on schema lanes old seen new (Recover e) holds same low refused = inr (
-    holds,
-    elim refused [
-      | inl first ↦ inl (not_found_alike old seen new e same low first)
-      | inr later ↦ inr (later_alike schema lanes old seen new (Recover e) same low later)
-    ],
-  )
-  going_as_on schema lanes old seen new OtherSchema holds same low refused = absurd refused.stopped.stops.stops
+  pub stopped_on : (schema : Declarations) (lanes : ℕ) (old : Device) (was : Parts D) (report : Report) (new : Device) (e : RunError) → Holds schema lanes old.now.bytes → HasFound device schema lanes old report was
+      → StopsRun does device schema was new e → RefusesOn does device schema lanes old new e
+  stopped_on schema lanes old was report new NoMemory holds found stops = (holds, record { was = was; report = report; found = found.found; theirs = found.theirs; stopped = record { later = found.later; stops = stops } })
+  stopped_on schema lanes old was report new NoThread holds found stops = (holds, record { was = was; report = report; found = found.found; theirs = found.theirs; stopped = record { later = found.later; stops = stops } })
+  stopped_on schema lanes old was report new (Helper e) holds found stops = (holds, record { was = was; report = report; found = found.found; theirs = found.theirs; stopped = record { later = found.later; stops = stops } })
+  stopped_on schema lanes old was report new Unfinished holds found stops = (holds, record { was = was; report = report; found = found.found; theirs = found.theirs; stopped = record { later = found.later; stops = stops } })
+  stopped_on schema lanes old was report new (Close e) holds found stops = (holds, record { was = was; report = report; found = found.found; theirs = found.theirs; stopped = record { later = found.later; stops = stops } })
+  stopped_on schema lanes old was report new (Recover e) holds found stops = inr (holds, inr (record { was = was; report = report; found = found.found; theirs = found.theirs; stopped = record { later = found.later; stops = stops } }))
+  stopped_on schema lanes old was report new (Image e) holds found stops = absurd stops.stops
+  stopped_on schema lanes old was report new OtherSchema holds found stops = absurd stops.stops
 
   -- before it
-  pub look_on : (schema : Declarations) (lanes : ℕ) (old new : Device) (e : RunError) → SameMoments old new → RefusesLook schema lanes old new e → RefusesOn does device schema lanes old new e
-  look_on schema lanes old new NoMemory same refused = absurd refused
-  look_on schema lanes old new NoThread same refused = absurd refused
-  look_on schema lanes old new (Image e) same refused = absurd refused
-  look_on schema lanes old new (Helper e) same refused = absurd refused
-  look_on schema lanes old new Unfinished same refused = absurd refused
-  look_on schema lanes old new (Close e) same refused = absurd refused
-  look_on schema lanes old new (Recover e) same refused = inl (refused, same)
-  look_on schema lanes old new OtherSchema same refused = (refused, same)
+  pub unfound_on : (schema : Declarations) (lanes : ℕ) (old new : Device) (e : RunError) → RefusesFound schema lanes old new e → RefusesOn does device schema lanes old new e
+  unfound_on schema lanes old new NoMemory refused = absurd refused
+  unfound_on schema lanes old new NoThread refused = absurd refused
+  unfound_on schema lanes old new (Image e) refused = absurd refused
+  unfound_on schema lanes old new (Helper e) refused = absurd refused
+  unfound_on schema lanes old new Unfinished refused = absurd refused
+  unfound_on schema lanes old new (Close e) refused = absurd refused
+  unfound_on schema lanes old new (Recover e) refused = elim refused [
+    | inl study ↦ inl study
+    | inr found ↦ inr (found.0, inl found.1)
+  ]
+  unfound_on schema lanes old new OtherSchema refused = refused
 
   -- behind the image that was made
   pub made_new : (schema : Declarations) (lanes capacity : ℕ) (old : Device) (was : Parts D) (new : Device) (e : RunError) → IsMadeOf device schema lanes capacity old was → old.failures ≤ (device was.disk).failures → StopsRun does device schema was new e → RefusesNew does device schema lanes capacity old new e

@@ -110,7 +110,7 @@ no_other : (h : Home) (l : Layout) (es : List Ended) (closed : Device) (e : Reco
 no_other h l es closed e law ran refused fault memory = ⊎_elim fault memory (law l (plan h) ran.now closed.now.bytes e (ran.left closed.now.bytes (image_now closed)) refused)
 
 -- recovery takes what a good closing gave back
-loses_closed : (h : Home) (l : Layout) (es : List Ended) (closed new : Device) (e : RecoverError) → AcceptedLaw → CurrentLaw → IsClosed h l es closed → RefusesTelling closed new e → LosesClosed closed new e
+pub loses_closed : (h : Home) (l : Layout) (es : List Ended) (closed new : Device) (e : RecoverError) → AcceptedLaw → CurrentLaw → IsClosed h l es closed → RefusesTelling closed new e → LosesClosed closed new e
 loses_closed h l es closed new recover.Fault law young ran refused = refused
 loses_closed h l es closed new recover.NotFormatted law young ran refused = no_other h l es closed recover.NotFormatted law ran refused (λ is. absurd cc) (λ is. absurd cc)
 loses_closed h l es closed new recover.BadHeader law young ran refused = no_other h l es closed recover.BadHeader law ran refused (λ is. absurd cc) (λ is. absurd cc)

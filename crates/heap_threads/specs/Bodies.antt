@@ -3,11 +3,12 @@ use Rattle.std.specs.Prelude.{ℕ, ◌≡◌, ◌⊎◌, List, [], ◌∷◌, ma
 use Rattle.std.specs.declared.alloc.AllocError.{AllocError}
 use Rattle.monitor.specs.Seats.{Home}
 use Rattle.running_heap.specs.Joined.{IsJoined}
-use Rattle.session.specs.Sessions.{IsSessionOf, seat_of, view_of}
+use Rattle.session.specs.Sessions.{capacity_of, seat_of, view_of}
 use Rattle.session.specs.declared.error.SessionError.{SessionError}
 use Rattle.session.specs.declared.session.Session.{Session}
 use Rattle.trim_helper.specs.Endings.{IsEnded, Rings, lanes_ended}
 use Rattle.trim_helper.specs.declared.ended.Ended.{Ended}
+pub use Rattle.heap_threads.specs.Threads.{IsFirst}
 use Rattle.heap_threads.specs.declared.body.AllWorked.{AllWorked}
 use Rattle.heap_threads.specs.declared.body.Worked.{Worked}
 
@@ -21,11 +22,6 @@ both_of (Some (Ok done)) (Some next) = Some next
 both_of (Some (Err e)) (Some next) = Some (Err e)
 both_of (Some first) None = None
 both_of None next = None
-
--- a session as it was opened: of a heap of these words, and told nothing
-pub record IsFirst (h : Home) (s : Session) : Type 0 where
-  pub of : IsSessionOf h s
-  pub new : (view_of s).events ≡ []
 
 -- the lanes of these sessions, in order
 abbrev pub lanes_opened : List Session → List ℕ
@@ -42,9 +38,10 @@ module _ (does : Home → Session → Session → Answer → Type 0) (h : Home) 
     pub ended : (capacity : ℕ) (rings : Rings) → IsJoined h capacity rings first → IsEnded h capacity rings w.ended
 
   -- A body was called with the session of this lane as it was opened, and answered this. What ended is the session as the body left it.
-  pub record WasCalled (e : Ended) (answer : Answer) : Type 0 where
+  pub record WasCalled (capacity : ℕ) (e : Ended) (answer : Answer) : Type 0 where
     pub first : Session
     pub is_first : IsFirst h first
+    pub holds : capacity_of first ≡ capacity
     pub lane : (view_of first).lane.0 ≡ e.lane.0
     pub left : Session
     -- What a body does with its session, as its `Work` says, it has done of each lane.
@@ -52,20 +49,20 @@ module _ (does : Home → Session → Session → Answer → Type 0) (h : Home) 
     pub seat : e.seat ≡ seat_of left
 
   -- this is the refusal of the first of them that has answered one
-  abbrev pub IsFirstRefusal : SessionError → List Ended → Type 0
-  IsFirstRefusal r [] = ⊥
-  IsFirstRefusal r (e ∷ es) = WasCalled e (Err r) ⊎ (WasCalled e (Ok tt) × IsFirstRefusal r es)
+  abbrev pub IsFirstRefusal : (capacity : ℕ) → SessionError → List Ended → Type 0
+  IsFirstRefusal capacity r [] = ⊥
+  IsFirstRefusal capacity r (e ∷ es) = WasCalled capacity e (Err r) ⊎ (WasCalled capacity e (Ok tt) × IsFirstRefusal capacity r es)
 
-  -- A body was called for each of these, and this is the first refusal, where there is one.
-  abbrev pub WereCalled : Answer → List Ended → Type 0
-  WereCalled (Ok done) es = All (λ e. WasCalled e (Ok tt)) es
-  WereCalled (Err r) es = All (λ e. (answer : Answer) × WasCalled e answer) es × IsFirstRefusal r es
+  -- A body was called for each of these, whose lanes hold so many records, and this is the first refusal, where there is one.
+  abbrev pub WereCalled : (capacity : ℕ) → Answer → List Ended → Type 0
+  WereCalled capacity (Ok done) es = All (λ e. WasCalled capacity e (Ok tt)) es
+  WereCalled capacity (Err r) es = All (λ e. (answer : Answer) × WasCalled capacity e answer) es × IsFirstRefusal capacity r es
 
   -- What the threads of these sessions leave is ready to meet the helper to which they were joined, lane by lane.
   pub record AreWorked (capacity : ℕ) (rings : Rings) (sessions : List Session) (w : AllWorked) : Type 0 where
     pub ended : All (IsEnded h capacity rings) w.ended.items
     pub lanes : lanes_ended w.ended.items ≡ lanes_opened sessions
-    pub called : IfSome w.answer (λ answer. WereCalled answer w.ended.items)
+    pub called : IfSome w.answer (λ answer. WereCalled capacity answer w.ended.items)
 
   -- so it is of what they answer, unless memory was wanting
   abbrev pub HaveWorked : List Session → Result AllWorked AllocError → Type 0
@@ -75,8 +72,8 @@ module _ (does : Home → Session → Session → Answer → Type 0) (h : Home) 
   pub record LeftOpen : Type 0 where
     pub ended : Ended
     pub answer : Answer
-    pub called : WasCalled ended answer
     pub capacity : ℕ
     pub rings : Rings
+    pub called : WasCalled capacity ended answer
     pub is_ended : IsEnded h capacity rings ended
     pub holds : (ended.held ≡ 0) → ⊥

@@ -5,6 +5,8 @@ pub mod Runs
 -- What a thread's calls say, and what `durable` keeps.
 pub mod Threads
 pub mod Durable
+-- What is known of a heap whose threads have come back.
+pub mod Returns
 -- What bodies, threads and helper keep.
 pub mod Bodies
 pub mod Beside

@@ -45,7 +45,7 @@ module _ (does : Home → Session → Session → Answer → Type 0) {D : Type 0
     pub lanes : lanes_ended ended ≡ range_with_len 0 layout.lanes
     -- A body was called for each lane, with a session of the heap that was told nothing, and has done with it what its
     -- `Work` says. What is answered is the refusal of the least lane whose body has answered one.
-    pub called : WereCalled does shared outcome.answer ended
+    pub called : WereCalled does shared layout.capacity outcome.answer ended
     -- No body's thread held a monitor at the end of a run that was closed.
     pub none : HoldNone ended
     pub complete : IsComplete layout.lanes ended

@@ -76,6 +76,19 @@ pub record IsMadeOf {D : Type 0} (device : D → Device) (schema : Declarations)
   -- An image that was made for threads is what formatting the given device has made, so that no earlier image is kept.
   pub calls : device made.disk ≡ after (format_calls made.layout schema) old
 
+-- Recovery has found this image of this schema with so many lanes on this device, of which it has told this.
+pub record HasFound {D : Type 0} (device : D → Device) (schema : Declarations) (lanes : ℕ) (old : Device) (report : Report) (was : Parts D) : Type 0 where
+  pub found : IsRecovery old (device was.disk) was report
+  -- A heap that was found for threads is of their schema, with a lane for each.
+  pub theirs : IsOf schema lanes was.layout was.guards
+  pub later : old.failures ≤ (device was.disk).failures
+
+-- no image of this schema with so many lanes is found on a device
+abbrev pub RefusesFound : (schema : Declarations) (lanes : ℕ) (old new : Device) → RunError → Type 0
+RefusesFound schema lanes old new OtherSchema = HoldsAnother schema lanes old.now.bytes × SameMoments old new
+RefusesFound schema lanes old new (Recover e) = (RefusesStudy old new e × SameMoments old new) ⊎ (Holds schema lanes old.now.bytes × IsNotFound old new e)
+RefusesFound schema lanes old new _ = ⊥
+
 -- what a body does, and the device of a disk
 module _ (does : Home → Session → Session → Answer → Type 0) {D : Type 0} (device : D → Device) where
   -- A heap ran from its beginning: on the image that formatting this device had made.

@@ -1,5 +1,5 @@
 -- What is known of a thread of a heap (this project's own).
-use Rattle.std.specs.Prelude.{◌≡◌, ◌<◌, ◌≤◌, Option, None, Some, Result, Ok, Err}
+use Rattle.std.specs.Prelude.{◌≡◌, ◌<◌, ◌≤◌, [], Option, None, Some, Result, Ok, Err}
 use Rattle.monitor.specs.Seats.{Home}
 use Rattle.session.specs.declared.session.Session.{Session}
 use Rattle.session.specs.declared.error.SessionError.{SessionError}
@@ -17,6 +17,11 @@ pub record IsThreadOf (home : Home) (first : Option Session) (shared : Home) (s 
   pub words : shared ≡ home
   pub of : IsSessionOf home s
   pub from : IsFrom first s
+
+-- a session as it was opened: of a heap of these words, and told nothing
+pub record IsFirst (h : Home) (s : Session) : Type 0 where
+  pub of : IsSessionOf h s
+  pub new : (view_of s).events ≡ []
 
 -- nothing was told
 abbrev pub IsStill : Session → Session → Type 0

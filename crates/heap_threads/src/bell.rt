@@ -22,17 +22,20 @@ pub struct Bell {
     asks: AtomicU64,
     // How many rounds it has made.
     rounds: AtomicU64,
+    // Whether it sleeps once a round finds nothing.
+    rests: bool,
 }
 
 impl Bell {
-    /// So many threads are to begin.
-    pub fn new(threads: u64) -> Bell {
+    /// So many threads are to begin, beside a helper that sleeps once a round finds nothing, or doesn't.
+    pub fn new(threads: u64, rests: bool) -> Bell {
         Bell {
             gate: AtomicU64::new(CLOSED),
             working: AtomicU64::new(threads),
             stopped: AtomicBool::new(false),
             asks: AtomicU64::new(0),
             rounds: AtomicU64::new(0),
+            rests,
         }
     }
 
@@ -90,6 +93,11 @@ impl Bell {
     /// How often it was asked, in the low 32 bits.
     pub fn asks(&self) -> u32 {
         low(self.asks.load(Ordering::SeqCst))
+    }
+
+    /// Whether the helper sleeps once a round finds nothing.
+    pub fn rests(&self) -> bool {
+        self.rests
     }
 
     /// Sleeps until it is asked once more than so often.

@@ -45,7 +45,7 @@ pub fn work_beside<D: Disk + Drop, W: Work + Sync, R: Threads + Wait + Sync>(
     ensures beside { IfOk result (HaveWorkedBeside (W.does work.now) D.device shared.now sessions.items helper) }
     ensures no_thread { IfErr result (λ back. back ≡ helper) }
 {
-    let bell = Bell::new(sessions.len() as u64);
+    let bell = Bell::new(sessions.len() as u64, work.lets_helper_rest());
     let bell = &bell;
     thread::scope(
         thread::scope_env(),

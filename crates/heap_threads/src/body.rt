@@ -89,6 +89,7 @@ fn call_body<J: Joint, R: Wait, W: Work>(
     requires words { shared.now ≡ J.home }
     requires of { IsSessionOf J.home session }
     requires from { IsFrom J.first session }
+    requires first { IsFirst J.home session }
     ensures of { IsSessionOf J.home result.0 }
     ensures from { IsFrom J.first result.0 }
     ensures does { W.does work.now J.home session result.0 result.1 }

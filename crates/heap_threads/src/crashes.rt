@@ -10,8 +10,11 @@ use survival::has_study_law;
 /// Recovery takes whatever a crash left of a device that was recovered, at any moment of a run of store calls behind that, and at any
 /// moment of a recovery of what the run left.
 pub fn taken_law()
+    // Recovery accepts whatever a crash leaves of a device that was recovered, and on which nothing was done since.
     ensures recovered { RecoveredLaw }
+    // Recovery accepts whatever a crash left at any moment of a run of store calls.
     ensures run { RunTakenLaw }
+    // Recovery accepts whatever a crash left of a recovery of what such a run left, wherever that ended.
     ensures recovery { RecoveryTakenLaw }
 {
     has_study_law();
@@ -20,9 +23,9 @@ pub fn taken_law()
 }
 
 /// No crash takes back what a thread had ended when [`HeapThread::durable`](crate::HeapThread::durable) answered Ok, also of a run that is
-/// refused later, or never closed. Recovery accepts whatever a crash leaves from then on, and keeps of the thread's lane at least so many
-/// sections: of one legal history, in which each lane's part is just what its session had been told when the crash came
-/// ([`stable_law`], of which this is what it says of `durable`).
+/// refused later, or never closed. Recovery accepts whatever a crash leaves from then on, and keeps at least so many sections of the
+/// thread's lane. They are of one legal history, in which each lane's part is just what its session had been told when the crash came.
+/// [`stable_law`] says more; this is what it says of `durable`.
 pub fn durable_law<D: Disk>()
     // What a thread had ended when `durable` answered Ok no crash takes back, at any moment of any run of store calls
     // since, though the heap is never closed.

@@ -2,12 +2,12 @@
 ghost use Rattle.std.specs.Prelude.{◌≡◌, ◌≤◌, ◌↔◌, IfErr, IfOk, IsTrue, OnOk, length};
 ghost use Rattle.block_disk.specs.Device.{SameMoments};
 ghost use Rattle.heap_threads.specs.Outcomes.{HasRunFrom};
-ghost use Rattle.heap_threads.specs.Runs.{HasRunNew, HasRunOn, Holds, IsMadeOf, IsNotFound, IsOf, RefusesGoingOn, RefusesLook, RefusesNew, RefusesOn};
+ghost use Rattle.heap_threads.specs.Runs.{HasFound, HasRunNew, HasRunOn, Holds, IsMadeOf, IsNotFound, IsOf, RefusesFound, RefusesLook, RefusesNew, RefusesOn};
 ghost use Rattle.heap_threads.specs.Stops.{StopsRun};
 ghost use Rattle.image.specs.Recovered.{Parts};
 ghost use Rattle.recover.specs.Recovery.{IsRecovery};
 ghost use Rattle.recover.specs.declared.report.Report.{Report};
-ghost use Rattle.store_image.specs.Formatting.{RefusesFormat};
+ghost use Rattle.store_image.specs.Formatting.{AreLimits, RefusesFormat};
 ghost use Rattle.trim_helper.specs.Opening.{FitsSchema};
 
 use crate::error::RunError;
@@ -52,7 +52,7 @@ pub fn run_new<D: Disk + Drop, W: Work + Sync, R: Threads + Wait + Sync>(
     // Threads get no new image only where `Store::format` refuses it. Else they are stopped only as their heap's run is.
     ensures refused { IfErr result (λ back. RefusesNew (W.does work.now) D.device schema lanes capacity (D.device disk) (D.device back.0) back.1) }
 {
-    match make(alloc, disk, &schema, lanes, capacity) {
+    match make_heap(alloc, disk, &schema, lanes, capacity) {
         Ok(made) => run_there(rt, alloc, made, schema, work),
         Err((disk, refusal)) => {
             drop(schema);
@@ -61,8 +61,9 @@ pub fn run_new<D: Disk + Drop, W: Work + Sync, R: Threads + Wait + Sync>(
     }
 }
 
-// Makes the image.
-fn make<D: Disk>(
+/// Makes an image of the device, with so many lanes of so many records, of this schema. Refused as [`Store::format`] refuses, with the
+/// device.
+pub fn make_heap<D: Disk>(
     alloc: Global,
     disk: D,
     schema: &Schema,
@@ -70,6 +71,8 @@ fn make<D: Disk>(
     capacity: u32,
 ) -> Result<Recovered<D>, (D, ImageError)>
     ensures made { IfOk result (λ made. IsMadeOf D.device schema.now lanes capacity (D.device disk) made) }
+    // An image is made for threads only where the lanes and their records are within their limits.
+    ensures limits { IfOk result (λ made. AreLimits lanes capacity) }
     ensures fits { IfOk result (λ made. FitsSchema schema.now made.layout made.guards) }
     ensures failures { IfOk result (λ made. (D.device disk).failures ≤ (D.device made.disk).failures) }
     ensures refused { IfErr result (λ back. RefusesFormat schema.now lanes capacity (D.device disk) (D.device back.0) back.1) }
@@ -105,13 +108,49 @@ pub fn run_on<D: Disk + Drop, W: Work + Sync, R: Threads + Wait + Sync>(
     // schema. Either is only read.
     ensures refused { IfErr result (λ back. RefusesOn (W.does work.now) D.device schema lanes (D.device disk) (D.device back.0) back.1) }
 {
-    let mut disk = disk;
-    match look(alloc, &mut disk, &schema, lanes) {
-        Ok(()) => go_on(rt, alloc, disk, schema, lanes, work),
-        Err(refusal) => {
+    let (found, report) = match find_heap(alloc, disk, &schema, lanes) {
+        Ok(found) => found,
+        Err(back) => {
             drop(schema);
-            Err((disk, refusal))
+            return Err(back);
         }
+    };
+    match run_there(rt, alloc, found, schema, work) {
+        Ok(ran) => Ok((ran, report)),
+        Err(back) => {
+            drop(report);
+            Err(back)
+        }
+    }
+}
+
+/// Recovers the image that is on the device, maybe after a crash, where it is of this schema with so many lanes.
+///
+/// Refusals, in this order, each with the device; but for the last it is as it was:
+/// - `Recover`: the image is refused by [`study`];
+/// - `OtherSchema`: it isn't one of this schema with so many lanes;
+/// - `Recover`: it wasn't recovered, for want of memory, by a fault, since it is of version 1, or since its control is worn. It is as it
+///   was then, but that a sync was made; or after a fault, maybe on recovery's way.
+pub fn find_heap<D: Disk>(
+    alloc: Global,
+    disk: D,
+    schema: &Schema,
+    lanes: u8,
+) -> Result<(Recovered<D>, Report), (D, RunError)>
+    // A heap is found for threads by a recovery of the device.
+    ensures found { IfOk result (λ r. HasFound D.device schema.now lanes (D.device disk) r.1 r.0) }
+    // A heap is found for threads only where the device holds an image of their schema with a lane for each.
+    ensures theirs { IfOk result (λ r. Holds schema.now lanes (D.device disk).now.bytes) }
+    // No heap is found for threads only where the image's study, its schema or its recovery refuses it.
+    ensures refused { IfErr result (λ back. RefusesFound schema.now lanes (D.device disk) (D.device back.0) back.1) }
+{
+    let mut disk = disk;
+    if let Err(refusal) = look(alloc, &mut disk, schema, lanes) {
+        return Err((disk, refusal));
+    }
+    match find(alloc, disk, schema, lanes) {
+        Ok(found) => Ok(found),
+        Err((disk, refusal)) => Err((disk, RunError::Recover(refusal))),
     }
 }
 
@@ -138,35 +177,6 @@ fn is_theirs(schema: &Schema, study: &Study, lanes: u8) -> bool
     ensures { IsTrue result ↔ IsOf schema.now lanes study.now.layout study.now.guards.items }
 {
     study.layout.lanes == lanes && is_of(schema, &study.layout, &study.guards)
-}
-
-// Recovers an image of this schema, and lets threads go on with it.
-fn go_on<D: Disk + Drop, W: Work + Sync, R: Threads + Wait + Sync>(
-    rt: &R,
-    alloc: Global,
-    disk: D,
-    schema: Schema,
-    lanes: u8,
-    work: &W,
-) -> Result<(Ran<D>, Report), (D, RunError)>
-    requires theirs { Holds schema lanes (D.device disk).now.bytes }
-    ensures ok { IfOk result (λ r. HasRunOn (W.does work.now) D.device schema lanes (D.device disk) r.1 r.0.recovered r.0.outcome) }
-    ensures refused { IfErr result (λ back. RefusesGoingOn (W.does work.now) D.device schema lanes (D.device disk) (D.device back.0) back.1) }
-{
-    let (found, report) = match find(alloc, disk, &schema, lanes) {
-        Ok(found) => found,
-        Err((disk, refusal)) => {
-            drop(schema);
-            return Err((disk, RunError::Recover(refusal)));
-        }
-    };
-    match run_there(rt, alloc, found, schema, work) {
-        Ok(ran) => Ok((ran, report)),
-        Err(back) => {
-            drop(report);
-            Err(back)
-        }
-    }
 }
 
 // Recovers an image of this schema: it stays one. Refused, it is as it was, or after a fault maybe on recovery's way.
@@ -200,7 +210,7 @@ fn run_there<D: Disk + Drop, W: Work + Sync, R: Threads + Wait + Sync>(
     schema: Schema,
     work: &W,
 ) -> Result<Ran<D>, (D, RunError)>
-    requires { FitsSchema schema made.layout made.guards }
+    requires fits { FitsSchema schema made.layout made.guards }
     ensures ok { IfOk result (λ r. HasRunFrom (W.does work.now) D.device schema made r.recovered r.outcome) }
     ensures cause { IfErr result (λ back. StopsRun (W.does work.now) D.device schema made (D.device back.0) back.1) }
 {

@@ -1,7 +1,8 @@
-//! Threads on a heap, from its opening to its end.
+//! Threads on a heap, from its opening to its end, in one call or in two halves.
 ghost use Rattle.std.specs.Prelude.{◌≡◌, ◌<◌, All, IfErr, IfNone, IfOk, IfSome, false, length, take};
+ghost use Rattle.heap_threads.specs.Returns.{HasReturned, HaveReturned, IsBack, IsHanded};
 ghost use Rattle.std.specs.List.{range_with_len, slice_index_or};
-ghost use Rattle.heap_threads.specs.Bodies.{AreWorked, IsFirst, WereCalled};
+ghost use Rattle.heap_threads.specs.Bodies.{WereCalled};
 ghost use Rattle.heap_threads.specs.Outcomes.{EndsRun, HasRunFrom, IsTold};
 ghost use Rattle.heap_threads.specs.Serving.{CrashesBy};
 ghost use Rattle.heap_threads.specs.Stops.{StopsBy, StopsEnd, StopsRun, StopsTelling};
@@ -16,6 +17,7 @@ use crate::body::{AllWorked, Answer};
 use crate::crashes::taken_law;
 use crate::error::RunError;
 use crate::outcome::Outcome;
+use crate::returned::{Returned, disk_of};
 use crate::serving::Served;
 use crate::work::Work;
 use block_disk::Disk;
@@ -37,17 +39,8 @@ use trim_helper::{Ended, Helper};
 ///
 /// A crash may come at any moment of it: recovery takes what that leaves, and keeps whole sections, each with all that it depends on.
 ///
-/// Refusals, in this order, each with the device as a stop leaves it; it may be recovered:
-/// - `NoMemory`: there was no room for what the threads share. No body was called;
-/// - `NoThread`: some lane got no thread. No body was called, and the device is as it was;
-/// - `Helper`: a round of the helper was refused, by `Worn`, with the control's sequence at its last value, or by `Fault`, after a
-///   failure of the device. Never by `Failed`: the first fault ends the rounds;
-/// - `NoMemory`: there was no room for what the threads leave;
-/// - `Unfinished`: a body has ended with a monitor held;
-/// - `Close`: the heap wasn't closed, by `Worn` or by `Fault`;
-/// - `Recover`: the device wasn't recovered: a call of it failed, memory was wanting, or its control is at its last sequence.
-///   Never because of what the closing left: recovery takes that;
-/// - `NoMemory`: there was no room for what is told. The device is recovered.
+/// Refusals, in this order, each with the device as a stop leaves it; it may be recovered: those of [`work_on`], and then those of
+/// [`close_returned`].
 pub fn run_heap<D: Disk + Drop, W: Work + Sync, R: Threads + Wait + Sync>(
     rt: &R,
     alloc: Global,
@@ -63,8 +56,38 @@ pub fn run_heap<D: Disk + Drop, W: Work + Sync, R: Threads + Wait + Sync>(
     // began.
     ensures cause { IfErr result (λ back. StopsRun (W.does work.now) D.device schema recovered (D.device back.0) back.1) }
 {
+    match work_on(rt, alloc, work, schema, recovered) {
+        Ok(returned) => close_returned(alloc, work, returned),
+        Err(back) => Err(back),
+    }
+}
+
+/// Lets a thread for each lane do this work on a heap of this schema that was recovered, until each body has returned. The heap isn't
+/// closed: whether it is may hang on what the bodies have answered.
+///
+/// Refusals, in this order, each with the device as a stop leaves it; it may be recovered:
+/// - `NoMemory`: there was no room for what the threads share. No body was called;
+/// - `NoThread`: some lane got no thread. No body was called, and the device is as it was;
+/// - `Helper`: a round of the helper was refused, by `Worn`, with the control's sequence at its last value, or by `Fault`, after a
+///   failure of the device. Never by `Failed`: the first fault ends the rounds;
+/// - `NoMemory`: there was no room for what the threads leave.
+pub fn work_on<D: Disk + Drop, W: Work + Sync, R: Threads + Wait + Sync>(
+    rt: &R,
+    alloc: Global,
+    work: &W,
+    schema: Schema,
+    recovered: Recovered<D>,
+) -> Result<Returned<D>, (D, RunError)>
+    requires schema { FitsSchema schema recovered.layout recovered.guards }
+    // Threads come back from a heap of their schema, and a body was called for each of its lanes.
+    ensures ok { IfOk result (HasReturned (W.does work.now) D.device schema recovered) }
+    // Threads that don't come back are stopped only for the cause that is named, and recovery accepts whatever a crash
+    // left since they began.
+    ensures cause { IfErr result (λ back. StopsRun (W.does work.now) D.device schema recovered (D.device back.0) back.1) }
+{
     taken_law();
     life_law::<D>();
+    round_law::<D>();
     let _layout = recovered.layout();
     match open(alloc, schema, recovered, LAST_NUMBER) {
         Ok(heap) => run(rt, alloc, work, heap),
@@ -72,19 +95,19 @@ pub fn run_heap<D: Disk + Drop, W: Work + Sync, R: Threads + Wait + Sync>(
     }
 }
 
-// The threads work beside the helper, and then all is closed.
+// The threads work beside the helper.
 fn run<D: Disk + Drop, W: Work + Sync, R: Threads + Wait + Sync>(
     rt: &R,
     alloc: Global,
     work: &W,
     heap: RunningHeap<D>,
-) -> Result<(Recovered<D>, Outcome), (D, RunError)>
+) -> Result<Returned<D>, (D, RunError)>
     requires joined { All (IsJoined heap.shared heap.helper.store.known.layout.capacity heap.helper.rings) heap.sessions.items }
     requires new { AreNew 0 heap.sessions.items }
     requires count { length heap.sessions.items ≡ heap.helper.store.known.layout.lanes }
     requires helping { IsHelping D.device heap.shared heap.helper }
     requires running { heap.helper.store.known.has_failed ≡ false }
-    ensures ok { IfOk result (λ r. EndsRun (W.does work.now) D.device heap.shared heap.helper r.0 r.1) }
+    ensures ok { IfOk result (HaveReturned (W.does work.now) D.device heap.shared heap.helper) }
     ensures cause { IfErr result (λ back. StopsBy (W.does work.now) heap.shared heap.helper.store.known.layout (D.device heap.helper.store.disk) (D.device back.0) back.1) }
     ensures crashes { IfErr result (λ back. CrashesBy D.device heap.shared heap.helper (D.device back.0) back.1) }
 {
@@ -109,7 +132,7 @@ fn run<D: Disk + Drop, W: Work + Sync, R: Threads + Wait + Sync>(
         return Err((disk_of(helper), RunError::Helper(reason)));
     }
     match worked {
-        Ok(worked) => end_all(alloc, work, shared, worked, helper),
+        Ok(worked) => hand_over(shared, worked, helper),
         Err(_) => {
             drop(shared);
             Err((disk_of(helper), RunError::NoMemory))
@@ -117,37 +140,60 @@ fn run<D: Disk + Drop, W: Work + Sync, R: Threads + Wait + Sync>(
     }
 }
 
-// The helper's device.
-fn disk_of<D: Disk>(helper: Helper<D>) -> D
-    ensures { result ≡ helper.store.disk }
-{
-    helper.into_store().into_disk()
-}
-
-// Closes with what the threads leave, where none of them holds a monitor.
-fn end_all<D: Disk, W: Work>(
-    alloc: Global,
-    work: &W,
+// Hands over what the threads leave, where each body was called.
+fn hand_over<D: Disk>(
     shared: Shared,
     worked: AllWorked,
     helper: Helper<D>,
-) -> Result<(Recovered<D>, Outcome), (D, RunError)>
-    requires helper { IsHelping D.device shared helper }
-    requires running { helper.store.known.has_failed ≡ false }
-    requires ended { All (IsEnded shared helper.store.known.layout.capacity helper.rings) worked.ended.items }
-    requires lanes { lanes_ended worked.ended.items ≡ range_with_len 0 helper.store.known.layout.lanes }
-    requires called { IfSome worked.answer (λ answer. WereCalled (W.does work.now) shared answer worked.ended.items) }
-    ensures ok { IfOk result (λ r. EndsRun (W.does work.now) D.device shared helper r.0 r.1) }
-    ensures cause { IfErr result (λ back. StopsEnd (W.does work.now) shared helper.store.known.layout (D.device helper.store.disk) (D.device back.0) back.1) }
-    ensures crashes { IfErr result (λ back. CrashesBy D.device shared helper (D.device back.0) back.1) }
+) -> Result<Returned<D>, (D, RunError)>
+    ensures ok { IfOk result (IsHanded shared worked helper) }
+    ensures disk { IfErr result (λ back. back.0 ≡ helper.store.disk) }
+    ensures memory { IfErr result (λ back. back.1 ≡ RunError.NoMemory) }
 {
-    round_law::<D>();
     let AllWorked { ended, answer } = worked;
     let Some(answer) = answer else {
         drop(ended);
         drop(shared);
         return Err((disk_of(helper), RunError::NoMemory));
     };
+    Ok(Returned {
+        shared,
+        ended,
+        answer,
+        helper,
+    })
+}
+
+/// Closes a heap whose threads have come back, and recovers the device: what is told is what recovery finds there.
+///
+/// Refusals, in this order, each with the device as a stop leaves it; it may be recovered:
+/// - `Unfinished`: a body has ended with a monitor held;
+/// - `Close`: the heap wasn't closed, by `Worn` or by `Fault`;
+/// - `Recover`: the device wasn't recovered: a call of it failed, memory was wanting, or its control is at its last sequence.
+///   Never because of what the closing left: recovery takes that;
+/// - `NoMemory`: there was no room for what is told. The device is recovered.
+pub fn close_returned<D: Disk, W: Work>(
+    alloc: Global,
+    work: &W,
+    returned: Returned<D>,
+) -> Result<(Recovered<D>, Outcome), (D, RunError)>
+    requires { IsBack (W.does work.now) D.device returned }
+    // What a closing after threads tells is what recovery gives of the device that it gave back.
+    ensures ok { IfOk result (λ r. EndsRun (W.does work.now) D.device returned.shared returned.helper r.0 r.1) }
+    // What a closing after threads tells of their bodies is what they have answered.
+    ensures answer { IfOk result (λ r. r.1.answer ≡ returned.answer) }
+    // A closing after threads is refused only for the cause that it names.
+    ensures cause { IfErr result (λ back. StopsEnd (W.does work.now) returned.shared returned.helper.store.known.layout (D.device returned.helper.store.disk) (D.device back.0) back.1) }
+    // Where a closing after threads is refused, recovery accepts whatever a crash left since the heap was opened.
+    ensures crashes { IfErr result (λ back. CrashesBy D.device returned.shared returned.helper (D.device back.0) back.1) }
+{
+    round_law::<D>();
+    let Returned {
+        shared,
+        ended,
+        answer,
+        helper,
+    } = returned;
     match holder(&ended) {
         None => close_all(alloc, work, shared, ended, answer, helper),
         Some(_holder) => {
@@ -179,10 +225,11 @@ fn close_all<D: Disk, W: Work>(
     requires running { helper.store.known.has_failed ≡ false }
     requires ended { All (IsEnded shared helper.store.known.layout.capacity helper.rings) ended.items }
     requires lanes { lanes_ended ended.items ≡ range_with_len 0 helper.store.known.layout.lanes }
-    requires called { WereCalled (W.does work.now) shared answer ended.items }
+    requires called { WereCalled (W.does work.now) shared helper.store.known.layout.capacity answer ended.items }
     requires none { HoldNone ended.items }
     requires complete { IsComplete helper.store.known.layout.lanes ended.items }
     ensures ok { IfOk result (λ r. EndsRun (W.does work.now) D.device shared helper r.0 r.1) }
+    ensures answer { IfOk result (λ r. r.1.answer ≡ answer) }
     ensures cause { IfErr result (λ back. StopsEnd (W.does work.now) shared helper.store.known.layout (D.device helper.store.disk) (D.device back.0) back.1) }
     ensures crashes { IfErr result (λ back. CrashesBy D.device shared helper (D.device back.0) back.1) }
 {

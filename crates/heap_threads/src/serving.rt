@@ -12,6 +12,7 @@ use monitor::Shared;
 use running_heap::{helping_law, life_law};
 use running_life::round_law;
 use std::sync::Wait;
+use std::thread;
 use trim_helper::{Helper, seen_law};
 
 /// The helper, and why it has stopped.
@@ -68,9 +69,13 @@ fn make_rounds<D: Disk, R: Wait>(
     unreachable!()
 }
 
-// Tells of a round, and sleeps where nothing came in it until it is asked for another.
+// Tells of a round. A helper that rests sleeps where nothing came in it until it is asked for another.
 fn hand_on<R: Wait>(rt: &R, bell: &Bell, asked: u32, applied: u64) {
     bell.tell();
+    if !bell.rests() {
+        thread::yield_now();
+        return;
+    }
     if applied == 0 {
         bell.rest(rt, asked);
     }

@@ -20,7 +20,8 @@ pub struct HelperStopped;
 
 /// A thread of a heap: its session, with the words of the heap.
 ///
-/// Its calls answer as those of a [`Session`], and require nothing. Contracts see it as its session; the words are `J.home`.
+/// Its calls answer as those of a [`Session`], and require nothing. Contracts see it as its session; the words are `J.home`. Over each
+/// call it stays a session of these words (`of`), with the same lane, capacity and ring (`ring`).
 #[derive(Drop)]
 pub struct HeapThread<'a, J: Joint> {
     shared: &'a Shared,
@@ -48,7 +49,7 @@ impl<'a, J: Joint> HeapThread<'a, J> {
     ghost use Rattle.std.specs.Prelude.{◌≡◌, IfErr, IfOk};
     ghost use Rattle.session.specs.Calls.{Enters, Exits, Loads, Looks, Notifies, NotifiesAll, ReadsStable, StoresAs, WaitsFor, WaitsToEnter};
     ghost use Rattle.session.specs.Logs.{held_count, sections_ended};
-    ghost use Rattle.session.specs.Sessions.{IsSessionOf, view_of};
+    ghost use Rattle.session.specs.Sessions.{IsSessionOf, SameRing, view_of};
     ghost use Rattle.heap_threads.specs.Threads.{IsDurable, IsFrom, IsStill, IsUnsettled, waited};
 
     // A thread on this session.
@@ -100,7 +101,9 @@ impl<'a, J: Joint> HeapThread<'a, J> {
     /// Takes the monitor, or one lock more of it, and waits while another thread has it ([`Session::enter`]). Where it answers `Behind`,
     /// the helper is woken: after [`durable`](HeapThread::durable) it may be called again.
     pub fn enter<R: Wait>(&mut self, rt: &R, object: ObjectId) -> Result<(), SessionError>
-        ensures { WaitsToEnter J.home self.old self.new object result }
+        ensures told { WaitsToEnter J.home self.old self.new object result }
+        ensures of { IsSessionOf J.home self.new }
+        ensures ring { SameRing self.old self.new }
     {
         let entered = self.session.enter(rt, self.shared, object);
         wake_if_behind(self.bell, &entered);
@@ -109,7 +112,9 @@ impl<'a, J: Joint> HeapThread<'a, J> {
 
     /// Takes the monitor, or one lock more of it ([`Session::try_enter`]). `Behind` wakes the helper.
     pub fn try_enter(&mut self, object: ObjectId) -> Result<(), SessionError>
-        ensures { Enters J.home self.old self.new object result }
+        ensures told { Enters J.home self.old self.new object result }
+        ensures of { IsSessionOf J.home self.new }
+        ensures ring { SameRing self.old self.new }
     {
         let entered = self.session.try_enter(self.shared, object);
         wake_if_behind(self.bell, &entered);
@@ -118,28 +123,36 @@ impl<'a, J: Joint> HeapThread<'a, J> {
 
     /// Gives one lock back, and with the last one the monitor ([`Session::exit`]).
     pub fn exit(&mut self, object: ObjectId) -> Result<(), SessionError>
-        ensures { Exits J.home self.old self.new object result }
+        ensures told { Exits J.home self.old self.new object result }
+        ensures of { IsSessionOf J.home self.new }
+        ensures ring { SameRing self.old self.new }
     {
         self.session.exit(self.shared, object)
     }
 
     /// Loads a field ([`Session::load`]).
     pub fn load(&mut self, field: FieldId) -> Result<u64, SessionError>
-        ensures { Loads J.home self.old self.new field result }
+        ensures told { Loads J.home self.old self.new field result }
+        ensures of { IsSessionOf J.home self.new }
+        ensures ring { SameRing self.old self.new }
     {
         self.session.load(self.shared, field)
     }
 
     /// Stores a field ([`Session::store`]).
     pub fn store(&mut self, field: FieldId, value: u64) -> Result<(), SessionError>
-        ensures { StoresAs J.home self.old self.new field value result }
+        ensures told { StoresAs J.home self.old self.new field value result }
+        ensures of { IsSessionOf J.home self.new }
+        ensures ring { SameRing self.old self.new }
     {
         self.session.store(self.shared, field, value)
     }
 
     /// Frees the monitor, and waits until the thread was notified and has taken it again ([`Session::wait`]). `Behind` wakes the helper.
     pub fn wait<R: Wait>(&mut self, rt: &R, object: ObjectId) -> Result<(), SessionError>
-        ensures { WaitsFor J.home self.old object (waited self.new result) }
+        ensures told { WaitsFor J.home self.old object (waited self.new result) }
+        ensures of { IsSessionOf J.home self.new }
+        ensures ring { SameRing self.old self.new }
     {
         let back = wait_there(rt, self.shared, &mut self.session, object);
         wake_if_behind(self.bell, &back);
@@ -148,30 +161,43 @@ impl<'a, J: Joint> HeapThread<'a, J> {
 
     /// Takes one lane out of the monitor's wait set ([`Session::notify`]).
     pub fn notify(&mut self, object: ObjectId) -> Result<Option<Lane>, SessionError>
-        ensures { Notifies J.home self.old self.new object result }
+        ensures told { Notifies J.home self.old self.new object result }
+        ensures of { IsSessionOf J.home self.new }
+        ensures ring { SameRing self.old self.new }
     {
         self.session.notify(self.shared, object)
     }
 
     /// Takes all lanes out of the monitor's wait set ([`Session::notify_all`]).
     pub fn notify_all(&mut self, object: ObjectId) -> Result<WaitMask, SessionError>
-        ensures { NotifiesAll J.home self.old self.new object result }
+        ensures told { NotifiesAll J.home self.old self.new object result }
+        ensures of { IsSessionOf J.home self.new }
+        ensures ring { SameRing self.old self.new }
     {
         self.session.notify_all(self.shared, object)
     }
 
     /// What the monitor's words say ([`Session::look`]).
     pub fn look(&mut self, object: ObjectId) -> Result<(LockWord, Option<FatWord>), SessionError>
-        ensures { Looks J.home self.old self.new object result }
+        ensures told { Looks J.home self.old self.new object result }
+        ensures of { IsSessionOf J.home self.new }
+        ensures ring { SameRing self.old self.new }
     {
         self.session.look(self.shared, object)
     }
 
     /// How many of its sections are acknowledged ([`Session::stable`]).
     pub fn stable(&mut self) -> u64
-        ensures { ReadsStable self.old self.new result }
+        ensures told { ReadsStable self.old self.new result }
+        ensures of { IsSessionOf J.home self.new }
+        ensures ring { SameRing self.old self.new }
     {
         self.session.stable(self.shared)
+    }
+
+    /// Whether the helper makes no more rounds: what isn't acknowledged yet is acknowledged no more in this run. No proof rests on it.
+    pub fn has_helper_stopped(&self) -> bool {
+        self.bell.has_stopped()
     }
 
     /// Sleeps until all sections that it has ended are acknowledged: no crash takes them back from then on
@@ -184,6 +210,8 @@ impl<'a, J: Joint> HeapThread<'a, J> {
         ensures ok { IfOk result (λ done. IsDurable self.old self.new) }
         // `durable` is refused only where some section that the thread has ended isn't acknowledged.
         ensures stopped { IfErr result (λ e. IsUnsettled self.old self.new) }
+        ensures of { IsSessionOf J.home self.new }
+        ensures ring { SameRing self.old self.new }
     {
         await_stable(rt, self.shared, self.bell, &mut self.session)
     }

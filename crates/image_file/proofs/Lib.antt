@@ -2,5 +2,4 @@ mod FormatLemmas
 pub mod PlaceLemmas
 mod RefusalLemmas
 mod ReportLemmas
-mod ShowingLemmas
 mod NamingLemmas

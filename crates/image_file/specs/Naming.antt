@@ -5,13 +5,11 @@ use Rattle.guards.specs.Schema.{Declarations}
 use Rattle.declarations.specs.declared.schema_fault.SchemaFault.{SchemaFault}
 use Rattle.declarations.specs.declared.schema_fault.SchemaFaultKind.{SchemaFaultKind}
 use Rattle.declarations.specs.declared.schema_fault.SchemaFaultKind.TheVariants as kinds
-use Rattle.image_schema.specs.Drawing.{FitsGiven}
 use Rattle.image_schema.specs.declared.error.DumpError.{DumpError}
 use Rattle.image_schema.specs.declared.error.DumpError.TheVariants as dumps
-use Rattle.inspect.specs.Written.{AppendsPart}
-use Rattle.recover.specs.Study.{IsStudyOf}
 use Rattle.recover.specs.declared.error.RecoverError.TheVariants.{Fault, NoMemory}
-use Rattle.recover.specs.declared.studied.Study.{Study}
+use Rattle.image_file.specs.Showing.{told_of_attaching}
+use Rattle.image_file.specs.declared.error.FileFault.{FileFault}
 use Rattle.image_file.specs.declared.error.ImageFault.TheVariants as images
 use Rattle.image_file.specs.declared.error.NamedFault.{NamedFault}
 use Rattle.image_file.specs.declared.error.NamedFault.TheVariants as named
@@ -20,30 +18,6 @@ use Rattle.image_file.specs.declared.error.NamedFault.TheVariants as named
 abbrev pub IsNamedBy : {P : Type 0} (path : Option P) → Option Declarations → Type 0
 IsNamedBy None given = given ≡ None
 IsNamedBy (Some path) given = (schema : Declarations) × (given ≡ Some schema)
-
--- this text of a study of some image was written, by the names of a schema that is the image's
-pub record TellsNamed {P : Type 0} (text : Option Declarations → Study → List ℕ) (path : Option P) (old new : Option (List ℕ)) : Type 0 where
-  pub given : Option Declarations
-  pub named : IsNamedBy path given
-  pub image : List ℕ
-  pub study : Study
-  pub studied : IsStudyOf image study
-  pub fits : FitsGiven given study
-  pub written : Appends old new (text given study)
-
--- a beginning of it was written
-pub record TellsNamedPart {P : Type 0} (text : Option Declarations → Study → List ℕ) (path : Option P) (old new : Option (List ℕ)) : Type 0 where
-  pub given : Option Declarations
-  pub named : IsNamedBy path given
-  pub image : List ℕ
-  pub study : Study
-  pub studied : IsStudyOf image study
-  pub fits : FitsGiven given study
-  pub written : AppendsPart old new (text given study)
-
--- nothing was written, or a beginning of it
-abbrev pub TellsLessNamed : {P : Type 0} (text : Option Declarations → Study → List ℕ) (path : Option P) (old new : Option (List ℕ)) → Type 0
-TellsLessNamed text path old new = Appends old new [] ⊎ TellsNamedPart text path old new
 
 -- how a refusal to tell by these names is told
 abbrev pub told_of_naming : DumpError → NamedFault
@@ -59,3 +33,21 @@ named_by_kind _ fault = named.Schema fault
 
 abbrev pub told_of_names : SchemaFault → NamedFault
 told_of_names fault = named_by_kind fault.why fault
+
+-- why the schema file gives no names: it can't be read, there was no memory, or it is refused
+abbrev pub IsOfSchemaFile : NamedFault → Type 0
+IsOfSchemaFile (named.Image (images.Image why)) = (why ≡ Fault) ⊎ (why ≡ NoMemory)
+IsOfSchemaFile (named.Image images.InUse) = ⊥
+IsOfSchemaFile (named.Schema fault) = Unit {0}
+IsOfSchemaFile named.OtherSchema = ⊥
+
+-- it gives none, and nothing was written
+pub record IsNotNamed (old new : Option (List ℕ)) (fault : NamedFault) : Type 0 where
+  pub why : IsOfSchemaFile fault
+  pub silent : Appends old new []
+
+-- the image was not had, and nothing was written
+pub record IsNotHadToName (old new : Option (List ℕ)) (fault : NamedFault) : Type 0 where
+  pub why : FileFault
+  pub told : fault ≡ named.Image (told_of_attaching why)
+  pub silent : Appends old new []

@@ -1,6 +1,7 @@
--- What showing an image writes, and drawing it (docs/SCRIPTS.md, "The inspector's lines").
-use Rattle.std.specs.Prelude.{ℕ, ◌≡◌, ◌⊎◌, Option, List, []}
+-- What showing an image writes (docs/SCRIPTS.md, "The inspector's lines").
+use Rattle.std.specs.Prelude.{ℕ, ◌≡◌, ◌⊎◌, Option, List, [], Result, Ok, Err}
 use Rattle.std.specs.Io.KnownBytes.{Appends, Consumes, IsAtEnd}
+use Rattle.image_file.specs.Images.{BeginsThere}
 use Rattle.image_file.specs.declared.error.FileFault.{FileFault}
 use Rattle.image_file.specs.declared.error.FileFault.TheVariants as files
 use Rattle.image_file.specs.declared.error.ImageFault.{ImageFault}
@@ -17,11 +18,7 @@ pub record ReadsImage (old new : Option (List ℕ)) (image : List ℕ) : Type 0 
   pub taken : Consumes old new image
   pub whole : IsAtEnd new
 
--- why an image can't be had: the reader failed, or there was no memory
-abbrev pub IsUnread : RecoverError → Type 0
-IsUnread why = (why ≡ Fault) ⊎ (why ≡ NoMemory)
-
--- how it is told that an image file isn't had
+-- how it is told that an image isn't had
 abbrev pub told_of_attaching : FileFault → ImageFault
 told_of_attaching files.Fault = images.Image Fault
 told_of_attaching files.NoMemory = images.Image NoMemory
@@ -33,25 +30,27 @@ abbrev pub told_of_inspection : InspectError → RecoverError
 told_of_inspection (inspections.Study why) = why
 told_of_inspection inspections.Write = Fault
 
--- the image was read, and its text written
-pub record Shows (text : Study → List ℕ) (read_old read_new old new : Option (List ℕ)) : Type 0 where
+-- this text of a study of the image that is there was written
+pub record Shows (text : Study → List ℕ) (had old new : Option (List ℕ)) : Type 0 where
   pub image : List ℕ
-  pub read : ReadsImage read_old read_new image
+  pub begins : BeginsThere image had
   pub shown : Inspects text image old new
 
 -- the image was not had, and nothing was written
-pub record IsNotRead (old new : Option (List ℕ)) (why : RecoverError) : Type 0 where
-  pub why_is : IsUnread why
+pub record IsNotHad (old new : Option (List ℕ)) (fault : ImageFault) : Type 0 where
+  pub why : FileFault
+  pub told : fault ≡ told_of_attaching why
   pub silent : Appends old new []
 
--- the image was read, and it is refused, or the writer failed
-pub record IsNotShown (text : Study → List ℕ) (read_old read_new old new : Option (List ℕ)) (why : RecoverError) : Type 0 where
+-- the image that is there is refused, or the writer failed
+pub record IsNotShown (text : Study → List ℕ) (had old new : Option (List ℕ)) (fault : ImageFault) : Type 0 where
   pub image : List ℕ
-  pub read : ReadsImage read_old read_new image
+  pub begins : BeginsThere image had
   pub reason : InspectError
-  pub told : why ≡ told_of_inspection reason
+  pub told : fault ≡ images.Image (told_of_inspection reason)
   pub refused : Refuses text image old new reason
 
--- what a refusal says of what was read, and of what was written
-abbrev pub RefusesToShow : (text : Study → List ℕ) → (read_old read_new old new : Option (List ℕ)) → RecoverError → Type 0
-RefusesToShow text read_old read_new old new why = IsNotRead old new why ⊎ IsNotShown text read_old read_new old new why
+-- how it ends, by the image that was there before and is now, and by what was written before and is now
+abbrev pub ShowsBy : (text : Study → List ℕ) → Result (Unit {0}) ImageFault → (had has old new : Option (List ℕ)) → Type 0
+ShowsBy text (Ok done) had has old new = Shows text had old new × (has ≡ had)
+ShowsBy text (Err fault) had has old new = (IsNotHad old new fault ⊎ IsNotShown text had old new fault) × (has ≡ had)

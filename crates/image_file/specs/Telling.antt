@@ -1,7 +1,7 @@
--- What is told of an image: the report on its recovery, what it holds, or a picture (docs/SCRIPTS.md).
+-- What is told of an image: the report on its recovery (docs/SCRIPTS.md).
 use Rattle.std.specs.Prelude.{ℕ, ◌⊎◌, Option, List, []}
 use Rattle.std.specs.Io.KnownBytes.{Appends}
-use Rattle.inspect.specs.Inspection.{Inspects, InspectsPart}
+use Rattle.inspect.specs.Inspection.{InspectsPart}
 use Rattle.inspect.specs.ReportText.{report_text}
 use Rattle.recover.specs.Recovery.{IsTooOld}
 use Rattle.recover.specs.declared.error.RecoverError.TheVariants.{OldVersion}
@@ -13,14 +13,6 @@ use Rattle.image_file.specs.declared.error.ImageFault.TheVariants as images
 -- the report on an image, by the study of it
 abbrev pub report_of : Study → List ℕ
 report_of s = report_text s.report s.heap.items s.layout.lanes
-
--- this text of a study of some image was written
-abbrev pub Tells : (text : Study → List ℕ) → (old new : Option (List ℕ)) → Type 0
-Tells text old new = (image : List ℕ) × Inspects text image old new
-
--- nothing was written, or a beginning of it
-abbrev pub TellsLess : (text : Study → List ℕ) → (old new : Option (List ℕ)) → Type 0
-TellsLess text old new = Appends old new [] ⊎ ((image : List ℕ) × InspectsPart text image old new)
 
 -- nothing was written, or a beginning of the report on some image, which is of one of these versions
 abbrev pub TellsLessOfVersions : (versions : Versions) → (old new : Option (List ℕ)) → Type 0

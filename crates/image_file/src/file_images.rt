@@ -4,6 +4,7 @@ ghost use Rattle.std.specs.Prelude.{None};
 use crate::claiming::{Content, claim, claim_at, claim_image, content_of, no_file};
 use crate::error::FileFault;
 use crate::images::Images;
+use crate::reading::read_there;
 use crate::trouble::{Place, Trouble};
 use crate::watched::Watched;
 use block_disk::Disk;
@@ -12,7 +13,7 @@ use sector_disk::SectorSize;
 use sector_file::{ImageDisk, label_of};
 use std::alloc::Global;
 use std::fs::{OpenFile, OpenOptions};
-use std::io::ErrorKind;
+use std::io::{ErrorKind, Read};
 use std::path::Path;
 use std::rt::Files;
 use std::{fs, io};
@@ -71,7 +72,7 @@ where
 
 impl<'a, F, R> Images for FileImages<'a, F, R>
 where
-    F: BackingFile + OpenFile + Drop,
+    F: BackingFile + OpenFile + Read + Drop,
     R: Files<File = F>,
 {
     type Medium = ImageDisk<Watched<'a, F>>;
@@ -97,6 +98,10 @@ where
             Ok(disk) => whole(alloc, disk),
             Err(fault) => Err(fault),
         }
+    }
+
+    fn look(&mut self, alloc: Global, path: &str) -> Result<Vec<u8>, FileFault> {
+        read_there(self.rt, alloc, path, self.trouble)
     }
 
     fn open(&mut self, alloc: Global, path: &str) -> Result<ImageDisk<Watched<'a, F>>, FileFault> {

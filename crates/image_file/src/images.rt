@@ -1,12 +1,13 @@
 //! The images that words name by paths.
 ghost use Rattle.std.specs.Prelude.{◌≡◌, ◌⊎◌, ◌↔◌, ℕ, List, [], Option, replicate, IfOk, IfSome, IsTrue, OnErr, OnOk};
-ghost use Rattle.block_disk.specs.Device.{new_device};
+ghost use Rattle.block_disk.specs.Device.{Device, new_device};
 ghost use Rattle.sector_disk.specs.declared.size.SectorSize.{SectorSize as Size};
 ghost use Rattle.sector_file.specs.ImageDisks.{room_for};
-ghost use Rattle.image_file.specs.Images.{IsLeft, IsThere};
+ghost use Rattle.image_file.specs.Images.{BeginsThere, IsLeft, IsThere};
 
 use crate::error::FileFault;
 use block_disk::Disk;
+use file_disk::VolatileDisk;
 use sector_disk::SectorSize;
 use std::alloc::Global;
 
@@ -39,6 +40,15 @@ pub trait Images {
     /// The bytes of the image at the path.
     fn read(&mut self, alloc: Global, path: &str) -> Result<Vec<u8>, FileFault>
         ensures ok { IfOk result (λ image. IsThere image.items (holds self.old path.now)) }
+        ensures same { holds self.new path.now ≡ holds self.old path.now };
+
+    /// What the image at the path begins with, as far as its header says that it goes. Nothing can be written to it, and others may read it
+    /// meanwhile.
+    ///
+    /// `NotImage`: what is there isn't one; `InUse`: another process has it.
+    fn look(&mut self, alloc: Global, path: &str) -> Result<Vec<u8>, FileFault>
+        // What is looked at is what the image at the path begins with.
+        ensures ok { IfOk result (λ image. BeginsThere image.items (holds self.old path.now)) }
         ensures same { holds self.new path.now ≡ holds self.old path.now };
 
     /// The disk of the image at the path, which nobody else has until it is dropped.
@@ -93,4 +103,20 @@ pub trait Images {
     fn give_up(&mut self, path: &str)
         // Giving a disk up leaves the image at the path.
         ensures { holds self.new path.now ≡ holds self.old path.now };
+}
+
+/// A disk in memory that holds what the image at the path begins with, so that no call reaches the image.
+pub(crate) fn look_at<D: Disk + Drop, P: Images<Medium = D>>(
+    images: &mut P,
+    alloc: Global,
+    path: &str,
+) -> Result<VolatileDisk, FileFault>
+    ensures ok { IfOk result
+        (λ (disk : Device). BeginsThere disk.now.bytes (P.holds images.old path.now)) }
+    ensures same { P.holds images.new path.now ≡ P.holds images.old path.now }
+{
+    match images.look(alloc, path) {
+        Ok(image) => Ok(VolatileDisk::holding(image)),
+        Err(fault) => Err(fault),
+    }
 }

@@ -1,6 +1,6 @@
 //! The names that a schema file gives.
-ghost use Rattle.std.specs.Prelude.{IfOk};
-ghost use Rattle.image_file.specs.Naming.{IsNamedBy};
+ghost use Rattle.std.specs.Prelude.{IfErr, IfOk};
+ghost use Rattle.image_file.specs.Naming.{IsNamedBy, IsOfSchemaFile};
 
 use crate::error::{ImageFault, NamedFault};
 use crate::trouble::{Place, Trouble};
@@ -23,7 +23,9 @@ pub fn schema_at<F: Read + Drop, R: Files<File = F>>(
     trouble: &Trouble,
     path: Option<&str>,
 ) -> Result<Option<Schema>, NamedFault>
-    ensures { IfOk result (IsNamedBy path.entry) }
+    // Names are given exactly where a file of them is named.
+    ensures ok { IfOk result (IsNamedBy path.entry) }
+    ensures refused { IfErr result IsOfSchemaFile }
 {
     let Some(path) = path else {
         return Ok(None);

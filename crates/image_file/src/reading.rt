@@ -1,16 +1,13 @@
-//! Reading an image, and opening its file for that.
-ghost use Rattle.std.specs.Prelude.{IfErr, IfOk};
-ghost use Rattle.block_disk.specs.Device.{Device};
-ghost use Rattle.image_file.specs.Showing.{IsUnread, ReadsImage};
+//! Reading the image in a file.
+ghost use Rattle.std.specs.Prelude.{IfOk};
+ghost use Rattle.image_file.specs.Showing.{ReadsImage};
 
 use crate::claiming::{HEADER_BYTES, begins_as_image};
 use crate::error::FileFault;
-use crate::refusal::refusal_of_reading;
 use crate::trouble::{Place, Trouble};
 use crate::watched::Watched;
-use file_disk::{BackingFile, Claim, VolatileDisk};
+use file_disk::{BackingFile, Claim};
 use heap_model::{LANES, MOST_CAPACITY, MOST_FIELDS};
-use recover::RecoverError;
 use sector_disk::Label;
 use sector_file::ImageBytes;
 use std::alloc::Global;
@@ -21,14 +18,33 @@ use std::rt::Files;
 // How many bytes the image of the most and longest lanes and of the most fields has.
 const MOST_BYTES: u64 = 2160 + 24 * MOST_FIELDS as u64 + 16 * LANES as u64 * MOST_CAPACITY as u64;
 
-/// An image file that is to be read: its header, which was read first, and what is behind it.
-pub(crate) type ImageReader<'a, F> = Chain<Cursor<Vec<u8>>, Take<ImageBytes<Watched<'a, F>>>>;
+// An image file that is to be read: its header, which was read first, and what is behind it.
+type ImageReader<'a, F> = Chain<Cursor<Vec<u8>>, Take<ImageBytes<Watched<'a, F>>>>;
 
-/// Opens the image file at this path to be read, as far as its header says that the image goes, and shares it with others that only
-/// read it. Beside it stands for how many bytes room is made: as many as the file has, up to the image's end.
+/// Reads the image file at this path, as far as its header says that the image goes, and shares it with others that only read it.
 ///
 /// `InUse`: another open has claimed it alone. `NotImage`: it doesn't begin as an image; no more than its header was read.
-pub(crate) fn open_to_read<'a, F, R>(
+pub(crate) fn read_there<F, R>(
+    rt: &R,
+    alloc: Global,
+    path: &str,
+    trouble: &Trouble,
+) -> Result<Vec<u8>, FileFault>
+where
+    F: BackingFile + Read + Drop,
+    R: Files<File = F>,
+{
+    let (mut reader, room) = match open_to_read(rt, alloc, path, trouble) {
+        Ok(opened) => opened,
+        Err(fault) => return Err(fault),
+    };
+    let image = read_image(alloc, &mut reader, room);
+    drop(reader);
+    image
+}
+
+// Opens the image file to be read. Beside it stands for how many bytes room is made: as many as the file has, up to the image's end.
+fn open_to_read<'a, F, R>(
     rt: &R,
     alloc: Global,
     path: &str,
@@ -172,26 +188,21 @@ fn size_in(head: &[u8]) -> u64 {
     }
 }
 
-/// Reads an image to its end, and gives a disk in memory that holds it, so that no call reaches what was read. The image is in memory
-/// once, where it has no more bytes than room was made for.
-///
-/// `Fault` says that the reader failed, `NoMemory` that there was no memory.
-pub(crate) fn read_image<S: Read>(
-    alloc: Global,
-    reader: &mut S,
-    room: usize,
-) -> Result<VolatileDisk, RecoverError>
-    ensures ok { IfOk result
-        (λ (disk : Device). ReadsImage (S.remaining reader.old) (S.remaining reader.new)
-        disk.now.bytes) }
-    ensures unread { IfErr result IsUnread }
+// Reads an image to its end. It is in memory once, where it has no more bytes than room was made for.
+fn read_image<S: Read>(alloc: Global, reader: &mut S, room: usize) -> Result<Vec<u8>, FileFault>
+    // An image is read to its end.
+    ensures { IfOk result
+        (λ image. ReadsImage (S.remaining reader.old) (S.remaining reader.new) image.items) }
 {
     // One byte more, so that the end is found without more room.
     let Ok(mut image) = Vec::with_capacity(alloc, room.saturating_add(1)) else {
-        return Err(RecoverError::NoMemory);
+        return Err(FileFault::NoMemory);
     };
     match reader.read_to_end(&mut image) {
-        Ok(_) => Ok(VolatileDisk::holding(image)),
-        Err(error) => Err(refusal_of_reading(&error)),
+        Ok(_) => Ok(image),
+        Err(error) => {
+            drop(image);
+            Err(fault_of_reading(&error))
+        }
     }
 }

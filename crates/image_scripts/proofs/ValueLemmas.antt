@@ -1,9 +1,10 @@
 -- Lines of fields, and assignments, one name after the other.
 use Rattle.std.proofs.Common.{ℕ, ◌≡◌, ◌+◌, ◌<◌, ◌⊎◌, Option, List, [], ◌∷◌, drop, length, get_or, refl, sym, subst, inl, inr, ◌∙◌}
 use Rattle.std.proofs.lemmas.List.{drop_more}
+use Rattle.std.proofs.lemmas.Option.{slice_get-get_or}
 use Rattle.std.specs.Borrow.{Bor}
 use Rattle.guards.specs.Schema.{Declarations}
-use Rattle.image_scripts.specs.Assigning.{HasAssignments, HasHeap, IsAssigned, IsPlanned, IsPlayedPlan, IsSetOver, Misses, OneMisses, RefusesPlayed, RefusesTexts, RefusesToSet, told_of_miss}
+use Rattle.image_scripts.specs.Assigning.{HasAssignments, HasHeap, IsAssigned, IsPlanned, IsPlayedPlan, IsSetOver, Misses, MissesAt, RefusesPlayed, RefusesTexts, RefusesToSet, told_of_miss}
 use Rattle.image_scripts.specs.Values.{HasLine, HasLines, HasNoField, IsNoField, RefusesStudied, RefusesValues}
 use Rattle.image_file.specs.Images.{IsThere}
 use Rattle.recover.specs.Study.{IsStudyOf}
@@ -14,36 +15,29 @@ use Rattle.image_scripts.specs.declared.error.SetFault.{SetFault}
 use Rattle.image_scripts.specs.declared.error.ValueFault.{ValueFault}
 use Rattle.image_scripts.specs.declared.error.ValueFault.TheVariants as values
 
-module _ (schema : Declarations) (heap : List ℕ) (names : List (Bor (List ℕ))) (place : ℕ) (d : Bor (List ℕ)) (within : place < length names) where
-  -- one more line
-  pub lines_more : (text more new : List ℕ) → HasLine schema heap (get_or names place d).now text more → HasLines schema heap (drop (place + 1) names) more new
-      → HasLines schema heap (drop place names) text new
-  lines_more text more new line rest = subst (λ (l : List (Bor (List ℕ))). HasLines schema heap l text new) (sym (drop_more names place d within)) (more, line, rest)
+-- one more line
+pub lines_more : (schema : Declarations) (heap : List ℕ) (names : List (Bor (List ℕ))) (place : ℕ) (d : Bor (List ℕ)) → place < length names → (text more new : List ℕ)
+    → HasLine schema heap (get_or names place d).now text more → HasLines schema heap (drop (place + 1) names) more new → HasLines schema heap (drop place names) text new
+lines_more schema heap names place d within text more new line rest = subst (λ (l : List (Bor (List ℕ))). HasLines schema heap l text new) (sym (drop_more names place d within)) (more, line, rest)
 
-  -- a name of no field, here or behind
-  pub none_here : IsNoField schema heap (get_or names place d).now → HasNoField schema heap (drop place names)
-  none_here none = subst (HasNoField schema heap) (sym (drop_more names place d within)) (inl none)
+-- a name of no field
+pub none_here : (schema : Declarations) (heap : List ℕ) (names : List (Bor (List ℕ))) (place : ℕ) (d : Bor (List ℕ)) → place < length names
+    → IsNoField schema heap (get_or names place d).now → HasNoField schema heap names place
+none_here schema heap names place d within none = record { name = get_or names place d; there = slice_get-get_or names place d within; none = none }
 
-  pub none_behind : HasNoField schema heap (drop (place + 1) names) → HasNoField schema heap (drop place names)
-  none_behind none = subst (HasNoField schema heap) (sym (drop_more names place d within)) (inr none)
-
-  -- one more assignment, and a word that misses behind it
-  pub assigned_next : (lines ends values l e h : List ℕ) → IsAssigned schema (get_or names place d).now lines ends values l e h
-      → ((lines_new ends_new values_new : List ℕ) → HasAssignments schema (drop (place + 1) names) l e h lines_new ends_new values_new
-      → HasAssignments schema (drop place names) lines ends values lines_new ends_new values_new)
-      × ((why : Miss) → OneMisses schema (drop (place + 1) names) why → OneMisses schema (drop place names) why)
-  assigned_next lines ends values l e h assigned = (
-    (λ lines_new ends_new values_new rest.
-        subst (λ (t : List (Bor (List ℕ))). HasAssignments schema t lines ends values lines_new ends_new values_new) (sym (drop_more names place d within)) (l, e, h, assigned, rest)),
-    (λ why misses. subst (λ (t : List (Bor (List ℕ))). OneMisses schema t why) (sym (drop_more names place d within)) (inr misses)),
-  )
+module _ (schema : Declarations) (texts : List (Bor (List ℕ))) (place : ℕ) (d : Bor (List ℕ)) (within : place < length texts) where
+  -- one more assignment
+  pub assigned_next : (lines ends values l e h : List ℕ) → IsAssigned schema (get_or texts place d).now lines ends values l e h → (lines_new ends_new values_new : List ℕ)
+      → HasAssignments schema (drop (place + 1) texts) l e h lines_new ends_new values_new → HasAssignments schema (drop place texts) lines ends values lines_new ends_new values_new
+  assigned_next lines ends values l e h assigned lines_new ends_new values_new rest =
+      subst (λ (t : List (Bor (List ℕ))). HasAssignments schema t lines ends values lines_new ends_new values_new) (sym (drop_more texts place d within)) (l, e, h, assigned, rest)
 
   -- a word that misses
-  pub misses_here : (why : Miss) → Misses schema (get_or names place d).now why → OneMisses schema (drop place names) why
-  misses_here why misses = subst (λ (t : List (Bor (List ℕ))). OneMisses schema t why) (sym (drop_more names place d within)) (inl misses)
+  pub misses_here : (why : Miss) → Misses schema (get_or texts place d).now why → MissesAt schema texts place why
+  misses_here why misses = record { text = get_or texts place d; there = slice_get-get_or texts place d within; misses = misses }
 
--- how it is told that one of the words misses
-pub told_refuses : (schema : Declarations) (texts : List (Bor (List ℕ))) (why : Miss) (place : ℕ) → OneMisses schema texts why → RefusesTexts schema texts (told_of_miss why place)
+-- how it is told
+pub told_refuses : (schema : Declarations) (texts : List (Bor (List ℕ))) (why : Miss) (place : ℕ) → MissesAt schema texts place why → RefusesTexts schema texts (told_of_miss why place)
 told_refuses schema texts miss.Word place misses = misses
 told_refuses schema texts miss.Unknown place misses = misses
 told_refuses schema texts miss.Transient place misses = misses

@@ -144,10 +144,11 @@ Misses schema text miss.Transient =
     (name : List ℕ) × (value : ℕ) × IsAssignment text name value × (field : ℕ) × (slice_get (names_of schema.fields) field ≡ Some name) × (is_transient_of schema field ≡ true)
 Misses schema text miss.NoMemory = Unit {0}
 
--- one of these words does so
-abbrev pub OneMisses : (schema : Declarations) → List (Bor (List ℕ)) → Miss → Type 0
-OneMisses schema [] why = ⊥
-OneMisses schema (text ∷ texts) why = Misses schema text.now why ⊎ OneMisses schema texts why
+-- the word at this place does so
+pub record MissesAt (schema : Declarations) (texts : List (Bor (List ℕ))) (place : ℕ) (why : Miss) : Type 0 where
+  pub text : Bor (List ℕ)
+  pub there : slice_get texts place ≡ Some text
+  pub misses : Misses schema text.now why
 
 -- how it is told of the word at this place
 abbrev pub told_of_miss : Miss → (place : ℕ) → SetFault
@@ -162,9 +163,9 @@ IsNoMemory fault = fault ≡ runs.Named (named.Image (images.Image NoMemory))
 
 -- no lines are made of these words
 abbrev pub RefusesTexts : (schema : Declarations) → List (Bor (List ℕ)) → SetFault → Type 0
-RefusesTexts schema texts (sets.Word place) = OneMisses schema texts miss.Word
-RefusesTexts schema texts (sets.Unknown place) = OneMisses schema texts miss.Unknown
-RefusesTexts schema texts (sets.Transient place) = OneMisses schema texts miss.Transient
+RefusesTexts schema texts (sets.Word place) = MissesAt schema texts place miss.Word
+RefusesTexts schema texts (sets.Unknown place) = MissesAt schema texts place miss.Unknown
+RefusesTexts schema texts (sets.Transient place) = MissesAt schema texts place miss.Transient
 RefusesTexts schema texts sets.OtherHeap = ⊥
 RefusesTexts schema texts (sets.Run fault) = IsNoMemory fault
 

@@ -1,5 +1,5 @@
 -- What is told of an image's fields by their names (docs/SCRIPTS.md, "The program's words").
-use Rattle.std.specs.Prelude.{ℕ, ◌≡◌, ◌≢◌, ◌⊎◌, Option, None, Some, List, [], ◌∷◌, ◌++◌, Result, Ok, Err, codes, slice_get}
+use Rattle.std.specs.Prelude.{ℕ, ◌≡◌, ◌≢◌, Option, None, Some, List, [], ◌∷◌, ◌++◌, Result, Ok, Err, codes, slice_get}
 use Rattle.std.specs.Borrow.{Bor}
 use Rattle.std.specs.Fmt.{decimal}
 use Rattle.std.specs.Io.KnownBytes.{Appends}
@@ -37,10 +37,11 @@ HasLines schema heap (name ∷ names) old new = (middle : List ℕ) × HasLine s
 abbrev pub IsNoField : (schema : Declarations) (heap name : List ℕ) → Type 0
 IsNoField schema heap name = (field value : ℕ) → slice_get (names_of schema.fields) field ≡ Some name → slice_get heap field ≡ Some value → ⊥
 
--- one of these names is that of no field
-abbrev pub HasNoField : (schema : Declarations) (heap : List ℕ) → List (Bor (List ℕ)) → Type 0
-HasNoField schema heap [] = ⊥
-HasNoField schema heap (name ∷ names) = IsNoField schema heap name.now ⊎ HasNoField schema heap names
+-- the name at this place is that of no field
+pub record HasNoField (schema : Declarations) (heap : List ℕ) (names : List (Bor (List ℕ))) (place : ℕ) : Type 0 where
+  pub name : Bor (List ℕ)
+  pub there : slice_get names place ≡ Some name
+  pub none : IsNoField schema heap name.now
 
 -- the lines of the fields of an image that was studied, by the names of its schema
 pub record IsToldOfStudy (given : Option Declarations) (names : List (Bor (List ℕ))) (s : Study) (text : List ℕ) : Type 0 where
@@ -79,7 +80,7 @@ pub record TellsLessAt {P : Type 0} (path : Option P) (names : List (Bor (List �
 
 -- what the refusals say of the image that was studied, and of the names
 abbrev pub RefusesNames : (schema : Declarations) (heap : List ℕ) (names : List (Bor (List ℕ))) → ValueFault → Type 0
-RefusesNames schema heap names (values.Unknown place) = HasNoField schema heap names
+RefusesNames schema heap names (values.Unknown place) = HasNoField schema heap names place
 RefusesNames schema heap names (values.Named fault) = Unit {0}
 RefusesNames schema heap names values.Write = ⊥
 
@@ -87,36 +88,36 @@ abbrev pub RefusesStudied : (given : Option Declarations) (names : List (Bor (Li
 RefusesStudied given names s fault = RefusesNames (named_as given s) s.heap.items names fault
 
 -- of the image
-pub record RefusesOfStudy (given : Option Declarations) (names : List (Bor (List ℕ))) (image : List ℕ) : Type 0 where
+pub record RefusesOfStudy (given : Option Declarations) (names : List (Bor (List ℕ))) (image : List ℕ) (place : ℕ) : Type 0 where
   pub study : Study
   pub studied : IsStudyOf image study
-  pub none : HasNoField (named_as given study) study.heap.items names
+  pub none : HasNoField (named_as given study) study.heap.items names place
 
 abbrev pub RefusesValues : (given : Option Declarations) (names : List (Bor (List ℕ))) (image : List ℕ) → ValueFault → Type 0
-RefusesValues given names image (values.Unknown place) = RefusesOfStudy given names image
+RefusesValues given names image (values.Unknown place) = RefusesOfStudy given names image place
 RefusesValues given names image (values.Named fault) = Unit {0}
 RefusesValues given names image values.Write = ⊥
 
 -- of the one that is there
-pub record HasNoFieldThere (given : Option Declarations) (names : List (Bor (List ℕ))) (had : Option (List ℕ)) : Type 0 where
+pub record HasNoFieldThere (given : Option Declarations) (names : List (Bor (List ℕ))) (had : Option (List ℕ)) (place : ℕ) : Type 0 where
   pub image : List ℕ
   pub was : IsThere image had
-  pub refused : RefusesOfStudy given names image
+  pub refused : RefusesOfStudy given names image place
 
 abbrev pub RefusesHeldValues : (given : Option Declarations) (names : List (Bor (List ℕ))) (had : Option (List ℕ)) → ValueFault → Type 0
-RefusesHeldValues given names had (values.Unknown place) = HasNoFieldThere given names had
+RefusesHeldValues given names had (values.Unknown place) = HasNoFieldThere given names had place
 RefusesHeldValues given names had (values.Named fault) = Unit {0}
 RefusesHeldValues given names had values.Write = ⊥
 
 -- a name is refused where no field has it, by the names of the schema file, where one is named
-pub record HasNoFieldAt {P : Type 0} (path : Option P) (names : List (Bor (List ℕ))) (had : Option (List ℕ)) : Type 0 where
+pub record HasNoFieldAt {P : Type 0} (path : Option P) (names : List (Bor (List ℕ))) (had : Option (List ℕ)) (place : ℕ) : Type 0 where
   pub given : Option Declarations
   pub is_named : IsNamedBy path given
-  pub none : HasNoFieldThere given names had
+  pub none : HasNoFieldThere given names had place
 
 -- how it ends, by the image that was there before and is now, and by what was written before and is now
 abbrev pub GetsBy : {P : Type 0} (path : Option P) (names : List (Bor (List ℕ))) → Result (Unit {0}) ValueFault → (had has old new : Option (List ℕ)) → Type 0
 GetsBy path names (Ok done) had has old new = GetsAt path names had old new × (has ≡ had)
 GetsBy path names (Err values.Write) had has old new = TellsLessAt path names had old new × (has ≡ had)
-GetsBy path names (Err (values.Unknown place)) had has old new = HasNoFieldAt path names had × (has ≡ had) × Appends old new []
+GetsBy path names (Err (values.Unknown place)) had has old new = HasNoFieldAt path names had place × (has ≡ had) × Appends old new []
 GetsBy path names (Err (values.Named fault)) had has old new = (has ≡ had) × Appends old new []

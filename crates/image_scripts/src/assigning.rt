@@ -360,12 +360,10 @@ fn assign_all(
         (string_bytes lines.new) (string_bytes ends.new) heap.new.items) }
     ensures refused { IfErr result (RefusesTexts schema.now texts.now) }
 {
-    let mut place = 0usize;
-    for text in texts {
+    for (place, text) in texts.iter().enumerate() {
         if let Err(why) = assign(schema, *text, lines, ends, heap) {
             return Err(missed(why, place));
         }
-        place = place.saturating_add(1);
     }
     Ok(())
 }

@@ -159,14 +159,12 @@ fn put_values(
     ensures ok { OnOk result (HasLines schema.now heap.now names.now (string_bytes text.old) (string_bytes text.new)) }
     ensures refused { IfErr result (RefusesNames schema.now heap.now names.now) }
 {
-    let mut place = 0usize;
-    for name in names {
+    for (place, name) in names.iter().enumerate() {
         match put_value(text, schema, heap, *name) {
             Ok(true) => {}
             Ok(false) => return Err(ValueFault::Unknown(place)),
             Err(AllocError) => return Err(refused(RecoverError::NoMemory)),
         }
-        place = place.saturating_add(1);
     }
     Ok(())
 }

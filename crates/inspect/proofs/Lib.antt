@@ -4,3 +4,4 @@ pub mod LaneLemmas
 pub mod ReleaseLemmas
 pub mod RefusalLemmas
 pub mod OneLemmas
+pub mod ReasonLemmas

@@ -1,8 +1,8 @@
 -- A graph of sections, in Graphviz's DOT language (this project's own). Lanes are columns, since nodes of one rank are drawn in one.
 -- `firsts` has the number of each lane's first section that is drawn.
-use Rattle.std.specs.Prelude.{ℕ, ◌-◌, ◌&&◌, if◌then◌else◌, nat_le, Bool, true, false, List, [], ◌∷◌, ◌++◌, codes, Option, None, Some, option_and_then, slice_get}
+use Rattle.std.specs.Prelude.{ℕ, ◌-◌, ◌==◌, ◌&&◌, if◌then◌else◌, nat_le, Bool, true, false, List, [], ◌∷◌, ◌++◌, codes, Option, None, Some, option_and_then, slice_get}
 use Rattle.std.specs.Fmt.{decimal}
-use Rattle.std.specs.List.{concat, flat_map}
+use Rattle.std.specs.List.{concat}
 use Rattle.guards.specs.Schema.{Declarations}
 use Rattle.recover.specs.declared.report.Dropped.{Dropped}
 use Rattle.recover.specs.declared.report.Why.{Why}
@@ -10,6 +10,7 @@ use Rattle.recover.specs.declared.report.Why.TheVariants.{Unfinished, After, Uns
 use Rattle.inspect.specs.declared.numbering.Numbering.{Numbering}
 use Rattle.inspect.specs.declared.section.Link.{Link}
 use Rattle.inspect.specs.declared.section.Section.{Section}
+use Rattle.inspect.specs.declared.section.SectionId.{SectionId}
 use Rattle.inspect.specs.Drawn.{first_drawn, is_drawn}
 use Rattle.inspect.specs.Pieces.{line, thread_of}
 
@@ -18,16 +19,38 @@ abbrev pub state_text : Bool → List ℕ
 state_text true = codes "whole"
 state_text false = codes "unfinished"
 
--- an acknowledged section is drawn filled
-abbrev pub style_text : (kept : Bool) → List ℕ
-style_text true = codes ", style=filled"
-style_text false = []
+-- this is about that section
+abbrev pub is_about : Dropped → SectionId → Bool
+is_about d id = d.lane.0 == id.lane.0 && d.section == id.number
 
--- a section's node, by its thread and number
-abbrev pub node_line : Numbering → Section → List ℕ
-node_line n s = line (codes "\"t" ∷ decimal (thread_of s.id.lane) ∷ codes "." ∷ decimal s.id.number
+-- why a section is dropped, if it is
+abbrev pub reason_in : List Dropped → SectionId → Option Why
+reason_in [] id = None
+reason_in (d ∷ rest) id = if is_about d id then Some d.why else reason_in rest id
+
+-- a section's node begins with its thread and number, whether it has ended, and its records
+abbrev pub node_front : Section → List ℕ
+node_front s = concat (codes "\"t" ∷ decimal (thread_of s.id.lane) ∷ codes "." ∷ decimal s.id.number
     ∷ codes "\" [label=\"t" ∷ decimal (thread_of s.id.lane) ∷ codes " " ∷ decimal s.id.number ∷ codes "\\n"
-    ∷ state_text s.is_whole ∷ codes ", " ∷ decimal s.records ∷ codes " records\"" ∷ style_text (nat_le s.id.number n.kept) ∷ codes "]" ∷ [])
+    ∷ state_text s.is_whole ∷ codes ", " ∷ decimal s.records ∷ codes " records" ∷ [])
+
+-- an acknowledged section is drawn filled
+abbrev pub plain_end : (kept : Bool) → List ℕ
+plain_end true = codes "\", style=filled]"
+plain_end false = codes "\"]"
+
+-- one that is dropped has a colour, and says why; of one that has not ended its first words do
+abbrev pub reason_end : Why → List (List ℕ)
+reason_end Unfinished = codes "\", style=filled, fillcolor=lightpink]" ∷ []
+reason_end (After lane section) = codes "\\nafter t" ∷ decimal (thread_of lane) ∷ codes " " ∷ decimal section ∷ codes "\", style=filled, fillcolor=orange]" ∷ []
+reason_end Unsettled = codes "\\nunsettled\", style=filled, fillcolor=khaki]" ∷ []
+
+abbrev pub node_end : Option Why → (kept : Bool) → List ℕ
+node_end None kept = line (plain_end kept ∷ [])
+node_end (Some why) kept = line (reason_end why)
+
+abbrev pub node_line : Numbering → Option Why → Section → List ℕ
+node_line n why s = node_front s ++ node_end why (nat_le s.id.number n.kept)
 
 -- the first section of a lane stands below the heading of the lane's column: by an edge that isn't drawn
 abbrev pub heading_edge : Section → List ℕ
@@ -43,28 +66,12 @@ before_edge s = line (codes "\"t" ∷ decimal (thread_of s.id.lane) ∷ codes ".
 abbrev pub order_edge : (firsts : List ℕ) → Section → List ℕ
 order_edge firsts s = if nat_le s.id.number (first_drawn firsts s.id.lane.0) then heading_edge s else before_edge s
 
-abbrev pub whole_node : (firsts : List ℕ) → Numbering → Section → List ℕ
-whole_node firsts n s = node_line n s ++ order_edge firsts s
+abbrev pub whole_node : (firsts : List ℕ) (dropped : List Dropped) → Numbering → Section → List ℕ
+whole_node firsts dropped n s = node_line n (reason_in dropped s.id) s ++ order_edge firsts s
 
 -- a section that is drawn
-abbrev pub node_text : (firsts : List ℕ) → Numbering → Section → List ℕ
-node_text firsts n s = if is_drawn firsts s.id then whole_node firsts n s else []
-
--- why a section is dropped, beside its node, and the node's colour
-abbrev pub reason_text : Why → List (List ℕ)
-reason_text Unfinished = codes "\" [xlabel=\"unfinished\", style=filled, fillcolor=lightpink]" ∷ []
-reason_text (After lane section) = codes "\" [xlabel=\"after t" ∷ decimal (thread_of lane) ∷ codes " " ∷ decimal section ∷ codes "\", style=filled, fillcolor=orange]" ∷ []
-reason_text Unsettled = codes "\" [xlabel=\"unsettled\", style=filled, fillcolor=khaki]" ∷ []
-
-abbrev pub reason_line : Dropped → List ℕ
-reason_line d = line (codes "\"t" ∷ decimal (thread_of d.lane) ∷ codes "." ∷ decimal d.section ∷ reason_text d.why)
-
--- of a section that is drawn
-abbrev pub drawn_reason : (firsts : List ℕ) → Dropped → List ℕ
-drawn_reason firsts d = if is_drawn firsts (record { lane = d.lane; number = d.section }) then reason_line d else []
-
-abbrev pub reasons_text : (firsts : List ℕ) → List Dropped → List ℕ
-reasons_text firsts dropped = flat_map (drawn_reason firsts) dropped
+abbrev pub node_text : (firsts : List ℕ) (dropped : List Dropped) → Numbering → Section → List ℕ
+node_text firsts dropped n s = if is_drawn firsts s.id then whole_node firsts dropped n s else []
 
 -- the name that a schema has for an object
 abbrev pub name_in : Option Declarations → (object : ℕ) → Option (List ℕ)

@@ -23,7 +23,7 @@ link_line k = line (codes "depends t" ∷ decimal (thread_of k.taker.lane) ∷ c
 -- a section, in one of the forms
 abbrev pub section_text : Form → Numbering → Section → List ℕ
 section_text Lines = λ n s. section_line s
-section_text (Graph p) = node_text p.firsts.now
+section_text (Graph p) = node_text p.firsts.now p.dropped.now
 
 -- a dependence, in one of the forms
 abbrev pub link_text : Form → Link → List ℕ

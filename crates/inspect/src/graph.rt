@@ -13,7 +13,6 @@ use crate::form::Form;
 use crate::numbering::lane_numbering;
 use crate::picture::{Picture, bounds, first_drawn};
 use crate::pieces::{Piece, put_line};
-use crate::reasons::put_reasons;
 use crate::releases::{Releases, releases_in};
 use crate::report_lines::thread_number;
 use crate::study_lines::{put_all_links, put_lane_sections};
@@ -25,8 +24,8 @@ use std::io::Write;
 
 /// Writes live sections of a study and their dependences as a graph in Graphviz's DOT language, which `dot` draws, with a legend: a
 /// column for each lane, by number, with its thread as heading; in it a node for each section, from the top, filled where the
-/// section is acknowledged, and a dotted arrow to the lane's section before it; then why each section that is dropped is, and its
-/// colour; then an arrow for each dependence on a section of another lane, with the object that was taken, by the name that this
+/// section is acknowledged, with the reason and a colour where it is dropped, and a dotted arrow to the lane's section before it;
+/// then an arrow for each dependence on a section of another lane, with the object that was taken, by the name that this
 /// schema has for it. Arrows go from a section to what it depends on.
 ///
 /// Of each lane the section that it is in is drawn, and the last so many that have ended. The lane's heading says how many before
@@ -76,6 +75,7 @@ fn put_picture<W: Write>(
     let firsts = bounds(study, last);
     let picture = Picture {
         firsts: &firsts[..usize::from(study.layout.lanes)],
+        dropped: &study.report.dropped,
         names,
     };
     put_graph(writer, picture, study, releases)
@@ -89,12 +89,11 @@ fn put_graph<W: Write>(
 ) -> Result<(), WriteError>
     requires numbers { FitsNumbers study.now }
     requires releases { Tells releases.now (releases_of study.now) }
-    ensures ok { OnOk result (Appends (W.contents writer.old) (W.contents writer.new) (graph_of (option_map (λ x. x.now) picture.entry.names) picture.entry.firsts.now study.now)) }
-    ensures part { OnErr result (AppendsPart (W.contents writer.old) (W.contents writer.new) (graph_of (option_map (λ x. x.now) picture.entry.names) picture.entry.firsts.now study.now)) }
+    ensures ok { OnOk result (Appends (W.contents writer.old) (W.contents writer.new) (graph_of (option_map (λ x. x.now) picture.entry.names) picture.entry.firsts.now picture.entry.dropped.now study.now)) }
+    ensures part { OnErr result (AppendsPart (W.contents writer.old) (W.contents writer.new) (graph_of (option_map (λ x. x.now) picture.entry.names) picture.entry.firsts.now picture.entry.dropped.now study.now)) }
 {
     put_head(writer)?;
     put_columns(writer, picture, study)?;
-    put_reasons(writer, picture.firsts, &study.report.dropped)?;
     put_all_links(writer, Form::Graph(picture), study, releases)?;
     put_line(writer, &[Piece::Words("}")])
 }
@@ -114,7 +113,7 @@ fn put_head<W: Write>(writer: &mut W) -> Result<(), WriteError>
                 "dropped by recovery: pink, it has not ended; orange, it depends on one that is dropped; yellow, it was not settled\\l",
             ),
             Piece::Words(
-                "dotted: depends on the thread's section before it\\lplain: depends on the section that freed what it took\\l\"",
+                "dotted: depends on the thread's section before it\\lplain: depends on the section that freed what it took; number N: by the object's Nth release since the heap was opened\\l\"",
             ),
         ],
     )
@@ -126,8 +125,8 @@ fn put_columns<W: Write>(
     study: &Study,
 ) -> Result<(), WriteError>
     requires { FitsNumbers study.now }
-    ensures ok { OnOk result (Appends (W.contents writer.old) (W.contents writer.new) (columns_text picture.entry.firsts.now study.now)) }
-    ensures part { OnErr result (AppendsPart (W.contents writer.old) (W.contents writer.new) (columns_text picture.entry.firsts.now study.now)) }
+    ensures ok { OnOk result (Appends (W.contents writer.old) (W.contents writer.new) (columns_text picture.entry.firsts.now picture.entry.dropped.now study.now)) }
+    ensures part { OnErr result (AppendsPart (W.contents writer.old) (W.contents writer.new) (columns_text picture.entry.firsts.now picture.entry.dropped.now study.now)) }
 {
     for lane in 0..study.layout.lanes {
         put_column(writer, picture, study, Lane(lane))?;
@@ -143,8 +142,8 @@ fn put_column<W: Write>(
 ) -> Result<(), WriteError>
     requires lane { lane.0 < study.now.layout.lanes }
     requires numbers { FitsNumbers study.now }
-    ensures ok { OnOk result (Appends (W.contents writer.old) (W.contents writer.new) (column_text picture.entry.firsts.now study.now lane.0)) }
-    ensures part { OnErr result (AppendsPart (W.contents writer.old) (W.contents writer.new) (column_text picture.entry.firsts.now study.now lane.0)) }
+    ensures ok { OnOk result (Appends (W.contents writer.old) (W.contents writer.new) (column_text picture.entry.firsts.now picture.entry.dropped.now study.now lane.0)) }
+    ensures part { OnErr result (AppendsPart (W.contents writer.old) (W.contents writer.new) (column_text picture.entry.firsts.now picture.entry.dropped.now study.now lane.0)) }
 {
     put_column_head(writer, lane, left_out(picture.firsts, study, lane))?;
     put_lane_sections(writer, Form::Graph(picture), study, lane)?;

@@ -2,31 +2,33 @@
 ghost use Rattle.std.specs.Prelude.{◌≡◌, ◌<◌, ◌≤◌, ◌↔◌, IsTrue, OnOk, OnErr, option_map};
 ghost use Rattle.std.specs.Io.KnownBytes.{Appends};
 ghost use Rattle.inspect.specs.Written.{AppendsPart};
-ghost use Rattle.inspect.specs.GraphText.{node_text, whole_node, node_line, order_edge, heading_edge, before_edge, link_edge, whole_edge, edge_front, edge_end, object_text, name_in, style_text};
+ghost use Rattle.inspect.specs.GraphText.{node_text, whole_node, node_line, node_front, node_end, plain_end, order_edge, heading_edge, before_edge, link_edge, whole_edge, edge_front, edge_end, object_text, name_in};
 
 use crate::error::WriteError;
 use crate::numbering::Numbering;
 use crate::picture::{Picture, first_drawn, is_drawn};
 use crate::pieces::{Piece, put_line, put_pieces};
+use crate::reasons::{put_reason, reason_of};
 use crate::report_lines::thread_number;
 use crate::section::{Link, Section};
 use crate::section_lines::state;
 use guards::Schema;
 use heap_model::ObjectId;
+use recover::Why;
 use std::io::Write;
 
-/// Writes the node of a section that is drawn, and the edge that puts it below the lane's section before it, or below the heading.
+/// Writes the node of a section that is drawn, with the reason where it is dropped, and the edge that puts it below the lane's section before it, or below the heading.
 pub(crate) fn put_node<W: Write>(
     writer: &mut W,
     picture: Picture<'_>,
     numbering: Numbering,
     section: Section,
 ) -> Result<(), WriteError>
-    ensures ok { OnOk result (Appends (W.contents writer.old) (W.contents writer.new) (node_text picture.entry.firsts.now numbering section)) }
-    ensures part { OnErr result (AppendsPart (W.contents writer.old) (W.contents writer.new) (node_text picture.entry.firsts.now numbering section)) }
+    ensures ok { OnOk result (Appends (W.contents writer.old) (W.contents writer.new) (node_text picture.entry.firsts.now picture.entry.dropped.now numbering section)) }
+    ensures part { OnErr result (AppendsPart (W.contents writer.old) (W.contents writer.new) (node_text picture.entry.firsts.now picture.entry.dropped.now numbering section)) }
 {
     if is_drawn(picture.firsts, section.id) {
-        put_whole_node(writer, picture.firsts, numbering, section)
+        put_whole_node(writer, picture, numbering, section)
     } else {
         Ok(())
     }
@@ -34,27 +36,37 @@ pub(crate) fn put_node<W: Write>(
 
 fn put_whole_node<W: Write>(
     writer: &mut W,
-    firsts: &[u64],
+    picture: Picture<'_>,
     numbering: Numbering,
     section: Section,
 ) -> Result<(), WriteError>
-    ensures ok { OnOk result (Appends (W.contents writer.old) (W.contents writer.new) (whole_node firsts.now numbering section)) }
-    ensures part { OnErr result (AppendsPart (W.contents writer.old) (W.contents writer.new) (whole_node firsts.now numbering section)) }
+    ensures ok { OnOk result (Appends (W.contents writer.old) (W.contents writer.new) (whole_node picture.entry.firsts.now picture.entry.dropped.now numbering section)) }
+    ensures part { OnErr result (AppendsPart (W.contents writer.old) (W.contents writer.new) (whole_node picture.entry.firsts.now picture.entry.dropped.now numbering section)) }
 {
-    put_node_line(writer, numbering, section)?;
-    put_order_edge(writer, firsts, section)
+    let why = reason_of(picture.dropped, section.id);
+    put_node_line(writer, numbering, why, section)?;
+    put_order_edge(writer, picture.firsts, section)
 }
 
 fn put_node_line<W: Write>(
     writer: &mut W,
     numbering: Numbering,
+    why: Option<Why>,
     section: Section,
 ) -> Result<(), WriteError>
-    ensures ok { OnOk result (Appends (W.contents writer.old) (W.contents writer.new) (node_line numbering section)) }
-    ensures part { OnErr result (AppendsPart (W.contents writer.old) (W.contents writer.new) (node_line numbering section)) }
+    ensures ok { OnOk result (Appends (W.contents writer.old) (W.contents writer.new) (node_line numbering why section)) }
+    ensures part { OnErr result (AppendsPart (W.contents writer.old) (W.contents writer.new) (node_line numbering why section)) }
+{
+    put_node_front(writer, section)?;
+    put_node_end(writer, why, section.id.number <= numbering.kept)
+}
+
+fn put_node_front<W: Write>(writer: &mut W, section: Section) -> Result<(), WriteError>
+    ensures ok { OnOk result (Appends (W.contents writer.old) (W.contents writer.new) (node_front section)) }
+    ensures part { OnErr result (AppendsPart (W.contents writer.old) (W.contents writer.new) (node_front section)) }
 {
     let thread = thread_number(section.id.lane);
-    put_line(
+    put_pieces(
         writer,
         &[
             Piece::Words("\"t"),
@@ -69,18 +81,27 @@ fn put_node_line<W: Write>(
             Piece::Words(state(section.is_whole)),
             Piece::Words(", "),
             Piece::Number(section.records),
-            Piece::Words(" records\""),
-            Piece::Words(style(section.id.number <= numbering.kept)),
-            Piece::Words("]"),
+            Piece::Words(" records"),
         ],
     )
 }
 
-// How the node of a section is drawn that is acknowledged, or isn't.
-fn style(is_kept: bool) -> &'static str
-    ensures { result.now ≡ style_text is_kept }
+// Ends a node by why its section is dropped, or else by whether it is acknowledged.
+fn put_node_end<W: Write>(writer: &mut W, why: Option<Why>, is_kept: bool) -> Result<(), WriteError>
+    ensures ok { OnOk result (Appends (W.contents writer.old) (W.contents writer.new) (node_end why is_kept)) }
+    ensures part { OnErr result (AppendsPart (W.contents writer.old) (W.contents writer.new) (node_end why is_kept)) }
 {
-    if is_kept { ", style=filled" } else { "" }
+    match why {
+        Some(why) => put_reason(writer, why),
+        None => put_line(writer, &[Piece::Words(plain_end(is_kept))]),
+    }
+}
+
+// How the node of a section that isn't dropped ends.
+fn plain_end(is_kept: bool) -> &'static str
+    ensures { result.now ≡ plain_end is_kept }
+{
+    if is_kept { "\", style=filled]" } else { "\"]" }
 }
 
 // Sections of a lane stand in its column by number.

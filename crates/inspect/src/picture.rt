@@ -10,13 +10,15 @@ use crate::section::SectionId;
 use guards::Schema;
 use heap_model::{Lane, UndoRecord};
 use log_state::count_all;
-use recover::Study;
+use recover::{Dropped, Study};
 
 /// What of a study is drawn, and by which names.
 #[derive(Clone, Copy)]
 pub(crate) struct Picture<'a> {
     /// By lane: the number of the first section that is drawn.
     pub firsts: &'a [u64],
+    /// The sections that recovery drops, each with the reason.
+    pub dropped: &'a [Dropped],
     /// The schema whose objects' names are written; there are numbers where there is none.
     pub names: Option<&'a Schema>,
 }

@@ -285,24 +285,22 @@ fn a_graph_is_written(rt: HostRuntime) {
 rankdir=LR
 labelloc=b
 labeljust=l
-label=\"grey: acknowledged, and kept\\ldropped by recovery: pink, it has not ended; orange, it depends on one that is dropped; yellow, it was not settled\\ldotted: depends on the thread's section before it\\lplain: depends on the section that freed what it took\\l\"
+label=\"grey: acknowledged, and kept\\ldropped by recovery: pink, it has not ended; orange, it depends on one that is dropped; yellow, it was not settled\\ldotted: depends on the thread's section before it\\lplain: depends on the section that freed what it took; number N: by the object's Nth release since the heap was opened\\l\"
 subgraph t1 {
 rank=same
 \"t1\" [shape=plaintext]
 \"t1.3\" [label=\"t1 3\\nwhole, 3 records\", style=filled]
 \"t1\" -> \"t1.3\" [style=invis]
-\"t1.4\" [label=\"t1 4\\nwhole, 2 records\"]
+\"t1.4\" [label=\"t1 4\\nwhole, 2 records\\nunsettled\", style=filled, fillcolor=khaki]
 \"t1.3\" -> \"t1.4\" [style=dotted, dir=back]
 }
 subgraph t2 {
 rank=same
 \"t2\" [shape=plaintext]
-\"t2.2\" [label=\"t2 2\\nunfinished, 2 records\"]
+\"t2.2\" [label=\"t2 2\\nunfinished, 2 records\", style=filled, fillcolor=lightpink]
 \"t2\" -> \"t2.2\" [style=invis]
 }
 \"t1\" -> \"t2\" [style=invis]
-\"t1.4\" [xlabel=\"unsettled\", style=filled, fillcolor=khaki]
-\"t2.2\" [xlabel=\"unfinished\", style=filled, fillcolor=lightpink]
 \"t2.2\" -> \"t1.4\" [label=\"object 0 number 6\", constraint=false]
 }
 ";
@@ -323,22 +321,20 @@ fn a_graph_says_what_it_leaves_out(rt: HostRuntime) {
 rankdir=LR
 labelloc=b
 labeljust=l
-label=\"grey: acknowledged, and kept\\ldropped by recovery: pink, it has not ended; orange, it depends on one that is dropped; yellow, it was not settled\\ldotted: depends on the thread's section before it\\lplain: depends on the section that freed what it took\\l\"
+label=\"grey: acknowledged, and kept\\ldropped by recovery: pink, it has not ended; orange, it depends on one that is dropped; yellow, it was not settled\\ldotted: depends on the thread's section before it\\lplain: depends on the section that freed what it took; number N: by the object's Nth release since the heap was opened\\l\"
 subgraph t1 {
 rank=same
 \"t1\" [shape=plaintext, label=\"t1\\nleft out here: 1 before these\"]
-\"t1.4\" [label=\"t1 4\\nwhole, 2 records\"]
+\"t1.4\" [label=\"t1 4\\nwhole, 2 records\\nunsettled\", style=filled, fillcolor=khaki]
 \"t1\" -> \"t1.4\" [style=invis]
 }
 subgraph t2 {
 rank=same
 \"t2\" [shape=plaintext]
-\"t2.2\" [label=\"t2 2\\nunfinished, 2 records\"]
+\"t2.2\" [label=\"t2 2\\nunfinished, 2 records\", style=filled, fillcolor=lightpink]
 \"t2\" -> \"t2.2\" [style=invis]
 }
 \"t1\" -> \"t2\" [style=invis]
-\"t1.4\" [xlabel=\"unsettled\", style=filled, fillcolor=khaki]
-\"t2.2\" [xlabel=\"unfinished\", style=filled, fillcolor=lightpink]
 \"t2.2\" -> \"t1.4\" [label=\"o0 number 6\", constraint=false]
 }
 ";

@@ -64,6 +64,10 @@ impl Images for Held {
         }
     }
 
+    fn look(&mut self, alloc: Global, path: &str) -> Result<Vec<u8>, FileFault> {
+        self.read(alloc, path)
+    }
+
     fn open(&mut self, alloc: Global, _path: &str) -> Result<MemDisk, FileFault> {
         match MemDisk::from_bytes(alloc, &self.image) {
             Ok(disk) => Ok(disk),

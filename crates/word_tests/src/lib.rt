@@ -25,3 +25,5 @@ mod two_places;
 mod values;
 #[cfg(test)]
 mod wrong_paths;
+#[cfg(test)]
+mod wrong_words;

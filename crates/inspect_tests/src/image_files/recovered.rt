@@ -6,8 +6,8 @@ use durable::{Store, StoreCall};
 use guards::Schema;
 use heap_model::{FieldId, Lane, ObjectId, Record};
 use image_file::{
-    FileImages, FormatError, ImageFault, NamedFault, Trouble, draw_named_file, dump_file,
-    recover_at, show_file,
+    FileImages, FormatError, ImageFault, NamedFault, Trouble, draw_named_at, dump_at, recover_at,
+    show_at,
 };
 use recover::{RecoverError, Versions};
 use std::alloc::Global;
@@ -23,9 +23,21 @@ enum Ask {
     Upgrade,
 }
 
+fn show<W: Write>(rt: &HostRuntime, image: &str, out: &mut W) -> Result<(), ImageFault> {
+    let trouble = Trouble::none();
+    let mut images = FileImages::new(rt, &trouble);
+    let answer = show_at(&mut images, rt.alloc(), image, out);
+    drop(images);
+    answer
+}
+
 // By numbers, and with the last fifty sections of each thread.
 fn draw(rt: &HostRuntime, image: &str, out: &mut Vec<u8>) -> Result<(), ImageFault> {
-    match draw_named_file(rt, rt.alloc(), &Trouble::none(), image, None, 50, out) {
+    let trouble = Trouble::none();
+    let mut images = FileImages::new(rt, &trouble);
+    let answer = draw_named_at(rt, &mut images, rt.alloc(), &trouble, image, None, 50, out);
+    drop(images);
+    match answer {
         Ok(()) => Ok(()),
         Err(NamedFault::Image(fault)) => Err(fault),
         // No schema is named.
@@ -49,10 +61,8 @@ fn recover<W: Write>(
 
 // What is answered.
 fn answer(rt: &HostRuntime, ask: Ask, image: &str, out: &mut Vec<u8>) -> Result<(), ImageFault> {
-    let alloc = rt.alloc();
-    let trouble = Trouble::none();
     match ask {
-        Ask::Show => show_file(rt, alloc, &trouble, image, out),
+        Ask::Show => show(rt, image, out),
         Ask::Draw => draw(rt, image, out),
         Ask::Recover => recover(rt, Versions::Current, image, out),
         Ask::Upgrade => recover(rt, Versions::Both, image, out),
@@ -100,7 +110,18 @@ type Dumped = (Result<(), NamedFault>, bool);
 
 fn dump_there(rt: &HostRuntime, image: &str, schema: Option<&str>, lines: &[u8]) -> Dumped {
     let mut writer = Vec::new(rt.alloc());
-    let answer = dump_file(rt, rt.alloc(), &Trouble::none(), image, schema, &mut writer);
+    let trouble = Trouble::none();
+    let mut images = FileImages::new(rt, &trouble);
+    let answer = dump_at(
+        rt,
+        &mut images,
+        rt.alloc(),
+        &trouble,
+        image,
+        schema,
+        &mut writer,
+    );
+    drop(images);
     let are_written = writer.as_slice() == lines;
     drop(writer);
     (answer, are_written)
@@ -433,8 +454,7 @@ fn told_of_half(rt: &HostRuntime, image: &str) -> ([Result<(), ImageFault>; 2], 
     let mut writer = OneLine {
         taken: Vec::new(rt.alloc()),
     };
-    let trouble = Trouble::none();
-    let shown = show_file(rt, rt.alloc(), &trouble, image, &mut writer);
+    let shown = show(rt, image, &mut writer);
     writer.taken.clear();
     let recovered = recover(rt, Versions::Current, image, &mut writer);
     let is_first = writer.taken.as_slice() == b"kept 0 0\n".as_slice();

@@ -216,22 +216,20 @@ heap 10 20
 rankdir=LR
 labelloc=b
 labeljust=l
-label=\"grey: acknowledged, and kept\\ldropped by recovery: pink, it has not ended; orange, it depends on one that is dropped; yellow, it was not settled\\ldotted: depends on the thread's section before it\\lplain: depends on the section that freed what it took\\l\"
+label=\"grey: acknowledged, and kept\\ldropped by recovery: pink, it has not ended; orange, it depends on one that is dropped; yellow, it was not settled\\ldotted: depends on the thread's section before it\\lplain: depends on the section that freed what it took; number N: by the object's Nth release since the heap was opened\\l\"
 subgraph t1 {
 rank=same
 \"t1\" [shape=plaintext]
-\"t1.1\" [label=\"t1 1\\nunfinished, 4 records\"]
+\"t1.1\" [label=\"t1 1\\nunfinished, 4 records\", style=filled, fillcolor=lightpink]
 \"t1\" -> \"t1.1\" [style=invis]
 }
 subgraph t2 {
 rank=same
 \"t2\" [shape=plaintext]
-\"t2.1\" [label=\"t2 1\\nwhole, 3 records\"]
+\"t2.1\" [label=\"t2 1\\nwhole, 3 records\\nafter t1 1\", style=filled, fillcolor=orange]
 \"t2\" -> \"t2.1\" [style=invis]
 }
 \"t1\" -> \"t2\" [style=invis]
-\"t1.1\" [xlabel=\"unfinished\", style=filled, fillcolor=lightpink]
-\"t2.1\" [xlabel=\"after t1 1\", style=filled, fillcolor=orange]
 \"t2.1\" -> \"t1.1\" [label=\"object 0 number 1\", constraint=false]
 }
 ";
@@ -250,22 +248,20 @@ fn a_circle_is_drawn(rt: HostRuntime) {
 rankdir=LR
 labelloc=b
 labeljust=l
-label=\"grey: acknowledged, and kept\\ldropped by recovery: pink, it has not ended; orange, it depends on one that is dropped; yellow, it was not settled\\ldotted: depends on the thread's section before it\\lplain: depends on the section that freed what it took\\l\"
+label=\"grey: acknowledged, and kept\\ldropped by recovery: pink, it has not ended; orange, it depends on one that is dropped; yellow, it was not settled\\ldotted: depends on the thread's section before it\\lplain: depends on the section that freed what it took; number N: by the object's Nth release since the heap was opened\\l\"
 subgraph t1 {
 rank=same
 \"t1\" [shape=plaintext]
-\"t1.1\" [label=\"t1 1\\nwhole, 6 records\"]
+\"t1.1\" [label=\"t1 1\\nwhole, 6 records\\nafter t2 1\", style=filled, fillcolor=orange]
 \"t1\" -> \"t1.1\" [style=invis]
 }
 subgraph t2 {
 rank=same
 \"t2\" [shape=plaintext]
-\"t2.1\" [label=\"t2 1\\nunfinished, 3 records\"]
+\"t2.1\" [label=\"t2 1\\nunfinished, 3 records\", style=filled, fillcolor=lightpink]
 \"t2\" -> \"t2.1\" [style=invis]
 }
 \"t1\" -> \"t2\" [style=invis]
-\"t1.1\" [xlabel=\"after t2 1\", style=filled, fillcolor=orange]
-\"t2.1\" [xlabel=\"unfinished\", style=filled, fillcolor=lightpink]
 \"t1.1\" -> \"t2.1\" [label=\"object 2 number 1\", constraint=false]
 \"t2.1\" -> \"t1.1\" [label=\"object 1 number 1\", constraint=false]
 }
@@ -274,7 +270,7 @@ rank=same
 rankdir=LR
 labelloc=b
 labeljust=l
-label=\"grey: acknowledged, and kept\\ldropped by recovery: pink, it has not ended; orange, it depends on one that is dropped; yellow, it was not settled\\ldotted: depends on the thread's section before it\\lplain: depends on the section that freed what it took\\l\"
+label=\"grey: acknowledged, and kept\\ldropped by recovery: pink, it has not ended; orange, it depends on one that is dropped; yellow, it was not settled\\ldotted: depends on the thread's section before it\\lplain: depends on the section that freed what it took; number N: by the object's Nth release since the heap was opened\\l\"
 subgraph t1 {
 rank=same
 \"t1\" [shape=plaintext]

@@ -1,4 +1,4 @@
-use Rattle.std.proofs.Common.{◌≡◌, ℕ, List, Option, inl, inr, subst}
+use Rattle.std.proofs.Common.{ℕ, List, Option, inl, inr, subst}
 use Rattle.std.proofs.lemmas.Result.{IfErr-weaker, IfOk-weaker}
 use Rattle.image_file.specs.Images.{IsThere}
 use Rattle.commands.specs.Faults.{HasNoImage}

@@ -1,15 +1,10 @@
 use Rattle.std.proofs.Common.{Option, Result, refl, sym, subst}
-use Rattle.guards.specs.Schema.{Declarations}
 use Rattle.sector_disk.specs.declared.size.SectorSize.{SectorSize}
-use Rattle.recover.specs.declared.studied.Study.{Study}
-use Rattle.inspect.specs.StudyText.{study_text}
-use Rattle.inspect.specs.WholeGraph.{picture_text}
-use Rattle.image_schema.specs.Dumping.{dump_text}
 use Rattle.recover.specs.declared.versions.Versions.TheVariants.{Current, Both}
-use Rattle.commands.specs.Obeying.{Formats, Obeys, Recovers, TellsOf, TellsOfNamed}
+use Rattle.commands.specs.Obeying.{Formats, Obeys, Recovers}
 use Rattle.commands.specs.declared.fault.WorkFault.{WorkFault}
 use Rattle.command_words.specs.declared.words.Words.{Words}
-use Rattle.commands.proofs.ObeyLemmas.{made, on, recovered, told, told_named}
+use Rattle.commands.proofs.ObeyLemmas.{made, on, recovered}
 use Rattle.commands.proofs.obeying.obey.Goals as goal
 
 pub returns-in-Run : goal.returns-in-Run
@@ -46,41 +41,40 @@ returns-in-Format o c =
 pub returns-in-Show : goal.returns-in-Show
 returns-in-Show o c =
     let had = o.P.Images.holds c.args.images.now in
-    let lies = o.P.Images.lies c.args.images.now in
+    let has = o.P.Images.holds c.show_at.new.images in
+    let lies = o.P.Images.lies c.show_at.new.images in
     let read = o.S.Read.remaining c.args.reader.now in
     let written = o.W.Write.contents c.args.writer.now in
-    let now = o.W.Write.contents c.show_file.new.writer in
-    subst (λ (w : Words). Obeys o.D.Disk.device w c.args.names.now c.on_image.result had had lies read read written now) (sym c.in-Show.is) (
+    let now = o.W.Write.contents c.show_at.new.writer in
+    subst (λ (w : Words). Obeys o.D.Disk.device w c.args.names.now c.on_image.result had has lies read read written now) (sym c.in-Show.is) (
       refl,
-      subst (λ (r : Result (Unit {0}) WorkFault). TellsOf study_text r written now) (sym c.on_image.ensures)
-          (told study_text c.show_file.result written now c.show_file.ensures.printed c.show_file.ensures.part c.show_file.ensures.silent),
+      (c.show_at.result, c.on_image.ensures, c.show_at.ensures),
     )
 
 pub returns-in-Draw : goal.returns-in-Draw
 returns-in-Draw o c =
     let had = o.P.Images.holds c.args.images.now in
-    let lies = o.P.Images.lies c.args.images.now in
+    let has = o.P.Images.holds c.draw_named_at.new.images in
+    let lies = o.P.Images.lies c.draw_named_at.new.images in
     let read = o.S.Read.remaining c.args.reader.now in
     let written = o.W.Write.contents c.args.writer.now in
-    let now = o.W.Write.contents c.draw_named_file.new.writer in
-    let text = λ (given : Option Declarations) (s : Study). picture_text given c.in-Draw.last s in
-    subst (λ (w : Words). Obeys o.D.Disk.device w c.args.names.now c.on_named.result had had lies read read written now) (sym c.in-Draw.is) (
+    let now = o.W.Write.contents c.draw_named_at.new.writer in
+    subst (λ (w : Words). Obeys o.D.Disk.device w c.args.names.now c.on_named.result had has lies read read written now) (sym c.in-Draw.is) (
       refl,
-      subst (λ (r : Result (Unit {0}) WorkFault). TellsOfNamed text c.in-Draw.schema r written now) (sym c.on_named.ensures)
-          (told_named text c.in-Draw.schema c.draw_named_file.result written now c.draw_named_file.ensures.printed c.draw_named_file.ensures.part c.draw_named_file.ensures.silent),
+      (c.draw_named_at.result, c.on_named.ensures, c.draw_named_at.ensures),
     )
 
 pub returns-in-Dump : goal.returns-in-Dump
 returns-in-Dump o c =
     let had = o.P.Images.holds c.args.images.now in
-    let lies = o.P.Images.lies c.args.images.now in
+    let has = o.P.Images.holds c.dump_at.new.images in
+    let lies = o.P.Images.lies c.dump_at.new.images in
     let read = o.S.Read.remaining c.args.reader.now in
     let written = o.W.Write.contents c.args.writer.now in
-    let now = o.W.Write.contents c.dump_file.new.writer in
-    subst (λ (w : Words). Obeys o.D.Disk.device w c.args.names.now c.on_named-in-Dump.result had had lies read read written now) (sym c.in-Dump.is) (
+    let now = o.W.Write.contents c.dump_at.new.writer in
+    subst (λ (w : Words). Obeys o.D.Disk.device w c.args.names.now c.on_named-in-Dump.result had has lies read read written now) (sym c.in-Dump.is) (
       refl,
-      subst (λ (r : Result (Unit {0}) WorkFault). TellsOfNamed dump_text c.in-Dump.schema r written now) (sym c.on_named-in-Dump.ensures)
-          (told_named dump_text c.in-Dump.schema c.dump_file.result written now c.dump_file.ensures.printed c.dump_file.ensures.part c.dump_file.ensures.silent),
+      (c.dump_at.result, c.on_named-in-Dump.ensures, c.dump_at.ensures),
     )
 
 pub returns-in-Recover : goal.returns-in-Recover

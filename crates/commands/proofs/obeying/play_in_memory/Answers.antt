@@ -1,5 +1,5 @@
 use Rattle.std.proofs.Common.{Result, sym, subst}
-use Rattle.commands.specs.Obeying.{PlaysInMemory, PlaysScript}
+use Rattle.commands.specs.Obeying.{PlaysScript}
 use Rattle.commands.specs.declared.fault.WorkFault.{WorkFault}
 use Rattle.commands.proofs.ObeyLemmas.{played}
 use Rattle.commands.proofs.obeying.play_in_memory.Goals as goal

@@ -6,7 +6,8 @@ use Rattle.drive.specs.Driven.{IsDriven}
 use Rattle.drive.specs.Refusals.{IsOwnStop}
 use Rattle.drive.specs.Schemas.{schema_of}
 use Rattle.drive.specs.Stops.{StopsRun}
-use Rattle.drive.proofs.Refused.{own_stops, weaker}
+use Rattle.heap_threads.proofs.Refused.{weaker}
+use Rattle.drive.proofs.Refused.{own_stops}
 use Rattle.drive.proofs.devices.drive_made.Goals as goal
 
 pub drive_heap-requires-clause-schema : goal.drive_heap-requires-clause-schema

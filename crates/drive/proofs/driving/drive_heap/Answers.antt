@@ -1,56 +1,39 @@
-use Rattle.std.proofs.Common.{◌≡◌, All, ap, inl, subst, sym, ◌∙◌}
-use Rattle.std.proofs.lemmas.Result.{IfOk-weaker}
-use Rattle.block_disk.specs.Device.{Device}
-use Rattle.image.specs.declared.layout.Layout.{Layout}
-use Rattle.running_heap.specs.Joined.{IsJoined}
-use Rattle.drive.specs.Crashes.{CrashesOf, TakesEach}
-use Rattle.drive.specs.Driven.{IsRunBy}
-use Rattle.drive.specs.Stops.{StopsBy, StopsRun}
-use Rattle.drive.specs.Serving.{CrashesBy}
-use Rattle.drive.proofs.Refused.{run_stops, weaker_both}
-use Rattle.drive.proofs.Served.{begins_living}
-use Rattle.store_past.specs.Past.{no_past}
+use Rattle.std.proofs.Common.{sym, ap, subst, ◌∙◌}
+use Rattle.drive.specs.Driven.{IsDriven}
+use Rattle.drive.specs.Stops.{StopsRun}
+use Rattle.drive.specs.declared.driven.Driven.{Driven}
+use Rattle.drive.specs.declared.error.DriveError.{DriveError}
+use Rattle.drive.specs.Working.{HasCounted}
+use Rattle.heap_threads.proofs.Returning.{ran_from, stopped_from}
+use Rattle.drive.proofs.Standing.{driven_from, said_stops, session_stops}
 use Rattle.drive.proofs.driving.drive_heap.Goals as goal
 
-pub run-requires-clause-joined : goal.run-requires-clause-joined
-run-requires-clause-joined g c κs within =
-    let o = c.in-Ok.heap in
-    subst (λ (l : Layout). All (IsJoined o.shared l.capacity o.helper.rings) o.sessions.items) (sym c.in-Ok.ensures.layout) c.in-Ok.ensures.joined
-
-pub run-requires-clause-count : goal.run-requires-clause-count
-run-requires-clause-count g c κs within = c.in-Ok.ensures.count ∙ ap (λ (l : Layout). l.lanes) (sym c.in-Ok.ensures.layout)
-
-pub returns-in-Ok-clause-ok : goal.returns-in-Ok-clause-ok
-returns-in-Ok-clause-ok g c =
-    let device = g.D.Disk.device in
-    let o = c.in-Ok.heap in
-    let living = begins_living device o.shared o.helper c.life_law.ensures.begins c.in-Ok.ensures.past c.in-Ok.ensures.running in
-    IfOk-weaker c.run.result _ _
-    (λ r ran. record {
-      shared = c.in-Ok.heap.shared;
-      plan = c.in-Ok.ensures.plan;
-      run = subst (λ (d : Device). IsRunBy g.D.Disk.device c.in-Ok.heap.shared c.args.recovered.layout d r.0 r.1) (ap g.D.Disk.device c.in-Ok.ensures.disk)
-          (subst (λ (l : Layout). IsRunBy g.D.Disk.device c.in-Ok.heap.shared l (g.D.Disk.device c.in-Ok.heap.helper.store.disk) r.0 r.1) c.in-Ok.ensures.layout (ran (device o.helper.store.disk) no_past living));
-    })
-    c.run.ensures.ok
-
-pub returns-in-Ok-clause-cause : goal.returns-in-Ok-clause-cause
-returns-in-Ok-clause-cause g c =
-    let device = g.D.Disk.device in
-    let heap = c.in-Ok.heap in
-    let l = heap.helper.store.known.layout in
-    let began = device heap.helper.store.disk in
-    let living = begins_living device heap.shared heap.helper c.life_law.ensures.begins c.in-Ok.ensures.past c.in-Ok.ensures.running in
-    let same : began ≡ device c.args.recovered.disk = ap device c.in-Ok.ensures.disk in
-    weaker_both c.run.result (λ back. StopsBy heap.shared l began (device back.0) back.1) (λ back. CrashesBy device heap.shared heap.helper (device back.0) back.1) (λ back. StopsRun device c.args.schema c.args.recovered (device back.0) back.1)
-    (λ back stops crashes. run_stops device c.args.schema c.args.recovered heap.shared l began (device back.0) back.1 c.in-Ok.ensures.plan c.in-Ok.ensures.layout same
-    (subst (λ (d : Device). CrashesOf heap.shared c.args.recovered.layout d (device back.0) back.1) same
-    (subst (λ (k : Layout). CrashesOf heap.shared k began (device back.0) back.1) c.in-Ok.ensures.layout (crashes began no_past living))) stops)
-    c.run.ensures.cause c.run.ensures.crashes
+pub close_returned-requires : goal.close_returned-requires
+close_returned-requires g c = c.in-Ok.ensures.ok.back
 
 pub returns-in-Err-clause-cause : goal.returns-in-Err-clause-cause
 returns-in-Err-clause-cause g c =
     let device = g.D.Disk.device in
-    let r = c.args.recovered in
-    let same : device c.in-Err.disk ≡ device r.disk = ap device c.in-Err.ensures.refused in
-    inl (same, subst (λ (d : Device). TakesEach (device r.disk) d) (sym same) (c.taken_law.ensures.recovered (device r.disk) c.layout-layout.result r.guards r.slot r.sequence r.heap c.layout-layout.ensures.recovered))
+    let disk = device c.in-Err.disk in
+    subst (λ (e : DriveError). StopsRun device c.args.schema c.args.recovered disk e) (sym c.said.ensures) (said_stops device c.args.schema c.args.recovered disk c.in-Err.refusal c.in-Err.ensures.cause)
+
+pub returns-in-Err-answer_of-clause-cause : goal.returns-in-Err-answer_of-clause-cause
+returns-in-Err-answer_of-clause-cause g c =
+    let device = g.D.Disk.device in
+    session_stops device c.args.schema c.args.recovered c.in-Ok.returned (device c.into_disk.result) c.in-Err-answer_of.refusal c.in-Ok.ensures.ok (sym c.answer_of.ensures ∙ c.in-Err-answer_of.is) (ap device c.into_disk.ensures)
+
+pub returns-in-Ok-close_returned-clause-ok : goal.returns-in-Ok-close_returned-clause-ok
+returns-in-Ok-close_returned-clause-ok g c =
+    let device = g.D.Disk.device in
+    let now = c.in-Ok-close_returned.recovered in
+    let outcome = c.in-Ok-close_returned.outcome in
+    subst (λ (d : Driven). IsDriven device c.args.schema c.args.recovered now d) (sym c.told.ensures)
+    (driven_from device c.args.schema c.args.recovered now outcome (c.in-Ok-close_returned.ensures.answer ∙ sym c.answer_of.ensures ∙ c.in_default.is) (ran_from HasCounted device c.args.schema c.args.recovered now c.in-Ok.returned outcome c.in-Ok.ensures.ok c.in-Ok-close_returned.ensures.ok))
+
+pub returns-in-Err-close_returned-clause-cause : goal.returns-in-Err-close_returned-clause-cause
+returns-in-Err-close_returned-clause-cause g c =
+    let device = g.D.Disk.device in
+    let disk = device c.in-Err-close_returned.disk in
+    subst (λ (e : DriveError). StopsRun device c.args.schema c.args.recovered disk e) (sym c.said-in-Err-close_returned.ensures)
+    (said_stops device c.args.schema c.args.recovered disk c.in-Err-close_returned.refusal
+    (stopped_from HasCounted device c.args.schema c.args.recovered c.in-Ok.returned disk c.in-Err-close_returned.refusal c.in-Ok.ensures.ok c.in-Err-close_returned.ensures.cause c.in-Err-close_returned.ensures.crashes))

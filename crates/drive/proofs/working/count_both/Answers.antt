@@ -1,6 +1,6 @@
 use Rattle.std.proofs.Common.{ℕ, ◌+◌, [], ◌∷◌, refl, sym, ap, arith}
 use Rattle.session.specs.Sessions.{capacity_of, view_of}
-use Rattle.drive.specs.Working.{MayTake, StopsWorker}
+use Rattle.drive.specs.Working.{MayTake, StopsAt}
 use Rattle.drive.proofs.Holding.{other_lock, weaker}
 use Rattle.drive.proofs.Refusing.{count_stops, enter_stops, refused_as}
 use Rattle.drive.proofs.working.count_both.Goals as goal
@@ -12,18 +12,17 @@ not_all worker = record { other = other_lock (worker + 1) 0 (λ same. absurd (om
 pub returns-in-Err-clause-held : goal.returns-in-Err-clause-held
 returns-in-Err-clause-held g c =
     let own = (c.args.worker + 1) ∷ [] in
-    let seen = view_of c.count.new.session in
+    let seen = view_of c.count.new.thread in
     weaker seen.plan seen.events own 2 5 (omega arith) (c.count.ensures.held own 1 (omega arith) c.requires.held)
 
 pub returns-in-Err-clause-refused : goal.returns-in-Err-clause-refused
 returns-in-Err-clause-refused g c =
-    let lane = c.requires.lane in
-    count_stops c.args.shared.now (capacity_of c.args.session.now) _ (c.args.worker + 1) [] c.in-Err.refusal (ap (λ (n : ℕ). n + 1) (sym c.from.ensures)) (let same = c.from.ensures in omega (arith, lane, same)) (c.in-Err.ensures.refused ((c.args.worker + 1) ∷ []) 1 (omega arith) c.requires.held)
+    count_stops g.J.Joint.home (c.args.worker + 1) (capacity_of c.args.thread.now) _ (c.args.worker + 1) [] c.in-Err.refusal (ap (λ (n : ℕ). n + 1) (sym c.from.ensures)) (let same = c.from.ensures in omega (arith, same)) (c.in-Err.ensures.refused ((c.args.worker + 1) ∷ []) 1 (omega arith) c.requires.held)
 
 pub returns-in-Err-take-clause-held : goal.returns-in-Err-take-clause-held
 returns-in-Err-take-clause-held g c =
     let own = (c.args.worker + 1) ∷ [] in
-    let seen = view_of c.take.new.session in
+    let seen = view_of c.take.new.thread in
     let counted = c.count.ensures.held own 1 (omega arith) c.requires.held in
     weaker seen.plan seen.events own 2 5 (omega arith) (c.in-Err-take.ensures.taken own 2 (not_all c.args.worker) counted).1
 
@@ -31,7 +30,7 @@ pub returns-in-Err-take-clause-refused : goal.returns-in-Err-take-clause-refused
 returns-in-Err-take-clause-refused g c =
     let own = (c.args.worker + 1) ∷ [] in
     let counted = c.count.ensures.held own 1 (omega arith) c.requires.held in
-    enter_stops c.args.shared.now (capacity_of c.count.new.session) (capacity_of c.args.session.now) _ c.in-Err-take.refusal c.count.ensures.ring.1 (omega arith) (c.in-Err-take.ensures.taken own 2 (not_all c.args.worker) counted).0
+    enter_stops g.J.Joint.home (c.args.worker + 1) (capacity_of c.count.new.thread) (capacity_of c.args.thread.now) _ c.in-Err-take.refusal c.count.ensures.ring.1 (omega arith) (c.in-Err-take.ensures.taken own 2 (not_all c.args.worker) counted).0
 
 pub leave-requires-clause-object : goal.leave-requires-clause-object
 leave-requires-clause-object g c =
@@ -55,9 +54,9 @@ returns-clause-held g c =
 
 pub returns-clause-refused : goal.returns-clause-refused
 returns-clause-refused g c =
-    let h = c.args.shared.now in
+    let h = g.J.Joint.home in
     let own = (c.args.worker + 1) ∷ [] in
     let counted = c.count.ensures.held own 1 (omega arith) c.requires.held in
     let both = (c.in_default-take.ensures.taken own 2 (not_all c.args.worker) counted).1 in
-    refused_as c.leave.result c.count-counted.result _ (StopsWorker h (capacity_of c.args.session.now)) c.leave.ensures.same
-    (λ e refused. count_stops h (capacity_of c.args.session.now) _ 0 own e refl (omega arith) refused) (c.count-counted.ensures.refused (0 ∷ own) 3 (omega arith) both)
+    refused_as c.leave.result c.count-counted.result _ (StopsAt h (c.args.worker + 1) (capacity_of c.args.thread.now)) c.leave.ensures.same
+    (λ e refused. count_stops h (c.args.worker + 1) (capacity_of c.args.thread.now) _ 0 own e refl (omega arith) refused) (c.count-counted.ensures.refused (0 ∷ own) 3 (omega arith) both)

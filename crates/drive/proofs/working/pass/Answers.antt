@@ -6,6 +6,6 @@ use Rattle.drive.proofs.working.pass.Goals as goal
 
 pub returns-clause-free : goal.returns-clause-free
 returns-clause-free g c =
-    let seen = view_of c.leave.new.session in
-    let held = subst (λ (n : ℕ). HoldsJust (view_of c.count_both-counted.new.session) ((n + 1) ∷ []) 5) (sym c.from.ensures) c.count_both-counted.ensures.held in
+    let seen = view_of c.leave.new.thread in
+    let held = subst (λ (n : ℕ). HoldsJust (view_of c.count_both-counted.new.thread) ((n + 1) ∷ []) 5) (sym c.from.ensures) c.count_both-counted.ensures.held in
     free seen.plan seen.events 6 (c.leave.ensures.held [] 5 refl held)

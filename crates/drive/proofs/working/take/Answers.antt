@@ -4,7 +4,7 @@ use Rattle.drive.proofs.working.take.Goals as goal
 
 pub returns-clause-taken : goal.returns-clause-taken
 returns-clause-taken g c = λ objects n may holds.
-    let session = c.args.session.now in
+    let session = c.args.thread.now in
     let told = c.enter.ensures.told in
-    enters c.args.shared.now (capacity_of session) (view_of session) (view_of c.enter.new.self) c.args.object c.enter.result objects n
-    c.requires.seat.1 c.enter.ensures.seat.1 told.settled told.unknown told.first may holds
+    enters g.J.Joint.home (capacity_of session) (view_of session) (view_of c.enter.new.self) c.args.object c.enter.result objects n
+    c.requires.seat.1 c.enter.ensures.of.1 told.settled told.unknown told.first may holds

@@ -5,4 +5,4 @@ use Rattle.drive.proofs.working.work_round.Given as goal
 
 abbrev pub invariant-loop : goal.invariant-loop
 invariant-loop g l =
-    (goal.iterator-loop g).can_next l.iterator' × (goal.iterator-loop g).is_finite l.iterator' × IsSessionOf l.shared l.session × SameRing l.initial.session l.session × HoldsJust (view_of l.session) [] 0
+    (goal.iterator-loop g).can_next l.iterator' × (goal.iterator-loop g).is_finite l.iterator' × IsSessionOf g.J.Joint.home l.thread × SameRing l.initial.thread l.thread × HoldsJust (view_of l.thread) [] 0

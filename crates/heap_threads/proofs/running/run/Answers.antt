@@ -1,45 +1,22 @@
-use Rattle.std.proofs.Common.{IfOk, OnErr, OnOk, ap, sym, ◌∙◌, subst}
+use Rattle.std.proofs.Common.{◌≡◌, false, IfOk, OnErr, OnOk, ap, sym, ◌∙◌, subst}
 use Rattle.std.proofs.lemmas.Result.{IfOk-weaker}
 use Rattle.image.specs.declared.layout.Layout.{Layout}
 use Rattle.std.specs.List.{range_with_len}
 use Rattle.heap_threads.specs.Bodies.{AreWorked}
 use Rattle.heap_threads.specs.Serving.{CrashesBy, CrashesSince, LivesOn}
-use Rattle.heap_threads.specs.Stops.{StopsBy, StopsEnd}
+use Rattle.heap_threads.specs.Stops.{StopsBy}
 use Rattle.heap_threads.specs.declared.error.RunError.TheVariants.{NoMemory, NoThread}
 use Rattle.heap_threads.proofs.Ends.{back_before, back_same, back_stopped, back_threadless, back_wanting}
 use Rattle.heap_threads.proofs.Lanes.{all_first, lanes_up}
-use Rattle.heap_threads.proofs.Later.{ended_later, run_before}
-use Rattle.heap_threads.proofs.Refused.{weaker}
-use Rattle.heap_threads.proofs.Stopped.{stops_since}
+use Rattle.heap_threads.proofs.Later.{ended_later}
+use Rattle.heap_threads.proofs.Refused.{weaker, weaker_both}
+use Rattle.heap_threads.proofs.Returning.{have_returned}
 use Rattle.heap_threads.proofs.running.run.Goals as goal
 
 pub work_beside-requires-clause-first : goal.work_beside-requires-clause-first
 work_beside-requires-clause-first g c κs within =
     let heap = c.args.heap in
     all_first heap.shared heap.helper.store.known.layout.capacity 0 heap.helper.rings heap.sessions.items c.requires.joined c.requires.new
-
-pub end_all-requires-clause-ended : goal.end_all-requires-clause-ended
-end_all-requires-clause-ended g c =
-    let heap = c.args.heap in
-    let capacity = heap.helper.store.known.layout.capacity in
-    let beside = c.in-Ok.ensures.beside in
-    let worked = subst (λ r. IfOk r (AreWorked (g.W.Work.does c.args.work.now) heap.shared capacity heap.helper.rings heap.sessions.items)) c.in-Ok-worked.is (beside.worked capacity heap.helper.rings c.requires.joined) in
-    ended_later g.D.Disk.device heap.shared heap.helper c.in-Ok.beside.served.helper c.in-Ok-worked.worked.ended.items c.joined_law.ensures.ended beside.served.stayed worked.ended
-
-pub end_all-requires-clause-lanes : goal.end_all-requires-clause-lanes
-end_all-requires-clause-lanes g c =
-    let heap = c.args.heap in
-    let capacity = heap.helper.store.known.layout.capacity in
-    let beside = c.in-Ok.ensures.beside in
-    let worked = subst (λ r. IfOk r (AreWorked (g.W.Work.does c.args.work.now) heap.shared capacity heap.helper.rings heap.sessions.items)) c.in-Ok-worked.is (beside.worked capacity heap.helper.rings c.requires.joined) in
-    worked.lanes ∙ lanes_up 0 heap.sessions.items c.requires.new ∙ ap (range_with_len 0) (c.requires.count ∙ ap (λ (l : Layout). l.lanes) (sym beside.served.stayed.layout))
-
-pub end_all-requires-clause-called : goal.end_all-requires-clause-called
-end_all-requires-clause-called g c =
-    let heap = c.args.heap in
-    let capacity = heap.helper.store.known.layout.capacity in
-    let worked = subst (λ r. IfOk r (AreWorked (g.W.Work.does c.args.work.now) heap.shared capacity heap.helper.rings heap.sessions.items)) c.in-Ok-worked.is (c.in-Ok.ensures.beside.worked capacity heap.helper.rings c.requires.joined) in
-    worked.called
 
 pub returns-in-Err-clause-crashes : goal.returns-in-Err-clause-crashes
 returns-in-Err-clause-crashes g c =
@@ -75,11 +52,20 @@ returns-in-Err-worked-clause-crashes g c =
 pub returns-in-Ok-worked-clause-ok : goal.returns-in-Ok-worked-clause-ok
 returns-in-Ok-worked-clause-ok g c =
     let device = g.D.Disk.device in
-    let h = c.args.heap.shared in
-    let x = c.args.heap.helper in
+    let does = g.W.Work.does c.args.work.now in
+    let heap = c.args.heap in
+    let capacity = heap.helper.store.known.layout.capacity in
+    let beside = c.in-Ok.ensures.beside in
+    let x = heap.helper in
     let y = c.in-Ok.beside.served.helper in
-    let served = c.in-Ok.ensures.beside.served in
-    IfOk-weaker c.end_all.result _ _ (λ r ran. run_before (g.W.Work.does c.args.work.now) device h x y r.0 r.1 served.stayed (subst (λ s. OnOk s (LivesOn device h x y)) c.in_default.is served.lives) ran) c.end_all.ensures.ok
+    let worked = subst (λ r. IfOk r (AreWorked does heap.shared capacity x.rings heap.sessions.items)) c.in-Ok-worked.is (beside.worked capacity x.rings c.requires.joined) in
+    IfOk-weaker c.hand_over.result _ _
+    (λ r is. have_returned does device heap.shared x y c.in-Ok-worked.worked r is beside.served.stayed (subst (λ s. OnOk s (LivesOn device heap.shared x y)) c.in_default.is beside.served.lives) beside.served.helping
+    (subst (λ s. OnOk s (y.store.known.has_failed ≡ false)) c.in_default.is beside.served.running)
+    (ended_later device heap.shared x y c.in-Ok-worked.worked.ended.items c.joined_law.ensures.ended beside.served.stayed worked.ended)
+    (worked.lanes ∙ lanes_up 0 heap.sessions.items c.requires.new ∙ ap (range_with_len 0) (c.requires.count ∙ ap (λ (l : Layout). l.lanes) (sym beside.served.stayed.layout)))
+    worked.called)
+    c.hand_over.ensures.ok
 
 pub returns-in-Ok-worked-clause-crashes : goal.returns-in-Ok-worked-clause-crashes
 returns-in-Ok-worked-clause-crashes g c =
@@ -88,17 +74,16 @@ returns-in-Ok-worked-clause-crashes g c =
     let x = c.args.heap.helper in
     let y = c.in-Ok.beside.served.helper in
     let served = c.in-Ok.ensures.beside.served in
-    weaker c.end_all.result (λ back. CrashesBy device h y (device back.0) back.1) (λ back. CrashesBy device h x (device back.0) back.1)
-    (λ back crashes. back_before device h x y (device back.0) back.1 served.stayed (subst (λ s. OnOk s (LivesOn device h x y)) c.in_default.is served.lives) crashes)
-    c.end_all.ensures.crashes
+    let lives = subst (λ s. OnOk s (LivesOn device h x y)) c.in_default.is served.lives in
+    weaker_both c.hand_over.result (λ back. back.0 ≡ y.store.disk) (λ back. back.1 ≡ NoMemory) (λ back. CrashesBy device h x (device back.0) back.1)
+    (λ back same is. subst (λ e. CrashesBy device h x (device back.0) e) (sym is) (back_before device h x y (device back.0) NoMemory served.stayed lives (back_wanting device h y back.0 c.round_law.ensures.between same)))
+    c.hand_over.ensures.disk c.hand_over.ensures.memory
 
 pub returns-in-Ok-worked-clause-cause : goal.returns-in-Ok-worked-clause-cause
 returns-in-Ok-worked-clause-cause g c =
     let device = g.D.Disk.device in
-    let heap = c.args.heap in
-    let after = c.in-Ok.beside.served.helper in
-    let stayed = c.in-Ok.ensures.beside.served.stayed in
-    weaker c.end_all.result (λ back. StopsEnd (g.W.Work.does c.args.work.now) heap.shared after.store.known.layout (device after.store.disk) (device back.0) back.1) (λ back. StopsBy (g.W.Work.does c.args.work.now) heap.shared heap.helper.store.known.layout (device heap.helper.store.disk) (device back.0) back.1)
-    (λ back stops. stops_since (g.W.Work.does c.args.work.now) heap.shared heap.helper.store.known.layout (device heap.helper.store.disk) (device after.store.disk) (device back.0) back.1 stayed.later
-    (subst (λ (l : Layout). StopsEnd (g.W.Work.does c.args.work.now) heap.shared l (device after.store.disk) (device back.0) back.1) stayed.layout stops))
-    c.end_all.ensures.cause
+    let x = c.args.heap.helper in
+    let does = g.W.Work.does c.args.work.now in
+    weaker c.hand_over.result (λ back. back.1 ≡ NoMemory) (λ back. StopsBy does c.args.heap.shared x.store.known.layout (device x.store.disk) (device back.0) back.1)
+    (λ back is. subst (λ e. StopsBy does c.args.heap.shared x.store.known.layout (device x.store.disk) (device back.0) e) (sym is) tt)
+    c.hand_over.ensures.memory

@@ -1,56 +1,24 @@
-use Rattle.std.proofs.Common.{◌≡◌, All, ap, inl, subst, sym, ◌∙◌}
 use Rattle.std.proofs.lemmas.Result.{IfOk-weaker}
-use Rattle.block_disk.specs.Device.{Device}
-use Rattle.image.specs.declared.layout.Layout.{Layout}
-use Rattle.running_heap.specs.Joined.{IsJoined}
-use Rattle.heap_threads.specs.Crashes.{CrashesOf, TakesEach}
-use Rattle.heap_threads.specs.Outcomes.{IsRunBy}
-use Rattle.heap_threads.specs.Stops.{StopsBy, StopsRun}
 use Rattle.heap_threads.specs.Serving.{CrashesBy}
-use Rattle.heap_threads.proofs.Refused.{run_stops, weaker_both}
-use Rattle.heap_threads.proofs.Served.{begins_living}
-use Rattle.store_past.specs.Past.{no_past}
+use Rattle.heap_threads.specs.Stops.{StopsEnd, StopsRun}
+use Rattle.heap_threads.proofs.Refused.{weaker_both}
+use Rattle.heap_threads.proofs.Returning.{ran_from, stopped_from}
 use Rattle.heap_threads.proofs.running.run_heap.Goals as goal
 
-pub run-requires-clause-joined : goal.run-requires-clause-joined
-run-requires-clause-joined g c κs within =
-    let o = c.in-Ok.heap in
-    subst (λ (l : Layout). All (IsJoined o.shared l.capacity o.helper.rings) o.sessions.items) (sym c.in-Ok.ensures.layout) c.in-Ok.ensures.joined
-
-pub run-requires-clause-count : goal.run-requires-clause-count
-run-requires-clause-count g c κs within = c.in-Ok.ensures.count ∙ ap (λ (l : Layout). l.lanes) (sym c.in-Ok.ensures.layout)
+pub close_returned-requires : goal.close_returned-requires
+close_returned-requires g c = c.in-Ok.ensures.ok.back
 
 pub returns-in-Ok-clause-ok : goal.returns-in-Ok-clause-ok
 returns-in-Ok-clause-ok g c =
-    let device = g.D.Disk.device in
-    let o = c.in-Ok.heap in
-    let living = begins_living device o.shared o.helper c.life_law.ensures.begins c.in-Ok.ensures.past c.in-Ok.ensures.running in
-    IfOk-weaker c.run.result _ _
-    (λ r ran. record {
-      shared = c.in-Ok.heap.shared;
-      plan = c.in-Ok.ensures.plan;
-      run = subst (λ (d : Device). IsRunBy (g.W.Work.does c.args.work.now) g.D.Disk.device c.in-Ok.heap.shared c.args.recovered.layout d r.0 r.1) (ap g.D.Disk.device c.in-Ok.ensures.disk)
-          (subst (λ (l : Layout). IsRunBy (g.W.Work.does c.args.work.now) g.D.Disk.device c.in-Ok.heap.shared l (g.D.Disk.device c.in-Ok.heap.helper.store.disk) r.0 r.1) c.in-Ok.ensures.layout (ran (device o.helper.store.disk) no_past living));
-    })
-    c.run.ensures.ok
+    let a = c.args in
+    IfOk-weaker c.close_returned.result _ _ (λ r ran. ran_from (g.W.Work.does a.work.now) g.D.Disk.device a.schema a.recovered r.0 c.in-Ok.returned r.1 c.in-Ok.ensures.ok ran) c.close_returned.ensures.ok
 
 pub returns-in-Ok-clause-cause : goal.returns-in-Ok-clause-cause
 returns-in-Ok-clause-cause g c =
     let device = g.D.Disk.device in
-    let heap = c.in-Ok.heap in
-    let l = heap.helper.store.known.layout in
-    let began = device heap.helper.store.disk in
-    let living = begins_living device heap.shared heap.helper c.life_law.ensures.begins c.in-Ok.ensures.past c.in-Ok.ensures.running in
-    let same : began ≡ device c.args.recovered.disk = ap device c.in-Ok.ensures.disk in
-    weaker_both c.run.result (λ back. StopsBy (g.W.Work.does c.args.work.now) heap.shared l began (device back.0) back.1) (λ back. CrashesBy device heap.shared heap.helper (device back.0) back.1) (λ back. StopsRun (g.W.Work.does c.args.work.now) device c.args.schema c.args.recovered (device back.0) back.1)
-    (λ back stops crashes. run_stops (g.W.Work.does c.args.work.now) device c.args.schema c.args.recovered heap.shared l began (device back.0) back.1 c.in-Ok.ensures.plan c.in-Ok.ensures.layout same
-    (subst (λ (d : Device). CrashesOf heap.shared c.args.recovered.layout d (device back.0) back.1) same
-    (subst (λ (k : Layout). CrashesOf heap.shared k began (device back.0) back.1) c.in-Ok.ensures.layout (crashes began no_past living))) stops)
-    c.run.ensures.cause c.run.ensures.crashes
-
-pub returns-in-Err-clause-cause : goal.returns-in-Err-clause-cause
-returns-in-Err-clause-cause g c =
-    let device = g.D.Disk.device in
-    let r = c.args.recovered in
-    let same : device c.in-Err.disk ≡ device r.disk = ap device c.in-Err.ensures.refused in
-    inl (same, subst (λ (d : Device). TakesEach (device r.disk) d) (sym same) (c.taken_law.ensures.recovered (device r.disk) c.layout-layout.result r.guards r.slot r.sequence r.heap c.layout-layout.ensures.recovered))
+    let does = g.W.Work.does c.args.work.now in
+    let x = c.in-Ok.returned in
+    weaker_both c.close_returned.result (λ back. StopsEnd does x.shared x.helper.store.known.layout (device x.helper.store.disk) (device back.0) back.1) (λ back. CrashesBy device x.shared x.helper (device back.0) back.1)
+    (λ back. StopsRun does device c.args.schema c.args.recovered (device back.0) back.1)
+    (λ back stops crashes. stopped_from does device c.args.schema c.args.recovered x (device back.0) back.1 c.in-Ok.ensures.ok stops crashes)
+    c.close_returned.ensures.cause c.close_returned.ensures.crashes

@@ -1,4 +1,4 @@
-use Rattle.std.proofs.Common.{ℕ, ◌≡◌, inr, subst, sym}
+use Rattle.std.proofs.Common.{ℕ, inr, subst, sym}
 use Rattle.image_file.specs.Formatting.{PrintsSize, RefusesImage}
 use Rattle.image_file.specs.declared.error.FormatError.{FormatError}
 use Rattle.image_file.proofs.FormatLemmas.{schema_refused}

@@ -1,5 +1,5 @@
 use Rattle.std.proofs.Common.{ap, sym, ◌∙◌, ◌≡◌, replicate}
-use Rattle.block_disk.specs.Device.{Device, new_device}
+use Rattle.block_disk.specs.Device.{new_device}
 use Rattle.image.specs.Calls.{after}
 use Rattle.image.specs.Format.{format_calls}
 use Rattle.image.specs.Layout.{size_of}

@@ -21,7 +21,7 @@ returns g c =
       c.read_lines-script.ensures,
       record {
         given = given;
-        is_named = c.in-Ok.ensures;
+        is_named = c.in-Ok.ensures.ok;
         runs = subst (λ (has : Option (List ℕ)). RunsHeld given (lines_of script) ending c.args.is_strict c.run_image-ended.result had has old new) (sym c.tidy.ensures) (rw c.deref.ensures.value at c.run_image-ended.ensures);
       },
     )

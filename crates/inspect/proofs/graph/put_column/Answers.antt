@@ -13,7 +13,7 @@ pub returns-in_err-put_column_head-clause-part : goal.returns-in_err-put_column_
 returns-in_err-put_column_head-clause-part g c =
     let s = c.args.study.now in
     let begin = column_head c.args.lane.0 (left_out_of c.args.picture.firsts.now s c.args.lane.0) in
-    let sections = lane_sections (node_text c.args.picture.firsts.now) s c.args.lane.0 in
+    let sections = lane_sections (node_text c.args.picture.firsts.now c.args.picture.dropped.now) s c.args.lane.0 in
     let end = line (codes "}" ∷ []) in
     let edge = column_edge c.args.lane.0 in
     let old = g.W.Write.contents c.args.writer.now in
@@ -25,7 +25,7 @@ pub returns-in_err-put_lane_sections-clause-part : goal.returns-in_err-put_lane_
 returns-in_err-put_lane_sections-clause-part g c =
     let s = c.args.study.now in
     let begin = column_head c.args.lane.0 (left_out_of c.args.picture.firsts.now s c.args.lane.0) in
-    let sections = lane_sections (node_text c.args.picture.firsts.now) s c.args.lane.0 in
+    let sections = lane_sections (node_text c.args.picture.firsts.now c.args.picture.dropped.now) s c.args.lane.0 in
     let end = line (codes "}" ∷ []) in
     let edge = column_edge c.args.lane.0 in
     let old = g.W.Write.contents c.args.writer.now in
@@ -38,7 +38,7 @@ pub returns-in_err-put_line-clause-part : goal.returns-in_err-put_line-clause-pa
 returns-in_err-put_line-clause-part g c =
     let s = c.args.study.now in
     let begin = column_head c.args.lane.0 (left_out_of c.args.picture.firsts.now s c.args.lane.0) in
-    let sections = lane_sections (node_text c.args.picture.firsts.now) s c.args.lane.0 in
+    let sections = lane_sections (node_text c.args.picture.firsts.now c.args.picture.dropped.now) s c.args.lane.0 in
     let end = line (codes "}" ∷ []) in
     let edge = column_edge c.args.lane.0 in
     let old = g.W.Write.contents c.args.writer.now in
@@ -52,7 +52,7 @@ pub returns-clause-ok : goal.returns-clause-ok
 returns-clause-ok g c =
     let s = c.args.study.now in
     let begin = column_head c.args.lane.0 (left_out_of c.args.picture.firsts.now s c.args.lane.0) in
-    let sections = lane_sections (node_text c.args.picture.firsts.now) s c.args.lane.0 in
+    let sections = lane_sections (node_text c.args.picture.firsts.now c.args.picture.dropped.now) s c.args.lane.0 in
     let end = line (codes "}" ∷ []) in
     let edge = column_edge c.args.lane.0 in
     let old = g.W.Write.contents c.args.writer.now in
@@ -67,7 +67,7 @@ pub returns-clause-part : goal.returns-clause-part
 returns-clause-part g c =
     let s = c.args.study.now in
     let begin = column_head c.args.lane.0 (left_out_of c.args.picture.firsts.now s c.args.lane.0) in
-    let sections = lane_sections (node_text c.args.picture.firsts.now) s c.args.lane.0 in
+    let sections = lane_sections (node_text c.args.picture.firsts.now c.args.picture.dropped.now) s c.args.lane.0 in
     let end = line (codes "}" ∷ []) in
     let edge = column_edge c.args.lane.0 in
     let old = g.W.Write.contents c.args.writer.now in

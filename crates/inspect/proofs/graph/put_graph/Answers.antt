@@ -1,9 +1,8 @@
-use Rattle.std.proofs.Common.{[], ◌∷◌, codes, List, subst, ap, option_map}
+use Rattle.std.proofs.Common.{[], ◌∷◌, codes, option_map}
 use Rattle.std.specs.Io.KnownBytes.{Appends}
 use Rattle.std.proofs.lemmas.Result.{on_ok_weaker, on_err_weaker}
-use Rattle.recover.specs.declared.report.Dropped.{Dropped}
 use Rattle.inspect.specs.Written.{AppendsPart}
-use Rattle.inspect.specs.GraphText.{link_edge, reasons_text}
+use Rattle.inspect.specs.GraphText.{link_edge}
 use Rattle.inspect.specs.Pieces.{line}
 use Rattle.inspect.specs.StudyText.{links_text}
 use Rattle.inspect.specs.WholeGraph.{graph_head, columns_text}
@@ -14,88 +13,62 @@ pub returns-in_err-put_head-clause-part : goal.returns-in_err-put_head-clause-pa
 returns-in_err-put_head-clause-part g c =
     let s = c.args.study.now in
     let firsts = c.args.picture.firsts.now in
-    let columns = columns_text firsts s in
-    let reasons = reasons_text firsts s.report.dropped.items in
+    let columns = columns_text firsts c.args.picture.dropped.now s in
     let links = links_text (link_edge (option_map (λ x. x.now) c.args.picture.names) firsts) s in
     let end = line (codes "}" ∷ []) in
     let old = g.W.Write.contents c.args.writer.now in
     let one = g.W.Write.contents c.put_head.new.writer in
-    always c.from_residual.result (part_here old one graph_head (columns ∷ reasons ∷ links ∷ end ∷ []) c.in_err-put_head.ensures.part)
+    always c.from_residual.result (part_here old one graph_head (columns ∷ links ∷ end ∷ []) c.in_err-put_head.ensures.part)
 
 pub returns-in_err-put_columns-clause-part : goal.returns-in_err-put_columns-clause-part
 returns-in_err-put_columns-clause-part g c =
     let s = c.args.study.now in
     let firsts = c.args.picture.firsts.now in
-    let columns = columns_text firsts s in
-    let reasons = reasons_text firsts s.report.dropped.items in
+    let columns = columns_text firsts c.args.picture.dropped.now s in
     let links = links_text (link_edge (option_map (λ x. x.now) c.args.picture.names) firsts) s in
     let end = line (codes "}" ∷ []) in
     let old = g.W.Write.contents c.args.writer.now in
     let one = g.W.Write.contents c.put_head.new.writer in
     let two = g.W.Write.contents c.put_columns.new.writer in
-    always c.from_residual-in_err-put_columns.result (part_later old one two graph_head (columns ∷ reasons ∷ links ∷ end ∷ []) c.in_ok-put_head.ensures.ok (part_here one two columns (reasons ∷ links ∷ end ∷ []) c.in_err-put_columns.ensures.part))
-
-pub returns-in_err-put_reasons-clause-part : goal.returns-in_err-put_reasons-clause-part
-returns-in_err-put_reasons-clause-part g c =
-    let s = c.args.study.now in
-    let firsts = c.args.picture.firsts.now in
-    let columns = columns_text firsts s in
-    let reasons = reasons_text firsts s.report.dropped.items in
-    let links = links_text (link_edge (option_map (λ x. x.now) c.args.picture.names) firsts) s in
-    let end = line (codes "}" ∷ []) in
-    let old = g.W.Write.contents c.args.writer.now in
-    let one = g.W.Write.contents c.put_head.new.writer in
-    let two = g.W.Write.contents c.put_columns.new.writer in
-    let three = g.W.Write.contents c.put_reasons.new.writer in
-    let told : AppendsPart two three reasons = subst (λ (items : List Dropped). AppendsPart two three (reasons_text firsts items)) c.deref.ensures.value c.in_err-put_reasons.ensures.part in
-    always c.from_residual-in_err-put_reasons.result (part_later old one three graph_head (columns ∷ reasons ∷ links ∷ end ∷ []) c.in_ok-put_head.ensures.ok (part_later one two three columns (reasons ∷ links ∷ end ∷ []) c.in_ok-put_columns.ensures.ok (part_here two three reasons (links ∷ end ∷ []) told)))
+    always c.from_residual-in_err-put_columns.result (part_later old one two graph_head (columns ∷ links ∷ end ∷ []) c.in_ok-put_head.ensures.ok (part_here one two columns (links ∷ end ∷ []) c.in_err-put_columns.ensures.part))
 
 pub returns-in_err-put_all_links-clause-part : goal.returns-in_err-put_all_links-clause-part
 returns-in_err-put_all_links-clause-part g c =
     let s = c.args.study.now in
     let firsts = c.args.picture.firsts.now in
-    let columns = columns_text firsts s in
-    let reasons = reasons_text firsts s.report.dropped.items in
+    let columns = columns_text firsts c.args.picture.dropped.now s in
     let links = links_text (link_edge (option_map (λ x. x.now) c.args.picture.names) firsts) s in
     let end = line (codes "}" ∷ []) in
     let old = g.W.Write.contents c.args.writer.now in
     let one = g.W.Write.contents c.put_head.new.writer in
     let two = g.W.Write.contents c.put_columns.new.writer in
-    let three = g.W.Write.contents c.put_reasons.new.writer in
-    let four = g.W.Write.contents c.put_all_links.new.writer in
-    let told : Appends two three reasons = subst (λ (items : List Dropped). Appends two three (reasons_text firsts items)) c.deref.ensures.value c.in_ok-put_reasons.ensures.ok in
-    always c.from_residual-in_err-put_all_links.result (part_later old one four graph_head (columns ∷ reasons ∷ links ∷ end ∷ []) c.in_ok-put_head.ensures.ok (part_later one two four columns (reasons ∷ links ∷ end ∷ []) c.in_ok-put_columns.ensures.ok (part_later two three four reasons (links ∷ end ∷ []) told (part_here three four links (end ∷ []) c.in_err-put_all_links.ensures.part))))
+    let three = g.W.Write.contents c.put_all_links.new.writer in
+    always c.from_residual-in_err-put_all_links.result (part_later old one three graph_head (columns ∷ links ∷ end ∷ []) c.in_ok-put_head.ensures.ok (part_later one two three columns (links ∷ end ∷ []) c.in_ok-put_columns.ensures.ok (part_here two three links (end ∷ []) c.in_err-put_all_links.ensures.part)))
 
 pub returns-clause-ok : goal.returns-clause-ok
 returns-clause-ok g c =
     let s = c.args.study.now in
     let firsts = c.args.picture.firsts.now in
-    let columns = columns_text firsts s in
-    let reasons = reasons_text firsts s.report.dropped.items in
+    let columns = columns_text firsts c.args.picture.dropped.now s in
     let links = links_text (link_edge (option_map (λ x. x.now) c.args.picture.names) firsts) s in
     let end = line (codes "}" ∷ []) in
     let old = g.W.Write.contents c.args.writer.now in
     let one = g.W.Write.contents c.put_head.new.writer in
     let two = g.W.Write.contents c.put_columns.new.writer in
-    let three = g.W.Write.contents c.put_reasons.new.writer in
-    let four = g.W.Write.contents c.put_all_links.new.writer in
-    let five = g.W.Write.contents c.put_line.new.writer in
-    let told : Appends two three reasons = subst (λ (items : List Dropped). Appends two three (reasons_text firsts items)) c.deref.ensures.value c.in_ok-put_reasons.ensures.ok in
-    on_ok_weaker c.put_line.result (λ (last : Appends four five end). all_later old one five graph_head (columns ∷ reasons ∷ links ∷ end ∷ []) c.in_ok-put_head.ensures.ok (all_later one two five columns (reasons ∷ links ∷ end ∷ []) c.in_ok-put_columns.ensures.ok (all_later two three five reasons (links ∷ end ∷ []) told (all_later three four five links (end ∷ []) c.in_ok-put_all_links.ensures.ok (all_last four five end last))))) c.put_line.ensures.ok
+    let three = g.W.Write.contents c.put_all_links.new.writer in
+    let four = g.W.Write.contents c.put_line.new.writer in
+    on_ok_weaker c.put_line.result (λ (last : Appends three four end). all_later old one four graph_head (columns ∷ links ∷ end ∷ []) c.in_ok-put_head.ensures.ok (all_later one two four columns (links ∷ end ∷ []) c.in_ok-put_columns.ensures.ok (all_later two three four links (end ∷ []) c.in_ok-put_all_links.ensures.ok (all_last three four end last)))) c.put_line.ensures.ok
 
 pub returns-clause-part : goal.returns-clause-part
 returns-clause-part g c =
     let s = c.args.study.now in
     let firsts = c.args.picture.firsts.now in
-    let columns = columns_text firsts s in
-    let reasons = reasons_text firsts s.report.dropped.items in
+    let columns = columns_text firsts c.args.picture.dropped.now s in
     let links = links_text (link_edge (option_map (λ x. x.now) c.args.picture.names) firsts) s in
     let end = line (codes "}" ∷ []) in
     let old = g.W.Write.contents c.args.writer.now in
     let one = g.W.Write.contents c.put_head.new.writer in
     let two = g.W.Write.contents c.put_columns.new.writer in
-    let three = g.W.Write.contents c.put_reasons.new.writer in
-    let four = g.W.Write.contents c.put_all_links.new.writer in
-    let five = g.W.Write.contents c.put_line.new.writer in
-    let told : Appends two three reasons = subst (λ (items : List Dropped). Appends two three (reasons_text firsts items)) c.deref.ensures.value c.in_ok-put_reasons.ensures.ok in
-    on_err_weaker c.put_line.result (λ (last : AppendsPart four five end). part_later old one five graph_head (columns ∷ reasons ∷ links ∷ end ∷ []) c.in_ok-put_head.ensures.ok (part_later one two five columns (reasons ∷ links ∷ end ∷ []) c.in_ok-put_columns.ensures.ok (part_later two three five reasons (links ∷ end ∷ []) told (part_later three four five links (end ∷ []) c.in_ok-put_all_links.ensures.ok (part_here four five end [] last))))) c.put_line.ensures.part
+    let three = g.W.Write.contents c.put_all_links.new.writer in
+    let four = g.W.Write.contents c.put_line.new.writer in
+    on_err_weaker c.put_line.result (λ (last : AppendsPart three four end). part_later old one four graph_head (columns ∷ links ∷ end ∷ []) c.in_ok-put_head.ensures.ok (part_later one two four columns (links ∷ end ∷ []) c.in_ok-put_columns.ensures.ok (part_later two three four links (end ∷ []) c.in_ok-put_all_links.ensures.ok (part_here three four end [] last)))) c.put_line.ensures.part

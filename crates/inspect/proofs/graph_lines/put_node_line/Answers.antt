@@ -1,14 +1,24 @@
-use Rattle.std.proofs.Common.{ℕ, List, [], ◌∷◌, codes, subst, OnErr}
-use Rattle.std.specs.Fmt.{decimal}
-use Rattle.inspect.specs.Written.{AppendsPart}
-use Rattle.inspect.specs.Pieces.{line}
+use Rattle.std.specs.Prelude.{nat_le}
+use Rattle.std.proofs.KnownBytes.{Appends-trans}
+use Rattle.std.proofs.lemmas.Result.{on_ok_weaker, on_err_weaker}
+use Rattle.inspect.specs.GraphText.{node_front, node_end}
+use Rattle.inspect.proofs.PartLemmas.{always, part_first, part_second}
 use Rattle.inspect.proofs.graph_lines.put_node_line.Goals as goal
+
+pub returns-in_err-put_node_front-clause-part : goal.returns-in_err-put_node_front-clause-part
+returns-in_err-put_node_front-clause-part g c =
+    let front = node_front c.args.section in
+    let end = node_end c.args.why (nat_le c.args.section.id.number c.args.numbering.kept) in
+    always c.from_residual.result (part_first (g.W.Write.contents c.args.writer.now) (g.W.Write.contents c.put_node_front.new.writer) front end c.in_err-put_node_front.ensures.part)
+
+pub returns-clause-ok : goal.returns-clause-ok
+returns-clause-ok g c =
+    let front = node_front c.args.section in
+    let end = node_end c.args.why (nat_le c.args.section.id.number c.args.numbering.kept) in
+    on_ok_weaker c.put_node_end.result (Appends-trans (g.W.Write.contents c.args.writer.now) (g.W.Write.contents c.put_node_front.new.writer) (g.W.Write.contents c.put_node_end.new.writer) front end c.in_ok-put_node_front.ensures.ok) c.put_node_end.ensures.ok
 
 pub returns-clause-part : goal.returns-clause-part
 returns-clause-part g c =
-    let s = c.args.section in
-    subst (λ (text : List ℕ). OnErr c.put_line.result (AppendsPart (g.W.Write.contents c.args.writer.now) (g.W.Write.contents c.put_line.new.writer) text))
-    (λ i. line (codes "\"t" ∷ decimal (c.thread_number-thread.ensures i) ∷ codes "." ∷ decimal s.id.number
-    ∷ codes "\" [label=\"t" ∷ decimal (c.thread_number-thread.ensures i) ∷ codes " " ∷ decimal s.id.number ∷ codes "\\n"
-    ∷ c.state.ensures i ∷ codes ", " ∷ decimal s.records ∷ codes " records\"" ∷ c.style.ensures i ∷ codes "]" ∷ []))
-    c.put_line.ensures.part
+    let front = node_front c.args.section in
+    let end = node_end c.args.why (nat_le c.args.section.id.number c.args.numbering.kept) in
+    on_err_weaker c.put_node_end.result (part_second (g.W.Write.contents c.args.writer.now) (g.W.Write.contents c.put_node_front.new.writer) (g.W.Write.contents c.put_node_end.new.writer) front end c.in_ok-put_node_front.ensures.ok) c.put_node_end.ensures.part

@@ -1,7 +1,0 @@
-use Rattle.std.proofs.Common.{[]}
-use Rattle.session.specs.Sessions.{IsSessionOf, SameRing, view_of}
-use Rattle.drive.specs.Working.{HoldsJust}
-use Rattle.drive.proofs.working.work.Given as goal
-
-abbrev pub invariant-loop : goal.invariant-loop
-invariant-loop g l = IsSessionOf l.shared l.session × SameRing l.initial.session l.session × HoldsJust (view_of l.session) [] 0
