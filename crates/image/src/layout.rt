@@ -5,8 +5,11 @@ ghost use Rattle.image.specs.Layout.{IsLayout, IsLayoutOf, area_at, cell_at, gua
 use guards::Schema;
 use heap_model::{FieldId, LANES, LEAST_CAPACITY, Lane, MOST_CAPACITY, MOST_FIELDS, MOST_OBJECTS};
 
-// The header and the two slots of the control lie before the guard rows.
-const GUARDS_AT: u64 = 2160;
+/// The bytes of the header and of both slots of the control.
+pub const HEAD_BYTES: usize = 2160;
+
+// Where the guard rows begin.
+const GUARDS_AT: u64 = HEAD_BYTES as u64;
 
 const GUARD_BYTES: u64 = 16;
 

@@ -39,6 +39,6 @@ pub use lane_row::LaneRow;
 pub use laws::{
     empty_rows_law, fresh_law, place_law, reading_law, spelling_law, steady_law, survival_law,
 };
-pub use layout::Layout;
+pub use layout::{HEAD_BYTES, Layout};
 pub use recovered::{Recovered, RecoveredParts};
 pub use slot::Slot;

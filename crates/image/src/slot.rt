@@ -29,7 +29,7 @@ impl Slot {
     }
 
     /// Where the slot begins, with its gate.
-    pub(crate) fn start(self) -> u64
+    pub fn start(self) -> u64
         ensures { result ≡ slot_at self }
     {
         match self {
