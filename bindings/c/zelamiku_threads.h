@@ -164,7 +164,8 @@ ZELAMIKU_MUST_USE zelamiku_status zelamiku_heap_abandon(zelamiku_heap heap);
 
 /* Writes a copy of the heap, of a moment between two rounds, to the path: beside it, synced, and renamed over what is there. Threads go on
  * meanwhile. Opening the copy gives all that was durable when the call began.
- * DEVICE: the copy can't be written: what is at the path stays. NO_MEMORY. BUSY: the path is that of the heap itself. */
+ * DEVICE: the copy can't be written: what is at the path stays. So it is for each heap of zelamiku_heap_start, which has no file. NO_MEMORY.
+ * BUSY: a heap of that path is open, this one or another. */
 ZELAMIKU_MUST_USE zelamiku_status zelamiku_heap_copy(zelamiku_heap heap, const char *path);
 
 ZELAMIKU_MUST_USE zelamiku_status zelamiku_heap_stats(zelamiku_heap heap, zelamiku_stats *stats);
