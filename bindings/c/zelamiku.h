@@ -110,7 +110,7 @@ typedef struct {
 /* What a call answers. zelamiku_status_text has a text of each. */
 typedef enum {
     ZELAMIKU_OK = 0,
-    ZELAMIKU_NOTHING = 1,         /* nothing is behind the handle; or another call has it meanwhile, which none may */
+    ZELAMIKU_NOTHING = 1,         /* nothing is behind the handle, or a session that has ended */
     ZELAMIKU_OPEN = 2,            /* the handle that is to be opened has something behind it */
     ZELAMIKU_WRONG_KIND = 3,      /* a session where a heap is wanted, or a heap where a session is */
     ZELAMIKU_NO_MEMORY = 4,       /* there was no memory */

@@ -804,7 +804,7 @@ static void clear_place(heap *of, const zelamiku_plan *plan) {
 static heap *place_for(const char *path, const zelamiku_plan *plan, const char *call, zelamiku_status *status) {
     heap *of = new_place();
     if (of == NULL) {
-        *status = fail(path, ZELAMIKU_NONE_LEFT, 0, "256 heaps are open", "close one", "%s", call);
+        *status = fail(path, ZELAMIKU_NONE_LEFT, 0, "255 heaps are open", "close one", "%s", call);
         return NULL;
     }
     free(of->path);

@@ -48,7 +48,7 @@ typedef struct {
 } zelamiku_thread;
 
 enum {
-    ZELAMIKU_MOST_HEAPS = 256,     /* open at once in a process */
+    ZELAMIKU_MOST_HEAPS = 256,     /* one more than may be open at once in a process */
     ZELAMIKU_MOST_MESSAGE = 1024,  /* bytes of a message, with its end */
     ZELAMIKU_DEFAULT_LANES = 8,
     ZELAMIKU_DEFAULT_CAPACITY = 4096,
@@ -141,7 +141,7 @@ int zelamiku_heap_error(void);
  * file was replaced meanwhile. OTHER_HEAP: the file's heap isn't that of the plan: the report has the first difference. NOT_FORMATTED: the
  * file has something else. DEVICE: it can't be opened, made, locked, read or written: zelamiku_heap_error has the cause. These, and what
  * zelamiku_open and zelamiku_format answer, leave a file that was there as it was, but for DEVICE one that was free; and they leave no file
- * where there was none. NONE_LEFT: 256 heaps are open. NO_MEMORY: no memory, or no thread could be started. */
+ * where there was none. NONE_LEFT: 255 heaps are open. NO_MEMORY: no memory, or no thread could be started. */
 ZELAMIKU_MUST_USE zelamiku_status zelamiku_heap_open(zelamiku_heap *heap, const char *path, const zelamiku_plan *plan,
                                                      zelamiku_report *report);
 
@@ -164,7 +164,8 @@ ZELAMIKU_MUST_USE zelamiku_status zelamiku_heap_abandon(zelamiku_heap heap);
 
 /* Writes a copy of the heap, of a moment between two rounds, to the path: beside it, synced, and renamed over what is there. Threads go on
  * meanwhile. Opening the copy gives all that was durable when the call began.
- * DEVICE: the copy can't be written: what is at the path stays. NO_MEMORY. BUSY: the path is that of the heap itself. */
+ * DEVICE: the copy can't be written: what is at the path stays. So it is for each heap of zelamiku_heap_start, which has no file. NO_MEMORY.
+ * BUSY: a heap of that path is open, this one or another. */
 ZELAMIKU_MUST_USE zelamiku_status zelamiku_heap_copy(zelamiku_heap heap, const char *path);
 
 ZELAMIKU_MUST_USE zelamiku_status zelamiku_heap_stats(zelamiku_heap heap, zelamiku_stats *stats);

@@ -1,5 +1,5 @@
-//! Links the static library of the heap. `ZELAMIKU_LIBS` has the folder of `libzelamiku.a`, and of `liblibc_c.a` where that isn't in it
-//! (`tools/install` makes one archive of both). Without it pkg-config is asked.
+//! Links the static library of the heap, `libzelamiku.a` of `tools/c-library`: `ZELAMIKU_LIBS` has its folder. Where the kit's part isn't
+//! in it, `liblibc_c.a` lies beside it. Without the variable pkg-config is asked.
 use std::path::PathBuf;
 use std::process::Command;
 
@@ -18,8 +18,8 @@ fn main() {
     println!("cargo:rerun-if-env-changed=PKG_CONFIG_PATH");
     let Some(folder) = std::env::var_os("ZELAMIKU_LIBS").map(PathBuf::from).or_else(installed) else {
         println!(
-            "cargo:warning=set ZELAMIKU_LIBS to the folder that has libzelamiku.a: that of an installed library, or of one made by `rt \
-             lib` in crates/zelamiku beside liblibc_c.a from the Rattle kit's folder c"
+            "cargo:warning=set ZELAMIKU_LIBS to the folder that has libzelamiku.a: that of an installed library, or crates/zelamiku/out/host, \
+             where tools/c-library makes one"
         );
         println!("cargo:rustc-link-lib=static=zelamiku");
         return;

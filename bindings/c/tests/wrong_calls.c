@@ -525,7 +525,7 @@ static void full(void) {
         (void)snprintf(name, sizeof name, "many-%u", open_heaps);
         status = zelamiku_heap_open(&heaps[open_heaps], name, &small, NULL);
     }
-    look_at(status, ZELAMIKU_NONE_LEFT, "256 heaps are open; close one", "one heap too many", __LINE__);
+    look_at(status, ZELAMIKU_NONE_LEFT, "255 heaps are open; close one", "one heap too many", __LINE__);
     for (unsigned i = 0; i < open_heaps - 1; i++) MUST(zelamiku_heap_close(heaps[i]) == ZELAMIKU_OK);
 }
 

@@ -492,8 +492,8 @@ impl Heap {
     /// Writes a copy of the heap, of a moment between two rounds, to the path: written beside it, synced, and renamed over what is there.
     /// Threads go on meanwhile. Opening the copy gives all that was durable when the call began.
     ///
-    /// [`ErrorKind::Write`]: the copy can't be written, and what is at the path stays. [`ErrorKind::Refused`] by `Busy`: the path is the
-    /// heap's own. Each final kind.
+    /// [`ErrorKind::Write`]: the copy can't be written, and what is at the path stays. [`ErrorKind::Refused`] by `Busy`: a heap of
+    /// that path is open. Each final kind.
     ///
     /// ```
     /// # use zelamiku::service::Heap;
