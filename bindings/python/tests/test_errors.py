@@ -29,6 +29,10 @@ class Kinds(unittest.TestCase):
         self.assertIs(type(errors.for_status("some.heap", 34, also=errors.OPENING_KINDS)), zelamiku.Busy)
         self.assertIs(type(errors.for_status("a.copy", 32, also=errors.COPY_KINDS)), zelamiku.CopyFailed)
 
+    def test_a_monitor_that_is_worn_leaves_the_heap(self):
+        self.assertIs(type(errors.for_status("some.heap", 18, also=errors.MONITOR_KINDS)), zelamiku.Refused)
+        self.assertIs(type(errors.for_status("some.heap", 18)), zelamiku.Stopped)
+
     def test_the_cause_of_the_system_is_chained(self):
         error = errors.for_status("some.heap", 32, errno.ENOSPC, doing="it.balance")
         self.assertIs(type(error), zelamiku.WriteFailed)

@@ -214,6 +214,12 @@ OPENING_KINDS = {
 }
 
 
+# What they mean of a monitor.
+MONITOR_KINDS = {
+    18: Kind(Refused, "its monitor was taken 2^40 - 1 times, or the lane has had 2^62 records", "move the values to a new heap"),
+}
+
+
 # The same of a copy.
 COPY_KINDS = {
     32: Kind(CopyFailed, "the copy can't be written", "see the system's cause"),

@@ -1,7 +1,9 @@
 """An open heap of the library: its handle, and how what it answers becomes an exception."""
 from __future__ import annotations
 
-from .errors import Abandoned, Error, NotHeld, for_status
+from collections.abc import Mapping
+
+from .errors import MONITOR_KINDS, Abandoned, Error, Kind, NotHeld, for_status
 from .library import ABANDONED, DEVICE, LOST, NO_MEMORY, NOT_HELD, NOTHING, OK, Library
 from .plan import Plan
 
@@ -16,12 +18,12 @@ class Link:
         self._plan = plan
         self._reason = ""
 
-    def error(self, status: int, doing: str = "") -> Error:
+    def error(self, status: int, doing: str = "", also: Mapping[int, Kind] | None = None) -> Error:
         """The exception for what a call of this thread has just answered."""
         if status in (ABANDONED, NOTHING) and self._reason:
             return Abandoned(self.path, self._reason, "close the heap and open it again")
         has_cause = status in (NO_MEMORY, DEVICE, LOST)
-        return for_status(self.path, status, self.calls.heap_error() if has_cause else 0, doing=doing)
+        return for_status(self.path, status, self.calls.heap_error() if has_cause else 0, doing=doing, also=also)
 
     def field_error(self, status: int, field: int) -> Error:
         """The same of a call on a field."""
@@ -31,7 +33,7 @@ class Link:
     def object_error(self, status: int, number: int) -> Error:
         """The same of a call on an object's monitor."""
         name = self._plan.objects[number].name
-        return self._not_held(name, number) if status == NOT_HELD else self.error(status, name)
+        return self._not_held(name, number) if status == NOT_HELD else self.error(status, name, MONITOR_KINDS)
 
     def _not_held(self, name: str, guard: int) -> NotHeld:
         monitor = self._plan.objects[guard].name
