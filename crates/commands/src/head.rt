@@ -1,15 +1,14 @@
 //! The first bytes of a damaged image: its header and both slots of its control, each read by itself.
 ghost use Rattle.std.specs.Prelude.{◌≡◌, IfOk};
-ghost use Rattle.image.specs.Slots.{Chooses, slot_at};
+ghost use Rattle.image.specs.Slots.{Chooses};
 ghost use Rattle.commands.specs.Heads.{HoldsAlone, alone_of};
 
 use block_disk::{Disk, put};
 use file_disk::VolatileDisk;
-use image::{Control, ControlError, LaneRow, Layout, Slot, choose_control, read_header};
+use image::{
+    Control, ControlError, HEAD_BYTES, LaneRow, Layout, Slot, choose_control, read_header,
+};
 use std::alloc::{AllocError, Global};
-
-// The header and both slots lie before the guard rows (docs/FORMAT.md, "Image").
-const HEAD_BYTES: usize = 2160;
 
 /// What an image begins with, where its header can be read.
 #[derive(Clone, Copy)]
@@ -136,7 +135,7 @@ fn control_in(
     let Ok(mut bytes) = copy_of(alloc, head) else {
         return Err(ControlError::Fault);
     };
-    put(&mut bytes, gate_of(slot.other()), &[0]);
+    put(&mut bytes, slot.other().start(), &[0]);
     alone(chosen_in(layout, bytes))
 }
 
@@ -168,16 +167,6 @@ fn chosen_in(layout: &Layout, bytes: Vec<u8>) -> Result<(Slot, Control), Control
     let chosen = choose_control(&mut disk, layout);
     drop(disk);
     chosen
-}
-
-// Where the slot begins, with its gate.
-fn gate_of(slot: Slot) -> u64
-    ensures { result ≡ slot_at slot }
-{
-    match slot {
-        Slot::A => 64,
-        Slot::B => 1112,
-    }
 }
 
 fn name_of(slot: Slot) -> &'static str {

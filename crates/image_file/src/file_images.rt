@@ -428,23 +428,48 @@ fn target_of<R: Files>(
     }
 }
 
-// Opens and claims the file beside an image's path.
+// Opens and claims the file beside an image's path. One that was made for this goes again where it can't be claimed, but for one that
+// another process has claimed meanwhile.
 fn begin<F, R>(rt: &R, beside: &str, trouble: &Trouble) -> Result<F, FileFault>
 where
     F: BackingFile + OpenFile + Drop,
     R: Files<File = F>,
 {
-    let mut options = OpenOptions::new();
-    options.read(true).write(true).create(true);
-    match options.open(rt, beside) {
-        Ok(file) => match claim(rt, beside, &file, Place::Beside, trouble) {
-            Ok(()) => Ok(file),
-            Err(fault) => {
-                drop(file);
-                Err(fault)
+    let (file, is_made) = match open_beside(rt, beside) {
+        Ok(opened) => opened,
+        Err(error) => return Err(noted(Place::Beside, &error, trouble)),
+    };
+    match claim(rt, beside, &file, Place::Beside, trouble) {
+        Ok(()) => Ok(file),
+        Err(fault) => {
+            if is_made && fault != FileFault::InUse {
+                let _ = rt.remove_file(beside);
             }
-        },
-        Err(error) => Err(noted(Place::Beside, &error, trouble)),
+            drop(file);
+            Err(fault)
+        }
+    }
+}
+
+// The file at this path, and whether it was made for this.
+fn open_beside<F, R>(rt: &R, beside: &str) -> io::Result<(F, bool)>
+where
+    R: Files<File = F>,
+{
+    let mut options = OpenOptions::new();
+    options.read(true).write(true).create_new(true);
+    match options.open(rt, beside) {
+        Ok(file) => return Ok((file, true)),
+        Err(error) => {
+            if error.kind() != ErrorKind::AlreadyExists {
+                return Err(error);
+            }
+        }
+    }
+    options.create_new(false).create(true);
+    match options.open(rt, beside) {
+        Ok(file) => Ok((file, false)),
+        Err(error) => Err(error),
     }
 }
 

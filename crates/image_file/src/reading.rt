@@ -8,6 +8,7 @@ use crate::trouble::{Place, Trouble};
 use crate::watched::Watched;
 use file_disk::{BackingFile, Claim};
 use heap_model::{LANES, MOST_CAPACITY, MOST_FIELDS};
+use image::HEAD_BYTES;
 use sector_disk::Label;
 use sector_file::ImageBytes;
 use std::alloc::Global;
@@ -16,7 +17,9 @@ use std::io::{Chain, Cursor, Read, Take};
 use std::rt::Files;
 
 // How many bytes the image of the most and longest lanes and of the most fields has.
-const MOST_BYTES: u64 = 2160 + 24 * MOST_FIELDS as u64 + 16 * LANES as u64 * MOST_CAPACITY as u64;
+const MOST_BYTES: u64 = HEAD_BYTES as u64
+    + 24 * MOST_FIELDS as u64
+    + 16 * LANES as u64 * MOST_CAPACITY as u64;
 
 // An image file that is to be read: its header, which was read first, and what is behind it.
 type ImageReader<'a, F> = Chain<Cursor<Vec<u8>>, Take<ImageBytes<Watched<'a, F>>>>;

@@ -21,7 +21,7 @@ pub record IsMadeDurably (h : Home) (x : Session) (o : Order) (y : Session) : Ty
   pub moved : Session
   -- A request that is answered 200 has moved its amount in one section.
   pub has_moved : HasMoved h x o moved
-  -- Before a request is answered 200, its section is durable: no crash takes it back.
+  -- A request is answered 200 only once the helper has published its section, which then no crash takes back (`durable_law`).
   pub durable : IsDurable moved y
 
 -- the status that an order gets

@@ -16,13 +16,11 @@ monitors_of o = if nat_lt o.to o.from then (record { 0 = o.to }, record { 0 = o.
 abbrev pub balance_of : (account : ℕ) → FieldId
 balance_of n = record { 0 = n }
 
--- Both monitors were taken, and the one account's balance was read: it is this one.
-pub record HasRead (h : Home) (m : ObjectId × ObjectId) (x : Session) (o : Order) (balance : ℕ) (y : Session) : Type 0 where
+-- Both monitors were taken.
+pub record HasTaken (h : Home) (m : ObjectId × ObjectId) (x y : Session) : Type 0 where
   pub first : Session
   pub enters : WaitsToEnter h x first m.0 (Ok tt)
-  pub second : Session
-  pub enters_too : WaitsToEnter h first second m.1 (Ok tt)
-  pub reads : Loads h second y (balance_of o.from) (Ok balance)
+  pub enters_too : WaitsToEnter h first y m.1 (Ok tt)
 
 -- both were given back
 pub record HasLeft (h : Home) (m : ObjectId × ObjectId) (x y : Session) : Type 0 where
@@ -30,38 +28,45 @@ pub record HasLeft (h : Home) (m : ObjectId × ObjectId) (x y : Session) : Type 
   pub exits : Exits h x first m.1 (Ok tt)
   pub exits_too : Exits h first y m.0 (Ok tt)
 
--- The amount was moved in one section: under both monitors both balances were stored, and then both monitors were given back.
-pub record HasMovedUnder (h : Home) (m : ObjectId × ObjectId) (x : Session) (o : Order) (y : Session) : Type 0 where
+-- The amount was moved: both balances were stored.
+pub record HasStored (h : Home) (x : Session) (o : Order) (y : Session) : Type 0 where
   pub balance : ℕ
   pub read : Session
-  pub has_read : HasRead h m x o balance read
+  pub reads : Loads h x read (balance_of o.from) (Ok balance)
   -- A transfer that is made takes no more than the account had.
   pub enough : o.amount ≤ balance
   pub stored : Session
   pub takes : StoresAs h read stored (balance_of o.from) (balance - o.amount) (Ok tt)
   pub other : ℕ
   pub seen : Session
-  pub reads : Loads h stored seen (balance_of o.to) (Ok other)
-  pub done : Session
-  pub gives : StoresAs h seen done (balance_of o.to) ((other + o.amount) % 2 ^ 64) (Ok tt)
-  pub has_left : HasLeft h m done y
+  pub reads_other : Loads h stored seen (balance_of o.to) (Ok other)
+  pub gives : StoresAs h seen y (balance_of o.to) ((other + o.amount) % 2 ^ 64) (Ok tt)
 
 -- The balance was less than the amount, and nothing was stored.
-pub record HasTooLittleUnder (h : Home) (m : ObjectId × ObjectId) (x : Session) (o : Order) (y : Session) : Type 0 where
+pub record HasReadLess (h : Home) (x : Session) (o : Order) (y : Session) : Type 0 where
   pub balance : ℕ
-  pub read : Session
-  pub has_read : HasRead h m x o balance read
+  pub reads : Loads h x y (balance_of o.from) (Ok balance)
   -- A transfer is refused for its amount only where the account had less.
   pub less : balance < o.amount
-  pub has_left : HasLeft h m read y
+
+-- what was done under both monitors
+abbrev pub HasPaid : (h : Home) (x : Session) (o : Order) (y : Session) → Made → Type 0
+HasPaid h x o y Moved = HasStored h x o y
+HasPaid h x o y TooLittle = HasReadLess h x o y
+
+-- What has become of an order, in one section: both monitors were taken, then this was done, and then both were given back.
+pub record HasMadeUnder (h : Home) (m : ObjectId × ObjectId) (x : Session) (o : Order) (y : Session) (made : Made) : Type 0 where
+  pub taken : Session
+  pub has_taken : HasTaken h m x taken
+  pub done : Session
+  pub has_paid : HasPaid h taken o done made
+  pub has_left : HasLeft h m done y
+
+abbrev pub HasMade : (h : Home) (x : Session) (o : Order) (y : Session) → Made → Type 0
+HasMade h x o y made = HasMadeUnder h (monitors_of o) x o y made
 
 abbrev pub HasMoved : (h : Home) (x : Session) (o : Order) (y : Session) → Type 0
-HasMoved h x o y = HasMovedUnder h (monitors_of o) x o y
+HasMoved h x o y = HasMade h x o y Moved
 
 abbrev pub HasTooLittle : (h : Home) (x : Session) (o : Order) (y : Session) → Type 0
-HasTooLittle h x o y = HasTooLittleUnder h (monitors_of o) x o y
-
--- what has become of an order
-abbrev pub HasMade : (h : Home) (x : Session) (o : Order) (y : Session) → Made → Type 0
-HasMade h x o y Moved = HasMoved h x o y
-HasMade h x o y TooLittle = HasTooLittle h x o y
+HasTooLittle h x o y = HasMade h x o y TooLittle

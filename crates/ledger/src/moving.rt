@@ -1,6 +1,6 @@
 //! One transfer, as one section.
 ghost use Rattle.std.specs.Prelude.{◌≡◌, IfOk};
-ghost use Rattle.ledger.specs.Transfers.{HasMade, monitors_of};
+ghost use Rattle.ledger.specs.Transfers.{HasMade, HasPaid, monitors_of};
 
 use crate::order::Order;
 use heap_threads::{FieldId, HeapThread, Joint, ObjectId, SessionError};
@@ -18,7 +18,7 @@ pub enum Made {
 /// Moves the amount from the one account to the other, in one section, if the balance is no less. Both monitors are held over it, the
 /// lesser taken first.
 ///
-/// A refusal is that of a call of the thread; the monitor that was taken is given back. `from` and `to` differ.
+/// A refusal is that of a call of the thread; the monitors that were taken are given back. `from` and `to` differ.
 pub fn transfer<J: Joint, R: Wait>(
     rt: &R,
     thread: &mut HeapThread<'_, J>,
@@ -33,17 +33,23 @@ pub fn transfer<J: Joint, R: Wait>(
         let _ = thread.exit(least);
         return Err(refusal);
     }
+    let made = pay(thread, order);
+    thread.exit(other)?;
+    thread.exit(least)?;
+    made
+}
+
+// Moves the amount, under both monitors.
+fn pay<J: Joint>(thread: &mut HeapThread<'_, J>, order: Order) -> Result<Made, SessionError>
+    ensures { IfOk result (HasPaid J.home thread.old order thread.new) }
+{
     let left = thread.load(FieldId(order.from))?;
     if left < order.amount {
-        thread.exit(other)?;
-        thread.exit(least)?;
         return Ok(Made::TooLittle);
     }
     thread.store(FieldId(order.from), left - order.amount)?;
     let more = thread.load(FieldId(order.to))?;
     thread.store(FieldId(order.to), more.wrapping_add(order.amount))?;
-    thread.exit(other)?;
-    thread.exit(least)?;
     Ok(Made::Moved)
 }
 

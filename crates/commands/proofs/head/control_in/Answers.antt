@@ -9,7 +9,7 @@ pub returns : goal.returns
 returns c =
     let head = c.args.head.now in
     let room : 2160 ≤ length head = omega (arith, c.if-head-lt-HEAD_BYTES.false) in
-    let gate : c.gate_of.result ≡ slot_at (other c.args.slot) = c.gate_of.ensures ∙ ap slot_at c.other.ensures in
+    let gate : c.start.result ≡ slot_at (other c.args.slot) = c.start.ensures ∙ ap slot_at c.other.ensures in
     let copied : c.in-Ok.bytes.items ≡ head = c.in-Ok.ensures in
     let same : c.put.new.bytes.items ≡ shut head c.args.slot = c.put.ensures ∙ (λ i. spliced (copied i) (gate i) (0 ∷ [])) in
     subst (HoldsAlone c.args.layout.now head c.args.slot) (sym c.alone.ensures)
