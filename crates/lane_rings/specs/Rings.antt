@@ -6,8 +6,10 @@ use Rattle.rtrb.specs.Ring as items
 use Rattle.rtrb.specs.Ring.{SameProducer, SameConsumer, known_free, producer_capacity}
 use Rattle.rtrb.specs.declared.producer.Producer.{Producer}
 use Rattle.rtrb.specs.declared.consumer.Consumer.{Consumer}
+use Rattle.heap_model.specs.declared.limits.TheConstants.{RING_RECORDS}
 use Rattle.heap_model.specs.declared.record.Record.{Record}
 use Rattle.monitor.specs.Seats.{Sitting}
+use Rattle.lane_rings.specs.declared.ring_records.TheConstants.{MOST_RING_RECORDS}
 use Rattle.lane_rings.specs.declared.sent.Sent.{Sent}
 use Rattle.lane_rings.specs.declared.sent.Following.{Following}
 use Rattle.lane_rings.specs.Following.{Whose, greeted, logged_in, records_of, to_release, whose}
@@ -83,3 +85,8 @@ IsTold true of log told = (w : Sitting) × (told ≡ w ∷ []) × TellsLast of l
 pub record IsGreeted (c : Receiving) (is_told : Bool) : Type 0 where
   pub whose : (w : Whose) × (whose_received c ≡ Some w)
   pub told : IsTold is_told (whose_received c) (received c) c.told
+
+-- A ring may have room for so many records.
+pub record IsRingSize (records : ℕ) : Type 0 where
+  pub least : RING_RECORDS ≤ records
+  pub most : records ≤ MOST_RING_RECORDS

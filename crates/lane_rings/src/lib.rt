@@ -7,10 +7,12 @@
 
 mod opening;
 mod receiver;
+mod ring_records;
 mod sender;
 mod sent;
 
 pub use opening::open_ring;
 pub use receiver::Receiver;
+pub use ring_records::{MOST_RING_RECORDS, RingRecords};
 pub use sender::Sender;
 pub use sent::{Following, Sent};
