@@ -8,12 +8,12 @@ use Rattle.session.specs.declared.error.SessionError.{SessionError}
 use Rattle.session.specs.declared.error.SessionError.TheVariants.{UnknownObject, UnknownField, NotHeld, Behind, SectionFull, TooMany, TooDeep, NoFat, Worn, Held}
 use Rattle.heap_model.specs.declared.limits.TheConstants.{SECTION_RECORDS, LAST_PLACE}
 use Rattle.session.specs.declared.limits.TheConstants.{MOST_HELD}
-use Rattle.session.specs.Logs.{held_count, place}
+use Rattle.session.specs.Logs.{Rooms, held_count, place}
 use Rattle.session.specs.Calls.{IsNews, IsQuiet, IsFull, HasRing, Tries, Begins, GoesOn}
 use Rattle.session.proofs.Lengthening.{after_quiet, seen_later, thin_back}
 
 -- where the ring has room, and the reason is what a look or a try showed
-pub ring_tried : (c k f r : ℕ) (u v w : View) (o : ObjectId) (x : Result (Unit {0}) SessionError) → k ≤ f → MatchResult x (λ _. f ≤ r + 1) (λ _. f ≤ r) → Tries v w o x →
+pub ring_tried : (c : Rooms) (k f r : ℕ) (u v w : View) (o : ObjectId) (x : Result (Unit {0}) SessionError) → k ≤ f → MatchResult x (λ _. f ≤ r + 1) (λ _. f ≤ r) → Tries v w o x →
     MatchResult x (λ _. k ≤ r + 1) (HasRing c k r u w)
 ring_tried c k f r u v w o (Ok done) le same t = omega arith
 ring_tried c k f r u v w o (Err Worn) le same t = omega arith
@@ -28,7 +28,7 @@ ring_tried c k f r u v w o (Err TooDeep) le same t = absurd t
 ring_tried c k f r u v w o (Err NoFat) le same t = absurd t
 
 -- what was read since a later view was read since an earlier one
-pub ring_earlier : (c k r : ℕ) (u v w : View) (e : SessionError) → u.trimmed_looks ≤ v.trimmed_looks → HasRing c k r v w e → HasRing c k r u w e
+pub ring_earlier : (c : Rooms) (k r : ℕ) (u v w : View) (e : SessionError) → u.trimmed_looks ≤ v.trimmed_looks → HasRing c k r v w e → HasRing c k r u w e
 ring_earlier c k r u v w Behind le (inl short) = inl short
 ring_earlier c k r u v w Behind le (inr lane) = inr ((let read = lane.0 in omega arith), lane.1)
 ring_earlier c k r u v w UnknownObject le has = has
@@ -42,7 +42,7 @@ ring_earlier c k r u v w Worn le has = has
 ring_earlier c k r u v w (Held x) le has = has
 
 -- so of an answer
-pub leaves_earlier : (c k r : ℕ) (u v w : View) (x : Result (Unit {0}) SessionError) → u.trimmed_looks ≤ v.trimmed_looks → MatchResult x (λ _. k ≤ r + 1) (HasRing c k r v w) → MatchResult x (λ _. k ≤ r + 1) (HasRing c k r u w)
+pub leaves_earlier : (c : Rooms) (k r : ℕ) (u v w : View) (x : Result (Unit {0}) SessionError) → u.trimmed_looks ≤ v.trimmed_looks → MatchResult x (λ _. k ≤ r + 1) (HasRing c k r v w) → MatchResult x (λ _. k ≤ r + 1) (HasRing c k r u w)
 leaves_earlier c k r u v w (Ok done) le left = left
 leaves_earlier c k r u v w (Err e) le has = ring_earlier c k r u v w e le has
 
@@ -61,7 +61,7 @@ went_on v w o (Err TooDeep) a b t = absurd t
 went_on v w o (Err NoFat) a b t = absurd t
 
 -- where a section begins, with room below the trimmed place that was read
-pub began : (c : ℕ) (v u w : View) (o : ObjectId) (x : Result (Unit {0}) SessionError) → IsQuiet v u → place v + SECTION_RECORDS ≤ u.trimmed + c → place v < LAST_PLACE → Tries u w o x → Begins c v w o x
+pub began : (c : Rooms) (v u w : View) (o : ObjectId) (x : Result (Unit {0}) SessionError) → IsQuiet v u → place v + SECTION_RECORDS ≤ u.trimmed + c.lane → place v < LAST_PLACE → Tries u w o x → Begins c v w o x
 began c v u w o (Ok done) q fits low t = ((let r = t.2.trimmed in omega arith), low, (t.0, later t.0 t.1, after_quiet v u w _ q t.2))
   where
     later : (n : ℕ) → n < u.plan.last → n < v.plan.last

@@ -8,7 +8,7 @@ use Rattle.lock_word.specs.declared.lock_word.TheConstants.{FAT_SLOTS}
 use Rattle.steps.specs.Views.{View, Keeps, Fattens, IsHeld, slot_in}
 use Rattle.steps.specs.declared.grip.Grip.{Grip}
 use Rattle.session.specs.declared.error.SessionError.{SessionError}
-use Rattle.session.specs.Logs.{held_count}
+use Rattle.session.specs.Logs.{Rooms, held_count}
 use Rattle.session.specs.Sits.{Finds}
 use Rattle.session.specs.Calls.{IsFat, IsFatOrFull, Tries, OnlyLooks, EntersFirst, EntersWaiting}
 use Rattle.session.proofs.Lengthening.{hold_after, set_there, same_view}
@@ -38,7 +38,7 @@ tried_held v w o done t = (
 )
 
 -- what was taken is held
-pub entered_held : (c : ℕ) (v w : View) (o : ObjectId) (done : Unit {0}) → EntersFirst c v w o (Ok done) → IsHeld w o.0
+pub entered_held : (c : Rooms) (v w : View) (o : ObjectId) (done : Unit {0}) → EntersFirst c v w o (Ok done) → IsHeld w o.0
 entered_held c v w o done e = by_count (held_count v) refl
   where
     by_count : (n : ℕ) → held_count v ≡ n → IsHeld w o.0
@@ -46,9 +46,9 @@ entered_held c v w o done e = by_count (held_count v) refl
     by_count (suc n) is = tried_held v w o done (e.1 (omega arith)).2
 
 -- an enter that is answered without a wait
-pub at_once : (c : ℕ) (v w : View) (o : ObjectId) (x : Result (Unit {0}) SessionError) → EntersFirst c v w o x → EntersWaiting c v w o x
+pub at_once : (c : Rooms) (v w : View) (o : ObjectId) (x : Result (Unit {0}) SessionError) → EntersFirst c v w o x → EntersWaiting c v w o x
 at_once c v w o x e = record { looks = []; later = v; only = tt; told = same_view v; enters = e; fat = λ some. absurd (some refl) }
 
 -- and one behind looks
-pub waited : (c : ℕ) (v u w : View) (o : ObjectId) (x : Result (Unit {0}) SessionError) → OnlyLooks v u o → EntersFirst c u w o x → IfOk x (λ done. IsFatOrFull w o) → EntersWaiting c v w o x
+pub waited : (c : Rooms) (v u w : View) (o : ObjectId) (x : Result (Unit {0}) SessionError) → OnlyLooks v u o → EntersFirst c u w o x → IfOk x (λ done. IsFatOrFull w o) → EntersWaiting c v w o x
 waited c v u w o x seen e fat = record { looks = seen.0; later = u; only = seen.1; told = seen.2; enters = e; fat = λ some. fat }

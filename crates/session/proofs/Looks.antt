@@ -20,7 +20,7 @@ use Rattle.session.specs.declared.error.Still.TheVariants as still
 use Rattle.steps.specs.Views.{Lengthens, hold, miss_events}
 use Rattle.session.specs.Grips.{grip_in}
 use Rattle.session.specs.Sits.{Holds, FindsNone}
-use Rattle.session.specs.Logs.{held_count}
+use Rattle.session.specs.Logs.{Rooms, held_count}
 use Rattle.session.specs.Calls.{WaitsOn, AreLooks, OnlyLooks, SeesAnother, SeesChange, EntersFirst}
 use Rattle.session.proofs.Lengthening.{after_both, logs_after}
 use Rattle.session.proofs.Holding.{finds_none, free_found}
@@ -66,7 +66,7 @@ tried_looks v w o x (inl a) = (_, ((_, refl), tt), a.4.told)
 tried_looks v w o x (inr a) = (_, looks_append o (miss_events o x) (Look o (Found None 0 a.0) ∷ []) (miss_looks o x) ((_, refl), tt), a.4)
 
 -- a try that answers that the monitor is held
-pub held_looks : (c : ℕ) (v w : View) (o : ObjectId) (x : Seen) → EntersFirst c v w o (Err (Held x)) → OnlyLooks v w o
+pub held_looks : (c : Rooms) (v w : View) (o : ObjectId) (x : Seen) → EntersFirst c v w o (Err (Held x)) → OnlyLooks v w o
 held_looks c v w o x e = by_count (held_count v) refl
   where
     by_count : (n : ℕ) → held_count v ≡ n → OnlyLooks v w o
@@ -74,7 +74,7 @@ held_looks c v w o x e = by_count (held_count v) refl
     by_count (suc n) is = tried_looks v w o x (e.1 (omega arith)).2
 
 -- nothing was told after an enter
-pub quiet_enter : (c : ℕ) (u v w : View) (o : ObjectId) (done : Unit {0}) → EntersFirst c u v o (Ok done) → Lengthens v w [] → EntersFirst c u w o (Ok done)
+pub quiet_enter : (c : Rooms) (u v w : View) (o : ObjectId) (done : Unit {0}) → EntersFirst c u v o (Ok done) → Lengthens v w [] → EntersFirst c u w o (Ok done)
 quiet_enter c u v w o done e f = (
   λ none. (let b = e.0 none in ((let fits = b.0 in let r = f.trimmed in omega arith), b.1, (b.2.0, b.2.1, after_both u v w _ [] b.2.2 f))),
   λ some. (let b = e.1 some in (b.0, b.1, (b.2.0, b.2.1, after_both u v w _ [] b.2.2 f))),

@@ -262,11 +262,11 @@ pub sits_stay : (v : View) (gs : List Grip) (s : List Record) (free r p k c t : 
 sits_stay v gs s free r p k c t x awake clear = record { stays = x; idle = (awake, clear) }
 
 -- the helper is behind: by the ring, or by the lane
-pub behind_ring : (v w : View) (gs : List Grip) (s : List Record) (free r p k c t ring needed : ℕ) → Sits v gs s free r p k c t → Lengthens v w [] → ring ≡ RING_RECORDS → ring < length s + needed → IsBehind c needed w
-behind_ring v w gs s free r p k c t ring needed x told size lt = inl (let a = pushed_places v s r p k x.stays.told in let b = place_stays v w told in omega arith)
+pub behind_ring : (v w : View) (gs : List Grip) (s : List Record) (free r p k c t ring needed : ℕ) → Sits v gs s free r p k c t → Lengthens v w [] → ring < length s + needed → IsBehind (record { ring = ring; lane = c }) needed w
+behind_ring v w gs s free r p k c t ring needed x told lt = inl (let a = pushed_places v s r p k x.stays.told in let b = place_stays v w told in omega arith)
 
-pub behind_lane : (v w : View) (gs : List Grip) (s : List Record) (free r p k c t needed : ℕ) → Sits v gs s free r p k c t → Lengthens v w [] → w.trimmed + c < p + needed → IsBehind c needed w
-behind_lane v w gs s free r p k c t needed x told lt = inr (let a = x.stays.told.places in let b = place_stays v w told in omega arith)
+pub behind_lane : (v w : View) (gs : List Grip) (s : List Record) (free r p k c t ring needed : ℕ) → Sits v gs s free r p k c t → Lengthens v w [] → w.trimmed + c < p + needed → IsBehind (record { ring = ring; lane = c }) needed w
+behind_lane v w gs s free r p k c t ring needed x told lt = inr (let a = x.stays.told.places in let b = place_stays v w told in omega arith)
 
 pub fresh_quiet : (v w : View) (h : Hold) → Lengthens v w [] → (IsWaitWorn v h → ⊥) → IsWaitWorn w h → ⊥
 fresh_quiet v w h told fresh (inl a) = fresh (inl (let e = ap (λ k. k.last) told.plan in omega arith))

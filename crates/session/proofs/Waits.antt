@@ -13,10 +13,10 @@ use Rattle.session.specs.declared.waiting.Waiting.{Waiting}
 use Rattle.session.specs.declared.error.SessionError.{SessionError}
 use Rattle.session.specs.declared.error.SessionError.TheVariants.{UnknownObject, UnknownField, NotHeld, Behind, SectionFull, TooMany, TooDeep, NoFat, Worn, Held}
 use Rattle.steps.specs.Views.{Lengthens}
-use Rattle.session.specs.Logs.{held_count}
+use Rattle.session.specs.Logs.{Rooms, held_count}
 use Rattle.session.specs.Calls.{IsFull, HasRing, IsWaitWorn, LeavesRoom, RefusesWait, BeginsWait}
 use Rattle.session.specs.Steps.{RefusesFat}
-use Rattle.session.specs.Sessions.{SameRing, SameRingStill, view_of}
+use Rattle.session.specs.Sessions.{SameLane, SameRing, SameRingStill, rooms_in, rooms_of, view_of}
 use Rattle.session.specs.Keeping.{SameNumbers, HasRoomToWait, MayWait}
 use Rattle.session.proofs.Holding.{held_length}
 use Rattle.session.proofs.Fattening.{grip_fat}
@@ -44,15 +44,15 @@ room_for_wait : (s : Session) → HasRoomToWait s.parts → 1 < held_count (view
 room_for_wait s room several = not_full_by _ _ _ _ _ _ _ _ _ 2 s.sits (let n = held_length _ _ s.sits.stays.holds in room.short (omega arith))
 
 -- there is room for the wait, as an earlier view and a later one have it
-leaves_room : (v : View) (t : Session) (u : View) (c : ℕ) → Lengthens v (view_of t) [] → (view_of t).trimmed ≤ u.trimmed → t.parts.capacity ≡ c → HasRoomToWait t.parts → LeavesRoom c v u
+leaves_room : (v : View) (t : Session) (u : View) (c : Rooms) → Lengthens v (view_of t) [] → (view_of t).trimmed ≤ u.trimmed → rooms_of t ≡ c → HasRoomToWait t.parts → LeavesRoom c v u
 leaves_room v t u c f rises same room = (
   λ several full. room_for_wait t room (subst (λ (n : ℕ). 1 < n) (sym (held_stays _ _ f)) several) (full_again _ _ 2 f full),
-  λ one. (let n = held_length _ _ t.sits.stays.holds in let h = held_stays v (view_of t) f in let lane = room.lane (omega arith) in let k = t.sits.stays.known in let p = t.sits.stays.told.places in
+  λ one. (let wide = ap (λ (r : Rooms). r.lane) same in let n = held_length _ _ t.sits.stays.holds in let h = held_stays v (view_of t) f in let lane = room.lane (omega arith) in let k = t.sits.stays.known in let p = t.sits.stays.told.places in
       let e = place_stays v (view_of t) f in omega arith),
 )
 
 -- the answer of both tests
-pub wait_answer : (s t u : Session) (o : ObjectId) (h : Hold) (x : Result Grip SessionError) (c : ℕ) → Lengthens (view_of s) (view_of t) [] → Lengthens (view_of t) (view_of u) [] → t.parts.capacity ≡ c → HasRoomToWait t.parts →
+pub wait_answer : (s t u : Session) (o : ObjectId) (h : Hold) (x : Result Grip SessionError) (c : Rooms) → Lengthens (view_of s) (view_of t) [] → Lengthens (view_of t) (view_of u) [] → rooms_of t ≡ c → HasRoomToWait t.parts →
     MatchResult x (MayWait u o h) (RefusesFat (view_of t) (view_of u) o h) → MatchResult x (MayWait u o h) (RefusesWait c (view_of s) (view_of u) o h)
 wait_answer s t u o h (Ok g) c f k same room may = may
 wait_answer s t u o h (Err NoFat) c f k same room no_ = (leaves_room (view_of s) t (view_of u) c f k.trimmed same room, thin_back _ _ [] o f no_.0, no_.1, after_quiet _ _ _ [] f k)
@@ -71,7 +71,7 @@ wait_answer s t u o h (Err TooDeep) c f k same room no_ = absurd no_
 wait_answer s t u o h (Err (Held x)) c f k same room no_ = absurd no_
 
 -- where the ring has room for a wait that is refused
-pub ring_for : (c k r : ℕ) (u v w : View) (o : ObjectId) (h : Hold) (P : Grip → Type 0) (x : Result Grip SessionError) → k ≤ r → MatchResult x P (RefusesFat v w o h) → IfErr x (HasRing c k r u w)
+pub ring_for : (c : Rooms) (k r : ℕ) (u v w : View) (o : ObjectId) (h : Hold) (P : Grip → Type 0) (x : Result Grip SessionError) → k ≤ r → MatchResult x P (RefusesFat v w o h) → IfErr x (HasRing c k r u w)
 ring_for c k r u v w o h P (Ok g) le why = tt
 ring_for c k r u v w o h P (Err NoFat) le why = le
 ring_for c k r u v w o h P (Err Worn) le why = le
@@ -85,13 +85,17 @@ ring_for c k r u v w o h P (Err TooDeep) le why = absurd why
 ring_for c k r u v w o h P (Err (Held x)) le why = absurd why
 
 -- a wait is begun
-pub begun : (s t : Session) (w : View) (o : ObjectId) (h : Hold) (g : Grip) (c : ℕ) → Lengthens (view_of s) (view_of t) [] → t.parts.capacity ≡ c → MayWait t o h g → Lengthens (view_of t) w (Wait g.object g.number ∷ []) → BeginsWait c (view_of s) w o h
+pub begun : (s t : Session) (w : View) (o : ObjectId) (h : Hold) (g : Grip) (c : Rooms) → Lengthens (view_of s) (view_of t) [] → rooms_of t ≡ c → MayWait t o h g → Lengthens (view_of t) w (Wait g.object g.number ∷ []) → BeginsWait c (view_of s) w o h
 begun s t w o h g c f same may told = (
   leaves_room (view_of s) t w c f told.trimmed same may.room,
   λ worn. may.fresh (worn_again _ _ h f worn),
   subst (λ z. Lengthens (view_of s) w (Wait z h.number ∷ [])) may.found.object (subst (λ n. Lengthens (view_of s) w (Wait g.object n ∷ [])) may.number (after_quiet _ _ _ _ f told)),
   (let known = grip_fat (view_of t) o g may.fat.0 may.found.object may.found.keeps may.fat.1 in (known.0, told.fats o.0 known.0 known.1)),
 )
+
+-- the same room
+pub same_rooms : (p q : Parts) → SameLane p q → rooms_in q ≡ rooms_in p
+same_rooms p q same = λ i. record { ring = same.0.1 i; lane = same.1 i }
 
 -- the same ring twice
 pub ring_again : (s t u : Session) → SameRing s t → SameRing t u → SameRing s u

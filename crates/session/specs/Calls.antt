@@ -3,7 +3,7 @@
 use Rattle.std.specs.Prelude.{ℕ, ◌≡◌, ◌≢◌, ◌+◌, ◌<◌, ◌≤◌, ◌⊎◌, ◌↔◌, if◌then◌else◌, List, [], ◌∷◌, ◌++◌, Option, Some, None, true, Result, Ok, Err, Contains, IfErr, IfOk, IsErrAnd, MatchResult}
 use Rattle.std.specs.FinSet as set
 use Rattle.std.specs.Ordering.{nat_cmp}
-use Rattle.heap_model.specs.declared.limits.TheConstants.{SECTION_RECORDS, RING_RECORDS, LAST_PLACE}
+use Rattle.heap_model.specs.declared.limits.TheConstants.{SECTION_RECORDS, LAST_PLACE}
 use Rattle.heap_model.specs.declared.ids.ObjectId.{ObjectId}
 use Rattle.heap_model.specs.declared.ids.FieldId.{FieldId}
 use Rattle.heap_model.specs.declared.ids.Lane.{Lane}
@@ -34,8 +34,8 @@ use Rattle.session.specs.declared.error.Still.TheVariants as still
 use Rattle.session.specs.declared.limits.TheConstants.{MOST_HELD}
 use Rattle.session.specs.declared.session.Session.{Session}
 use Rattle.session.specs.declared.waiting.Waiting.{Waiting}
-use Rattle.session.specs.Logs.{held_count, place, section_records}
-use Rattle.session.specs.Sessions.{awaited, capacity_of, free_of, free_waiting, view_of, view_waiting}
+use Rattle.session.specs.Logs.{Rooms, held_count, place, section_records}
+use Rattle.session.specs.Sessions.{awaited, free_of, free_waiting, rooms_of, view_of, view_waiting}
 
 -- nothing is told
 abbrev pub IsQuiet : View → View → Type 0
@@ -43,23 +43,23 @@ IsQuiet v w = Lengthens v w []
 
 -- the helper is behind, as far as the view knows: so many records pass the ring with all that were sent, or the lane with those since
 -- the trimmed place
-abbrev pub IsBehind : (capacity needed : ℕ) → View → Type 0
-IsBehind c k w = (RING_RECORDS < place w + k) ⊎ (w.trimmed + c < place w + k)
+abbrev pub IsBehind : Rooms → (needed : ℕ) → View → Type 0
+IsBehind c k w = (c.ring < place w + k) ⊎ (w.trimmed + c.lane < place w + k)
 
 -- so many records more fit the lane, by the trimmed place that the view keeps
-abbrev pub Fits : (capacity more : ℕ) → View → View → Type 0
-Fits c k v w = place v + k ≤ w.trimmed + c
+abbrev pub Fits : Rooms → (more : ℕ) → View → View → Type 0
+Fits c k v w = place v + k ≤ w.trimmed + c.lane
 
 -- so many records, with those of the section and the releases that it needs now, pass 1,000
 abbrev pub IsFull : View → (more : ℕ) → Type 0
 IsFull v k = SECTION_RECORDS < section_records v + held_count v + k
 
 -- the lane lacks room for so many records, by the published place, which was read since
-abbrev pub LacksLane : (capacity needed : ℕ) → View → View → Type 0
-LacksLane c k v w = (v.trimmed_looks < w.trimmed_looks) × (w.trimmed + c < place w + k)
+abbrev pub LacksLane : Rooms → (needed : ℕ) → View → View → Type 0
+LacksLane c k v w = (v.trimmed_looks < w.trimmed_looks) × (w.trimmed + c.lane < place w + k)
 
 -- so many slots of the ring are known to be free; where the reason is that the helper is behind, they aren't, or the lane lacks the room
-abbrev pub HasRing : (capacity needed free : ℕ) → View → View → SessionError → Type 0
+abbrev pub HasRing : Rooms → (needed free : ℕ) → View → View → SessionError → Type 0
 HasRing c k r v w Behind = (r < k) ⊎ LacksLane c k v w
 HasRing c k r v w _ = k ≤ r
 
@@ -135,7 +135,7 @@ abbrev pub TriesFirst : View → View → ObjectId → Result (Unit {0}) Session
 TriesFirst v w o x = (place v < LAST_PLACE) × Tries v w o x
 
 -- an enter that would begin a section
-abbrev pub Begins : (capacity : ℕ) → View → View → ObjectId → Result (Unit {0}) SessionError → Type 0
+abbrev pub Begins : Rooms → View → View → ObjectId → Result (Unit {0}) SessionError → Type 0
 Begins c v w o (Err Behind) = IsBehind c SECTION_RECORDS w × IsQuiet v w
 Begins c v w o (Ok done) = Fits c SECTION_RECORDS v w × (place v < LAST_PLACE) × Tries v w o (Ok done)
 Begins c v w o (Err Worn) = Fits c SECTION_RECORDS v w × (HasNoPlace v w ⊎ TriesFirst v w o (Err Worn))
@@ -177,7 +177,7 @@ abbrev pub IsWaitWorn : View → Hold → Type 0
 IsWaitWorn v h = (v.plan.last ≤ h.number + 1) ⊎ ((held_count v ≡ 1) × (LAST_PLACE ≤ place v + 1))
 
 -- there is room for a wait: in the section where it goes on, or in the lane for the next one
-abbrev pub LeavesRoom : (capacity : ℕ) → View → View → Type 0
+abbrev pub LeavesRoom : Rooms → View → View → Type 0
 LeavesRoom c v w = (1 < held_count v → ¬ IsFull v 2) × (held_count v ≡ 1 → Fits c (SECTION_RECORDS + 1) v w)
 
 -- the monitor is fat, or a slot was left at the last look
@@ -189,7 +189,7 @@ abbrev pub IsFatOrFull : View → ObjectId → Type 0
 IsFatOrFull w o = IsFat w o ⊎ (FAT_SLOTS ≤ w.slots)
 
 -- why a wait on a monitor that is held is refused
-abbrev pub RefusesWait : (capacity : ℕ) → View → View → ObjectId → Hold → SessionError → Type 0
+abbrev pub RefusesWait : Rooms → View → View → ObjectId → Hold → SessionError → Type 0
 RefusesWait c v w o h Behind = (held_count v ≡ 1) × IsBehind c (SECTION_RECORDS + 1) w × IsQuiet v w
 RefusesWait c v w o h SectionFull = (1 < held_count v) × IsFull v 2 × IsQuiet v w
 RefusesWait c v w o h NoFat = LeavesRoom c v w × IsThin v o × (FAT_SLOTS ≤ w.slots) × IsQuiet v w
@@ -197,7 +197,7 @@ RefusesWait c v w o h Worn = LeavesRoom c v w × MayBeFat w o × IsWaitWorn v h 
 RefusesWait c v w o h _ = ⊥
 
 -- a wait that is begun, on a monitor that is fat from then on
-abbrev pub BeginsWait : (capacity : ℕ) → View → View → ObjectId → Hold → Type 0
+abbrev pub BeginsWait : Rooms → View → View → ObjectId → Hold → Type 0
 BeginsWait c v w o h = LeavesRoom c v w × (¬ IsWaitWorn v h) × Lengthens v w (Wait o h.number ∷ []) × IsFat w o
 
 -- a resume that takes the monitor again
@@ -219,22 +219,22 @@ abbrev pub OnlyLooks : View → View → ObjectId → Type 0
 OnlyLooks v w o = (looks : List Event) × AreLooks o looks × Lengthens v w looks
 
 -- an enter of a monitor that isn't held
-abbrev pub EntersFirst : (capacity : ℕ) → View → View → ObjectId → Result (Unit {0}) SessionError → Type 0
+abbrev pub EntersFirst : Rooms → View → View → ObjectId → Result (Unit {0}) SessionError → Type 0
 EntersFirst c v w o x = (held_count v ≡ 0 → Begins c v w o x) × (0 < held_count v → GoesOn v w o x)
 
 -- looks, and then such an enter
-abbrev pub EntersLater : (capacity : ℕ) → View → View → ObjectId → Result (Unit {0}) SessionError → Type 0
+abbrev pub EntersLater : Rooms → View → View → ObjectId → Result (Unit {0}) SessionError → Type 0
 EntersLater c v w o x = (u : View) × OnlyLooks v u o × EntersFirst c u w o x
 
 -- An enter of a monitor that isn't held, which waits where another thread was seen to have it: looks, and then the enter that
 -- is answered. A monitor that was taken after looks is left fat, where a slot is left.
-pub record EntersWaiting (capacity : ℕ) (v w : View) (o : ObjectId) (x : Result (Unit {0}) SessionError) : Type 0 where
+pub record EntersWaiting (c : Rooms) (v w : View) (o : ObjectId) (x : Result (Unit {0}) SessionError) : Type 0 where
   -- the looks, the newest first, and the view after them
   pub looks : List Event
   pub later : View
   pub only : AreLooks o looks
   pub told : Lengthens v later looks
-  pub enters : EntersFirst capacity later w o x
+  pub enters : EntersFirst c later w o x
   -- A monitor that an enter took after it had met another thread is fat then, or no slot was left.
   pub fat : looks ≢ [] → IfOk x (λ done. IsFatOrFull w o)
 
@@ -244,7 +244,7 @@ IsSettled (Err (Held x)) = ⊥
 IsSettled _ = Unit {0}
 
 -- a wait that has come back: it was begun, then there were looks, and then the resume
-abbrev pub Waits : (capacity : ℕ) → View → View → ObjectId → Hold → Type 0
+abbrev pub Waits : Rooms → View → View → ObjectId → Hold → Type 0
 Waits c v w o h = (t : View) × (u : View) × BeginsWait c v t o h × OnlyLooks t u o × Resumes u w o
 
 -- it is refused for this, and nothing was told
@@ -264,7 +264,7 @@ Lacks x o = hold (view_of x) o.0 ≡ None
 
 -- the ring has room for all records of the section that has begun, or that is why none begins
 abbrev pub LeavesRing : Session → Session → Result (Unit {0}) SessionError → Type 0
-LeavesRing x y r = MatchResult r (λ _. SECTION_RECORDS ≤ free_of y + 1) (HasRing (capacity_of x) SECTION_RECORDS (free_of y) (view_of x) (view_of y))
+LeavesRing x y r = MatchResult r (λ _. SECTION_RECORDS ≤ free_of y + 1) (HasRing (rooms_of x) SECTION_RECORDS (free_of y) (view_of x) (view_of y))
 
 -- An enter: one lock more of a monitor that is held, or a first lock, which begins a section where none was held.
 pub record Enters (h : Home) (x y : Session) (o : ObjectId) (r : Result (Unit {0}) SessionError) : Type 0 where
@@ -275,7 +275,7 @@ pub record Enters (h : Home) (x y : Session) (o : ObjectId) (r : Result (Unit {0
   pub again : (k : Hold) → o.0 < (plan h).objects → Owns x o k → EntersAgain (view_of x) (view_of y) o k r
   -- A first enter is refused as `Held` only where a look showed another thread's hold, or a try found another word than
   -- the free one that the look had shown. So a monitor that stays free isn't refused again and again.
-  pub first : o.0 < (plan h).objects → Lacks x o → EntersFirst (capacity_of x) (view_of x) (view_of y) o r
+  pub first : o.0 < (plan h).objects → Lacks x o → EntersFirst (rooms_of x) (view_of x) (view_of y) o r
   -- An enter that would begin a section is refused as `Behind` only where the ring isn't known to have the room, or the
   -- lane lacks it by the published place, read in this call. Any other answer comes with room in the ring.
   pub ring_room : o.0 < (plan h).objects → Lacks x o → held_count (view_of x) ≡ 0 → LeavesRing x y r
@@ -287,7 +287,7 @@ pub record WaitsToEnter (h : Home) (x y : Session) (o : ObjectId) (r : Result (U
   pub settled : IsSettled r
   pub unknown : (plan h).objects ≤ o.0 → Refuses x y error.UnknownObject r
   pub again : (k : Hold) → o.0 < (plan h).objects → Owns x o k → EntersAgain (view_of x) (view_of y) o k r
-  pub first : o.0 < (plan h).objects → Lacks x o → EntersWaiting (capacity_of x) (view_of x) (view_of y) o r
+  pub first : o.0 < (plan h).objects → Lacks x o → EntersWaiting (rooms_of x) (view_of x) (view_of y) o r
   pub ring_room : o.0 < (plan h).objects → Lacks x o → held_count (view_of x) ≡ 0 → LeavesRing x y r
 
 -- An exit: one lock less, and with the last one the monitor is free.
@@ -374,12 +374,12 @@ ComesBack x why r = IsErrAnd r (λ e. (e.1 ≡ why) × IsQuiet (view_of x) (view
 
 -- a wait on a monitor that is held: it is begun, or the session comes back with the reason
 abbrev pub AsksHeld : Session → ObjectId → Hold → Result Waiting (Session × SessionError) → Type 0
-AsksHeld x o k (Ok w) = (awaited w ≡ o) × BeginsWait (capacity_of x) (view_of x) (view_waiting w) o k
-AsksHeld x o k (Err e) = RefusesWait (capacity_of x) (view_of x) (view_of e.0) o k e.1
+AsksHeld x o k (Ok w) = (awaited w ≡ o) × BeginsWait (rooms_of x) (view_of x) (view_waiting w) o k
+AsksHeld x o k (Err e) = RefusesWait (rooms_of x) (view_of x) (view_of e.0) o k e.1
 
 -- the ring of the session that comes back has room for a wait and the section behind it, or that is the reason
 abbrev pub HasRingToWait : Session → Session × SessionError → Type 0
-HasRingToWait x e = HasRing (capacity_of x) (SECTION_RECORDS + 1) (free_of e.0) (view_of x) (view_of e.0) e.1
+HasRingToWait x e = HasRing (rooms_of x) (SECTION_RECORDS + 1) (free_of e.0) (view_of x) (view_of e.0) e.1
 
 -- the ring has room for the section behind the wait, or says why there is no wait
 abbrev pub LeavesRingToWait : Session → Result Waiting (Session × SessionError) → Type 0
@@ -403,8 +403,8 @@ AsksToResume w (Err e) = (awaited e.0 ≡ awaited w) × WaitsOn (view_waiting w)
 
 -- a wait from its beginning to its end, on a monitor that is held; or the session comes back with the reason
 abbrev pub WaitsHeld : Session → ObjectId → Hold → Result Session (Session × SessionError) → Type 0
-WaitsHeld x o k (Ok y) = Waits (capacity_of x) (view_of x) (view_of y) o k
-WaitsHeld x o k (Err e) = RefusesWait (capacity_of x) (view_of x) (view_of e.0) o k e.1
+WaitsHeld x o k (Ok y) = Waits (rooms_of x) (view_of x) (view_of y) o k
+WaitsHeld x o k (Err e) = RefusesWait (rooms_of x) (view_of x) (view_of e.0) o k e.1
 
 -- A wait, from its beginning to its end.
 pub record WaitsFor (h : Home) (x : Session) (o : ObjectId) (r : Result Session (Session × SessionError)) : Type 0 where

@@ -20,7 +20,7 @@ use Rattle.session.specs.declared.waiting.Waiting.{Waiting}
 use Rattle.session.specs.Sits.{Finds, FindsNone}
 use Rattle.session.specs.Calls.{HasRingToWait, IsQuiet, IsWaitWorn, Lacks, Owns, RefusesWait, SeesTaken}
 use Rattle.session.specs.Logs.{held_count}
-use Rattle.session.specs.Sessions.{awaited, capacity_of, view_of, view_waiting}
+use Rattle.session.specs.Sessions.{awaited, rooms_of, view_of, view_waiting}
 use Rattle.session.specs.Steps.{MissesResume, RefusesFat, RefusesRoom}
 
 -- the hold that a grip is of
@@ -63,7 +63,7 @@ MakesFat t g x = MatchOption x (FAT_SLOTS ≤ (view_of t).slots) (λ fat. Fatten
 
 -- whether there is room for a wait: `s` is the session before the test, and `t` after it
 abbrev pub FindsRoom : (s t : Session) → Result (Unit {0}) SessionError → Type 0
-FindsRoom s t x = MatchResult x (λ _. HasRoomToWait t.parts) (RefusesRoom (capacity_of s) (view_of s) (view_of t))
+FindsRoom s t x = MatchResult x (λ _. HasRoomToWait t.parts) (RefusesRoom (rooms_of s) (view_of s) (view_of t))
 
 -- the fat grip by which the session may wait, or the reason
 abbrev pub FindsFat : (s t : Session) → Grip → Result Grip SessionError → Type 0
@@ -75,7 +75,7 @@ LooksAtRing s t x = held_count (view_of s) ≡ 1 → IfErr x (λ e. HasRingToWai
 
 -- both tests
 abbrev pub PreparesWait : (s t : Session) → ObjectId → Hold → Result Grip SessionError → Type 0
-PreparesWait s t o h x = MatchResult x (MayWait t o h) (RefusesWait (capacity_of s) (view_of s) (view_of t) o h)
+PreparesWait s t o h x = MatchResult x (MayWait t o h) (RefusesWait (rooms_of s) (view_of s) (view_of t) o h)
 
 -- Both tests on a monitor, whether it is held or not: the refusals in their order, and nothing was told.
 pub record AsksForGrip (h : Home) (s t : Session) (o : ObjectId) (x : Result Grip SessionError) : Type 0 where

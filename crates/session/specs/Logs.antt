@@ -37,3 +37,11 @@ place v = length (log_in v)
 -- how many of its sections have ended
 abbrev pub sections_ended : View → ℕ
 sections_ended v = sections.sections_in v.plan v.events
+
+-- How many records a lane's ring has room for, and how many the lane's area on the device.
+pub record Rooms : Type 0 where
+  pub ring : ℕ
+  pub lane : ℕ
+
+abbrev pub rooms : (ring lane : ℕ) → Rooms
+rooms ring lane = record { ring = ring; lane = lane }

@@ -1,6 +1,6 @@
 -- What a contract sees of a session, of one that waits, and of one that has ended.
 use Rattle.std.specs.Prelude.{ℕ, ◌≡◌, ◌+◌, ◌≤◌}
-use Rattle.rtrb.specs.Ring.{SameProducer, known_free}
+use Rattle.rtrb.specs.Ring.{SameProducer, known_free, producer_capacity}
 use Rattle.lane_rings.specs.Rings.{Sending}
 use Rattle.heap_model.specs.declared.limits.TheConstants.{SECTION_RECORDS}
 use Rattle.heap_model.specs.declared.ids.ObjectId.{ObjectId}
@@ -10,7 +10,7 @@ use Rattle.session.specs.declared.parts.Parts.{Parts}
 use Rattle.session.specs.declared.session.Session.{Session}
 use Rattle.session.specs.declared.waiting.Waiting.{Waiting}
 use Rattle.session.specs.declared.ended.Ended.{Ended}
-use Rattle.session.specs.Logs.{place, section_records}
+use Rattle.session.specs.Logs.{Rooms, rooms, place, section_records}
 
 -- what the session's seat knows: its view
 abbrev pub view_of : Session → View
@@ -29,6 +29,13 @@ seat_waiting w = w.parts.seat
 -- how many records its lane holds
 abbrev pub capacity_of : Session → ℕ
 capacity_of s = s.parts.capacity
+
+-- the room of its ring and of its lane
+abbrev pub rooms_in : Parts → Rooms
+rooms_in p = rooms (producer_capacity p.ring) p.capacity
+
+abbrev pub rooms_of : Session → Rooms
+rooms_of s = rooms_in s.parts
 
 -- its end of the ring to the helper
 abbrev pub ring_of : Session → Sending

@@ -9,11 +9,11 @@ use Rattle.session.specs.declared.error.SessionError.{SessionError}
 use Rattle.session.specs.declared.error.SessionError.TheVariants.{Behind, SectionFull, NoFat, Worn}
 use Rattle.session.specs.declared.error.Still.{Still}
 use Rattle.session.specs.declared.error.Still.TheVariants as still
-use Rattle.session.specs.Logs.{held_count}
+use Rattle.session.specs.Logs.{Rooms, held_count}
 use Rattle.session.specs.Calls.{IsBehind, IsFatSeen, IsFull, IsThin, MayBeFat, IsWaitWorn}
 
 -- why there is no room for a wait
-abbrev pub RefusesRoom : (capacity : ℕ) → View → View → SessionError → Type 0
+abbrev pub RefusesRoom : Rooms → View → View → SessionError → Type 0
 RefusesRoom c v w Behind = (held_count v ≡ 1) × IsBehind c (SECTION_RECORDS + 1) w
 RefusesRoom c v w SectionFull = (1 < held_count v) × IsFull v 2
 RefusesRoom c v w _ = ⊥

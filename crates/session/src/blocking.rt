@@ -15,7 +15,7 @@ impl Session {
     ghost use Rattle.steps.specs.Views.{plan, IsHeld};
     ghost use Rattle.session.specs.Logs.{held_count};
     ghost use Rattle.session.specs.Calls.{IsQuiet, EntersLater, EntersWaiting, IsFatOrFull, IsSettled, LeavesRing, WaitsFor, WaitsToEnter};
-    ghost use Rattle.session.specs.Sessions.{SameRing, IsSessionOf, view_of, capacity_of, free_of};
+    ghost use Rattle.session.specs.Sessions.{SameRing, IsSessionOf, view_of, rooms_of, free_of};
 
     /// Takes the monitor, or one lock more of it, and waits while another thread holds it (JLS 17.1). After such a wait it makes
     /// the monitor fat, if it is thin and a slot is left.
@@ -59,7 +59,7 @@ impl Session {
         ensures seat { IsSessionOf shared.now self.new }
         ensures ring { SameRing self.old self.new }
         ensures settled { IsSettled result }
-        ensures first { EntersWaiting (capacity_of self.old) (view_of self.old) (view_of self.new) object result }
+        ensures first { EntersWaiting (rooms_of self.old) (view_of self.old) (view_of self.new) object result }
         ensures ring_room { held_count (view_of self.old) ≡ 0 → LeavesRing self.old self.new result }
     {
         match self.enter_first(shared, object) {
@@ -84,7 +84,7 @@ impl Session {
         ensures seat { IsSessionOf shared.now self.new }
         ensures ring { SameRing self.old self.new }
         ensures settled { IsSettled result }
-        ensures first { EntersLater (capacity_of self.old) (view_of self.old) (view_of self.new) object result }
+        ensures first { EntersLater (rooms_of self.old) (view_of self.old) (view_of self.new) object result }
         ensures fat { IfOk result (λ done. IsFatOrFull (view_of self.new) object) }
         ensures ring_room { held_count (view_of self.old) ≡ 0 → LeavesRing self.old self.new result }
     {

@@ -20,7 +20,7 @@ impl Session {
     ghost use Rattle.session.specs.Logs.{held_count};
     ghost use Rattle.session.specs.Calls.{IsQuiet, IsLastingHeld, Tries, Begins, LeavesRing, Enters, EntersAgain, EntersFirst};
     ghost use Rattle.session.specs.Keeping.{HasGrip, HasNoGrip, MakesFat, SameNumbers, hold_of};
-    ghost use Rattle.session.specs.Sessions.{SameRing, IsSessionOf, view_of, capacity_of, free_of};
+    ghost use Rattle.session.specs.Sessions.{SameRing, IsSessionOf, view_of, rooms_of, free_of};
 
     /// Takes the monitor, or one lock more of it (JLS 17.1). It looks once and, where that showed the monitor free, tries
     /// once; a lock more is one store. A first lock begins a section where nothing was held.
@@ -116,7 +116,7 @@ impl Session {
         requires free { HasNoGrip self.old object }
         ensures seat { IsSessionOf shared.now self.new }
         ensures ring { SameRing self.old self.new }
-        ensures first { EntersFirst (capacity_of self.old) (view_of self.old) (view_of self.new) object result }
+        ensures first { EntersFirst (rooms_of self.old) (view_of self.old) (view_of self.new) object result }
         ensures ring_room { held_count (view_of self.old) ≡ 0 → LeavesRing self.old self.new result }
         ensures lasting { IfErr result (IsLastingHeld (view_of self.new) object) }
     {
@@ -144,7 +144,7 @@ impl Session {
         requires empty { self.old.parts.held.items ≡ [] }
         ensures seat { IsSessionOf shared.now self.new }
         ensures ring { SameRing self.old self.new }
-        ensures begins { Begins (capacity_of self.old) (view_of self.old) (view_of self.new) object result }
+        ensures begins { Begins (rooms_of self.old) (view_of self.old) (view_of self.new) object result }
         ensures ring_room { LeavesRing self.old self.new result }
         ensures lasting { IfErr result (IsLastingHeld (view_of self.new) object) }
     {

@@ -1,6 +1,6 @@
 //! A session: one thread's use of the heap.
 
-ghost use Rattle.std.specs.Prelude.{◌≡◌, Some};
+ghost use Rattle.std.specs.Prelude.{◌≡◌, ◌≤◌, Some};
 ghost use Rattle.rtrb.specs.Ring.{producer_capacity};
 ghost use Rattle.heap_model.specs.declared.limits.TheConstants.{RING_RECORDS};
 ghost use Rattle.lane_rings.specs.Following.{whose};
@@ -19,6 +19,6 @@ use crate::parts::Parts;
 pub struct Session {
     pub(crate) parts: Parts,
     ghost sits: { SitsIn parts } by { Prim.hlevel kept_props },
-    ghost sized: { producer_capacity parts.ring ≡ RING_RECORDS },
+    ghost sized: { RING_RECORDS ≤ producer_capacity parts.ring },
     ghost owned: { whose_ring parts.ring ≡ Some (whose parts.seat) } by { Prim.hlevel kept_props },
 }

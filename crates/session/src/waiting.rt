@@ -37,6 +37,6 @@ pub struct Waiting {
     ghost named: { IsSlot (view parts.seat) object (Some slot) } by { Prim.hlevel kept_props },
     ghost gone_from: { removed ≡ true → IsRemoved (view parts.seat) object } by { Prim.hlevel kept_props },
     ghost still_in: { removed ≡ false → IsClear (view parts.seat) } by { Prim.hlevel kept_props },
-    ghost sized: { producer_capacity parts.ring ≡ RING_RECORDS },
+    ghost sized: { RING_RECORDS ≤ producer_capacity parts.ring },
     ghost owned: { whose_ring parts.ring ≡ Some (whose parts.seat) } by { Prim.hlevel kept_props },
 }

@@ -2,13 +2,14 @@ use Rattle.std.proofs.Common.{List, [], ◌∷◌, ◌++◌, append_assoc, appen
 use Rattle.std.proofs.lemmas.List.Elements.{All-nil, All-cons}
 use Rattle.monitor.specs.Seats.{Sitting}
 use Rattle.session.specs.Sessions.{IsSessionOf, seat_of}
+use Rattle.session.specs.Logs.{rooms}
 use Rattle.session.specs.Opened.{AreFresh, AreOpened}
 use Rattle.session.proofs.Owning.{seat_same}
 use Rattle.session.proofs.Seating.{given_fresh, fresh_last}
-use Rattle.session.proofs.opening.open_sessions.Goals as goal
+use Rattle.session.proofs.opening.open_sessions_with.Goals as goal
 
 pub seats-init : goal.seats-init
-seats-init c = let k = c.args.capacity in record {
+seats-init c = let k = rooms c.args.ring c.args.capacity in record {
   fresh = given_fresh c.args.shared.now c.args.seats.items c.requires.fresh.0 c.requires.heap c.requires.fresh.1;
   heap = subst (All (IsSessionOf c.args.shared.now)) (sym c.new-sessions.ensures.items) (All-nil (IsSessionOf c.args.shared.now));
   opened = (
@@ -25,7 +26,7 @@ pub open-requires-clause-heap : goal.open-requires-clause-heap
 open-requires-clause-heap c = let f = (fresh_last c.args.shared.now c.pop.new.self.items c.in-Some.seat (subst (AreFresh c.args.shared.now) c.in-Some.ensures.items c.seats.invariant.fresh)).1 in (f.seat.0, f.seat.2)
 
 pub seats-preserved : goal.seats-preserved
-seats-preserved c = let s = c.in-Some.seat in let left = c.pop.new.self.items in let i = c.seats.invariant.opened in let k = c.args.capacity in let e = c.in_ok-session.ensures in
+seats-preserved c = let s = c.in-Some.seat in let left = c.pop.new.self.items in let i = c.seats.invariant.opened in let k = rooms c.args.ring c.args.capacity in let e = c.in_ok-session.ensures in
     let last = fresh_last c.args.shared.now left s (subst (AreFresh c.args.shared.now) c.in-Some.ensures.items c.seats.invariant.fresh) in
     record {
       fresh = last.0;
