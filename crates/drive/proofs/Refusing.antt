@@ -8,10 +8,10 @@ use Rattle.heap_model.specs.declared.event.Event.TheVariants as event
 use Rattle.heap_model.specs.declared.event.Sight.TheVariants.{Found}
 use Rattle.heap_model.specs.declared.ids.FieldId.{FieldId}
 use Rattle.heap_model.specs.declared.ids.ObjectId.{ObjectId}
-use Rattle.heap_model.specs.declared.limits.TheConstants.{SECTION_RECORDS}
+use Rattle.heap_model.specs.declared.limits.TheConstants.{RING_RECORDS, SECTION_RECORDS}
 use Rattle.monitor.specs.Seats.{Home}
-use Rattle.session.specs.Calls.{Begins, EntersFirst, EntersWaiting, GoesOn, IsQuiet, IsSettled, Stores, Tries, records_of}
-use Rattle.session.specs.Logs.{held_count}
+use Rattle.session.specs.Calls.{Begins, EntersFirst, EntersWaiting, GoesOn, IsBehind, IsQuiet, IsSettled, Stores, Tries, records_of}
+use Rattle.session.specs.Logs.{Rooms, held_count, rooms}
 use Rattle.session.specs.declared.error.SessionError.{SessionError}
 use Rattle.session.specs.declared.error.SessionError.TheVariants.{UnknownObject, UnknownField, NotHeld, Behind, SectionFull, TooMany, TooDeep, NoFat, Worn, Held}
 use Rattle.steps.specs.Views.{IsHeld, Lengthens, View, hold, plan}
@@ -35,10 +35,15 @@ took v w o number objects n holds longer =
     told v w (event.Enter o number ∷ look ∷ []) (o.0 ∷ objects) (n + 1) longer
     (entered v.plan (look ∷ v.events) objects n o number (looked v.plan v.events objects n o (look ∷ []) ((Found None 0 number, refl), tt) holds))
 
-module _ (h : Home) (c : ℕ) (v w : View) (o : ObjectId) (v-of : v.plan ≡ plan h) (w-of : w.plan ≡ plan h) (low : o.0 < (plan h).objects) where
+-- a ring has the usual room at least
+behind_usual : (c : Rooms) (k : ℕ) (w : View) → RING_RECORDS ≤ c.ring → IsBehind c k w → IsBehind (rooms RING_RECORDS c.lane) k w
+behind_usual c k w wide (inl short) = inl (omega arith)
+behind_usual c k w wide (inr lane) = inr lane
+
+module _ (h : Home) (c : Rooms) (wide : RING_RECORDS ≤ c.ring) (v w : View) (o : ObjectId) (v-of : v.plan ≡ plan h) (w-of : w.plan ≡ plan h) (low : o.0 < (plan h).objects) where
   -- how an enter of a monitor that isn't held ends
   abbrev Entered : (objects : List ℕ) (n : ℕ) → Result (Unit {0}) SessionError → Type 0
-  Entered objects n r = MatchResult r (λ done. (o.0 < (plan h).objects) × HoldsJust w (o.0 ∷ objects) (n + 1)) (λ e. RefusesEnter h c o e × HoldsJust w objects n)
+  Entered objects n r = MatchResult r (λ done. (o.0 < (plan h).objects) × HoldsJust w (o.0 ∷ objects) (n + 1)) (λ e. RefusesEnter h c.lane o e × HoldsJust w objects n)
 
   worn : (objects : List ℕ) (n : ℕ) → HoldsJust v objects n → Tries v w o (Err Worn) → Entered objects n (Err Worn)
   worn objects n holds tries = (
@@ -61,7 +66,7 @@ module _ (h : Home) (c : ℕ) (v w : View) (o : ObjectId) (v-of : v.plan ≡ pla
   begun n (Err UnknownObject) settled holds begins = absurd begins
   begun n (Err UnknownField) settled holds begins = absurd begins
   begun n (Err NotHeld) settled holds begins = absurd begins
-  begun n (Err Behind) settled holds begins = ((w, w-of, begins.0), quiet v w [] n holds begins.1)
+  begun n (Err Behind) settled holds begins = ((w, w-of, behind_usual c SECTION_RECORDS w wide begins.0), quiet v w [] n holds begins.1)
   begun n (Err SectionFull) settled holds begins = absurd begins
   begun n (Err TooMany) settled holds begins = absurd begins
   begun n (Err TooDeep) settled holds begins = absurd begins
@@ -101,17 +106,17 @@ module _ (h : Home) (c : ℕ) (v w : View) (o : ObjectId) (v-of : v.plan ≡ pla
       gone_on (x ∷ objects) n r settled may holds (enters.1 (omega (arith, held)))
 
 -- an enter of a monitor that isn't held, which may wait
-pub enters : (h : Home) (c : ℕ) (v w : View) (o : ObjectId) (r : Result (Unit {0}) SessionError) (objects : List ℕ) (n : ℕ) → v.plan ≡ plan h → w.plan ≡ plan h → IsSettled r
+pub enters : (h : Home) (c : Rooms) (v w : View) (o : ObjectId) (r : Result (Unit {0}) SessionError) (objects : List ℕ) (n : ℕ) → RING_RECORDS ≤ c.ring → v.plan ≡ plan h → w.plan ≡ plan h → IsSettled r
     → ((plan h).objects ≤ o.0 → (r ≡ Err UnknownObject) × IsQuiet v w) → (o.0 < (plan h).objects → hold v o.0 ≡ None → EntersWaiting c v w o r) → MayTake objects n o.0 → HoldsJust v objects n
-    → MatchResult r (λ done. (o.0 < (plan h).objects) × HoldsJust w (o.0 ∷ objects) (n + 1)) (λ e. RefusesEnter h c o e × HoldsJust w objects n)
-enters h c v w o r objects n v-of w-of settled unknown first may holds = elim (cases_lt o.0 (plan h).objects) [
+    → MatchResult r (λ done. (o.0 < (plan h).objects) × HoldsJust w (o.0 ∷ objects) (n + 1)) (λ e. RefusesEnter h c.lane o e × HoldsJust w objects n)
+enters h c v w o r objects n wide v-of w-of settled unknown first may holds = elim (cases_lt o.0 (plan h).objects) [
   | inl low ↦ (
       let wait = first low (held_by_none ((own v.events).hold o.0) (holds.once o.0 ∙ may.other)) in
       let later : HoldsJust wait.later objects n = told v wait.later wait.looks objects n wait.told (looked v.plan v.events objects n o wait.looks wait.only holds) in
-      either_way h c wait.later w o (wait.told.plan ∙ v-of) w-of low objects n r settled may later wait.enters)
+      either_way h c wide wait.later w o (wait.told.plan ∙ v-of) w-of low objects n r settled may later wait.enters)
   | inr none ↦ (
       let refused = unknown none in
-      subst (λ (x : Result (Unit {0}) SessionError). MatchResult x (λ done. (o.0 < (plan h).objects) × HoldsJust w (o.0 ∷ objects) (n + 1)) (λ e. RefusesEnter h c o e × HoldsJust w objects n))
+      subst (λ (x : Result (Unit {0}) SessionError). MatchResult x (λ done. (o.0 < (plan h).objects) × HoldsJust w (o.0 ∷ objects) (n + 1)) (λ e. RefusesEnter h c.lane o e × HoldsJust w objects n))
       (sym refused.0) (none, quiet v w objects n holds refused.1))
 ]
 

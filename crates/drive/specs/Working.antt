@@ -8,11 +8,11 @@ use Rattle.heap_model.specs.declared.event.Event.TheVariants.{Look}
 use Rattle.heap_model.specs.declared.event.Sight.TheVariants.{Found}
 use Rattle.heap_model.specs.declared.ids.FieldId.{FieldId}
 use Rattle.heap_model.specs.declared.ids.ObjectId.{ObjectId}
-use Rattle.heap_model.specs.declared.limits.TheConstants.{LAST_PLACE, SECTION_RECORDS}
+use Rattle.heap_model.specs.declared.limits.TheConstants.{LAST_PLACE, RING_RECORDS, SECTION_RECORDS}
 use Rattle.monitor.specs.Seats.{Home}
 use Rattle.heap_threads.specs.Bodies.{Answer}
 use Rattle.session.specs.Calls.{IsBehind}
-use Rattle.session.specs.Logs.{place}
+use Rattle.session.specs.Logs.{place, rooms}
 use Rattle.session.specs.Sessions.{IsSessionOf, capacity_of, view_of}
 use Rattle.session.specs.declared.limits.TheConstants.{MOST_HELD}
 use Rattle.session.specs.declared.error.SessionError.{SessionError}
@@ -64,7 +64,7 @@ ViewOf h is = (v : View) × (v.plan ≡ plan h) × is v
 -- A session of this heap refuses to enter an object that isn't held: there is no such object, the helper is behind, or numbers have come to their end.
 abbrev pub RefusesEnter : Home → (capacity : ℕ) → ObjectId → SessionError → Type 0
 RefusesEnter h capacity o UnknownObject = (plan h).objects ≤ o.0
-RefusesEnter h capacity o Behind = ViewOf h (IsBehind capacity SECTION_RECORDS)
+RefusesEnter h capacity o Behind = ViewOf h (IsBehind (rooms RING_RECORDS capacity) SECTION_RECORDS)
 RefusesEnter h capacity o Worn = ViewOf h IsAtEnd
 RefusesEnter h capacity o _ = ⊥
 
@@ -81,7 +81,7 @@ abbrev pub StopsAt : Home → (most capacity : ℕ) → SessionError → Type 0
 StopsAt h most capacity UnknownObject = (plan h).objects ≤ most
 StopsAt h most capacity UnknownField = (plan h).fields ≤ most
 StopsAt h most capacity NotHeld = (f : ℕ) × (f ≤ most) × ((plan h).guard f ≢ f)
-StopsAt h most capacity Behind = ViewOf h (IsBehind capacity SECTION_RECORDS)
+StopsAt h most capacity Behind = ViewOf h (IsBehind (rooms RING_RECORDS capacity) SECTION_RECORDS)
 StopsAt h most capacity Worn = ViewOf h IsAtEnd
 StopsAt h most capacity _ = ⊥
 

@@ -24,6 +24,7 @@ use block_disk::Disk;
 use guards::Schema;
 use heap_model::LAST_NUMBER;
 use image::Recovered;
+use lane_rings::RingRecords;
 use monitor::Shared;
 use recover::recover;
 use running_heap::{RunningHeap, close, joined_law, life_law, open};
@@ -89,7 +90,7 @@ pub fn work_on<D: Disk + Drop, W: Work + Sync, R: Threads + Wait + Sync>(
     life_law::<D>();
     round_law::<D>();
     let _layout = recovered.layout();
-    match open(alloc, schema, recovered, LAST_NUMBER) {
+    match open(alloc, schema, recovered, LAST_NUMBER, RingRecords::usual()) {
         Ok(heap) => run(rt, alloc, work, heap),
         Err((disk, _)) => Err((disk, RunError::NoMemory)),
     }

@@ -8,7 +8,7 @@ ghost use Rattle.session.specs.Sessions.{IsSessionOf};
 
 use guards::{Schema, SchemaBuilder};
 use heap_model::{FieldId, ObjectId};
-use lane_rings::Receiver;
+use lane_rings::{Receiver, RingRecords};
 use monitor::{Seat, Shared};
 use pool::{MOST_SLOTS, Pool};
 use session::{Session, open_sessions};
@@ -105,7 +105,7 @@ pub fn open_pool(alloc: Global, slots: u32, lanes: u8) -> Option<PoolHeap>
 {
     let (schema, pool) = declare(alloc, slots)?;
     let (shared, seats) = share(alloc, schema, lanes)?;
-    match open_sessions(alloc, &shared, seats, CAPACITY) {
+    match open_sessions(alloc, &shared, seats, CAPACITY, RingRecords::usual()) {
         Ok((sessions, rings)) => Some(PoolHeap {
             shared,
             pool,

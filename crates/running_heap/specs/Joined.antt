@@ -1,6 +1,7 @@
 -- What joins sessions and their helper: the words, the capacity of the lanes, and the rings (this project's own).
-use Rattle.std.specs.Prelude.{ℕ, suc, ◌≡◌, List, [], ◌∷◌, length}
+use Rattle.std.specs.Prelude.{ℕ, suc, ◌≡◌, List, [], ◌∷◌, All, length}
 use Rattle.block_disk.specs.Device.{Device}
+use Rattle.lane_rings.specs.Rings.{ring_capacity}
 use Rattle.monitor.specs.Seats.{Home}
 use Rattle.steps.specs.Views.{plan}
 use Rattle.session.specs.declared.session.Session.{Session}
@@ -11,6 +12,10 @@ use Rattle.trim_helper.specs.Endings.{Rings}
 use Rattle.trim_helper.specs.Helping.{IsHelper, taken_in}
 use Rattle.trim_helper.specs.Moves.{IsEndOf}
 use Rattle.trim_helper.specs.Parts.{Parts, IsServing}
+
+-- each of the rings has room for so many records
+abbrev pub HaveRoom : (records : ℕ) → Rings → Type 0
+HaveRoom n rings = All (λ c. ring_capacity c ≡ n) rings
 
 -- The session is of these words, its lane holds so many records, and the other end of its ring is the lane's.
 pub record IsJoined (h : Home) (capacity : ℕ) (rings : Rings) (x : Session) : Type 0 where

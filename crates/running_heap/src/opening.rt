@@ -1,6 +1,6 @@
 //! A heap begins to run.
 ghost use Rattle.std.specs.Prelude.{◌≡◌, ◌<◌, ◌^◌, IfErr, IfOk, All, false, true, length};
-ghost use Rattle.running_heap.specs.Joined.{AreNew, IsHelping, IsJoined};
+ghost use Rattle.running_heap.specs.Joined.{AreNew, HaveRoom, IsHelping, IsJoined};
 ghost use Rattle.steps.specs.Views.{plan};
 ghost use Rattle.store_past.specs.Past.{no_past};
 ghost use Rattle.trim_helper.specs.Opening.{FitsSchema};
@@ -9,6 +9,7 @@ ghost use Rattle.trim_helper.specs.Parts.{IsServing};
 use block_disk::Disk;
 use guards::Schema;
 use image::Recovered;
+use lane_rings::RingRecords;
 use monitor::Shared;
 use session::{Session, open_sessions};
 use std::alloc::{AllocError, Global};
@@ -25,8 +26,8 @@ pub struct RunningHeap<D: Disk> {
     pub helper: Helper<D>,
 }
 
-/// Opens a heap of this schema that was recovered: its words, a session for each lane, and the helper. Release numbers stay at
-/// `last` or below.
+/// Opens a heap of this schema that was recovered: its words, a session for each lane, and the helper, with rings of this room
+/// between them. Release numbers stay at `last` or below.
 ///
 /// An error is want of memory. The device is given back as it was, and may be recovered again.
 pub fn open<D: Disk>(
@@ -34,12 +35,15 @@ pub fn open<D: Disk>(
     schema: Schema,
     recovered: Recovered<D>,
     last: u64,
+    ring: RingRecords,
 ) -> Result<RunningHeap<D>, (D, AllocError)>
     requires last { last < 2 ^ 40 }
     requires schema { FitsSchema schema recovered.layout recovered.guards }
     ensures plan { IfOk result (λ o. o.shared.plan ≡ record { schema = schema; first = recovered.heap; last = last; lanes = recovered.layout.lanes }) }
     // Each new session is joined to the helper's ring of its lane.
     ensures joined { IfOk result (λ o. All (IsJoined o.shared recovered.layout.capacity o.helper.rings) o.sessions.items) }
+    // Each ring of a new heap has the room that was asked for.
+    ensures rings { IfOk result (λ o. HaveRoom ring o.helper.rings) }
     // The sessions of a new heap are new, and come lane by lane.
     ensures fresh { IfOk result (λ o. AreNew 0 o.sessions.items) }
     // A new heap has one session a lane.
@@ -67,7 +71,7 @@ pub fn open<D: Disk>(
         store,
         seat,
     } = opened;
-    let (sessions, rings) = match open_sessions(alloc, &shared, seats, layout.capacity) {
+    let (sessions, rings) = match open_sessions(alloc, &shared, seats, layout.capacity, ring) {
         Ok(made) => made,
         Err(error) => {
             drop(seat);

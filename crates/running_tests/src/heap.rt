@@ -7,6 +7,7 @@ ghost use Rattle.running_heap.specs.Joined.{IsHelping, IsJoined};
 use block_disk::{Disk, MemDisk};
 use durable::Store;
 use guards::{Schema, SchemaBuilder};
+use lane_rings::RingRecords;
 use running_heap::{RunningHeap, open};
 use session::Session;
 use std::alloc::Global;
@@ -77,7 +78,7 @@ fn begin<D: Disk + Drop>(
             return None;
         }
     };
-    let heap = match open(alloc, schema, made, LAST) {
+    let heap = match open(alloc, schema, made, LAST, RingRecords::usual()) {
         Ok(heap) => heap,
         Err((disk, _why)) => {
             drop(disk);

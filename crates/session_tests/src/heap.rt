@@ -5,7 +5,7 @@ ghost use Rattle.monitor.specs.Seats.{IsSeatOf, fresh_views};
 ghost use Rattle.session.specs.Sessions.{IsSessionOf};
 
 use guards::{Schema, SchemaBuilder};
-use lane_rings::Receiver;
+use lane_rings::{Receiver, RingRecords};
 use monitor::{Seat, Shared};
 use session::{Session, open_sessions};
 use std::alloc::Global;
@@ -92,7 +92,7 @@ pub fn open_heap(alloc: Global, schema: Schema, lanes: u8, last: u64, capacity: 
     ensures { IfSome result (λ r. All (IsSessionOf r.shared) r.sessions.items) }
 {
     let (shared, seats) = share(alloc, schema, lanes, last)?;
-    match open_sessions(alloc, &shared, seats, capacity) {
+    match open_sessions(alloc, &shared, seats, capacity, RingRecords::usual()) {
         Ok((sessions, rings)) => Some(Heap {
             shared,
             sessions,

@@ -13,7 +13,7 @@ use durable::Store;
 use guards::{Schema, SchemaBuilder};
 use heap_model::MOST_CAPACITY;
 use image::Layout;
-use lane_rings::Receiver;
+use lane_rings::{Receiver, RingRecords};
 use monitor::{Seat, Shared};
 use running_heap::{RunningHeap, open};
 use session::{Session, open_sessions};
@@ -110,7 +110,7 @@ pub fn open_on<D: Disk + Drop>(alloc: Global, disk: D, workers: u8) -> Option<Ru
             return None;
         }
     };
-    let heap = match open(alloc, schema, made, LAST) {
+    let heap = match open(alloc, schema, made, LAST, RingRecords::usual()) {
         Ok(heap) => heap,
         Err((disk, _why)) => {
             drop(disk);
@@ -137,7 +137,7 @@ pub fn open_unserved(alloc: Global, workers: u8) -> Option<Unserved>
     ensures of { IfSome result (λ o. All (IsSessionOf o.shared) o.sessions.items) }
 {
     let (shared, seats) = share(alloc, workers)?;
-    let Ok((sessions, rings)) = open_sessions(alloc, &shared, seats, MOST_CAPACITY) else {
+    let Ok((sessions, rings)) = open_sessions(alloc, &shared, seats, MOST_CAPACITY, RingRecords::usual()) else {
         drop(shared);
         return None;
     };

@@ -1,4 +1,5 @@
-use Rattle.session.specs.Sessions.{capacity_of, view_of}
+use Rattle.session.specs.Sessions.{rooms_of, view_of}
+use Rattle.session.proofs.Owning.{ring_least}
 use Rattle.drive.proofs.Refusing.{enters}
 use Rattle.drive.proofs.working.take.Goals as goal
 
@@ -6,5 +7,5 @@ pub returns-clause-taken : goal.returns-clause-taken
 returns-clause-taken g c = λ objects n may holds.
     let session = c.args.thread.now in
     let told = c.enter.ensures.told in
-    enters g.J.Joint.home (capacity_of session) (view_of session) (view_of c.enter.new.self) c.args.object c.enter.result objects n
-    c.requires.seat.1 c.enter.ensures.of.1 told.settled told.unknown told.first may holds
+    enters g.J.Joint.home (rooms_of session) (view_of session) (view_of c.enter.new.self) c.args.object c.enter.result objects n
+    (ring_least session) c.requires.seat.1 c.enter.ensures.of.1 told.settled told.unknown told.first may holds

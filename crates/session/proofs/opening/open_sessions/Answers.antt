@@ -6,7 +6,7 @@ use Rattle.session.specs.Logs.{rooms}
 use Rattle.session.specs.Opened.{AreFresh, AreOpened}
 use Rattle.session.proofs.Owning.{seat_same}
 use Rattle.session.proofs.Seating.{given_fresh, fresh_last}
-use Rattle.session.proofs.opening.open_sessions_with.Goals as goal
+use Rattle.session.proofs.opening.open_sessions.Goals as goal
 
 pub seats-init : goal.seats-init
 seats-init c = let k = rooms c.args.ring c.args.capacity in record {
