@@ -8,7 +8,7 @@ pub returns-clause-helping : goal.returns-clause-helping
 returns-clause-helping g c =
     let was = c.requires.helping in
     let h = c.args.shared.now in
-    c.helping_law.ensures.round h was.past c.args.helper.now c.round.new.self c.round.result was c.round.ensures.goes_on (c.round.ensures.rounds (plan h) was.past was.serving)
+    c.helping_law.ensures.round h was.past c.args.helper.now c.round.new.self c.round.result was c.round.ensures.goes_on (c.round.ensures.rounds (plan h) was.past was.serving).works
 
 pub returns-clause-joined : goal.returns-clause-joined
 returns-clause-joined g c x joined =

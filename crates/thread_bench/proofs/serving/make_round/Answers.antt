@@ -9,5 +9,5 @@ returns g c =
     let h = c.args.shared.now in
     record {
       helping = on_ok (IsHelping g.D.Disk.device h c.round.new.self) c.round.result
-          (c.helping_law.ensures.round h was.past c.args.helper.now c.round.new.self c.round.result was c.round.ensures.goes_on (c.round.ensures.rounds (plan h) was.past was.serving));
+          (c.helping_law.ensures.round h was.past c.args.helper.now c.round.new.self c.round.result was c.round.ensures.goes_on (c.round.ensures.rounds (plan h) was.past was.serving).works);
     }
