@@ -137,7 +137,13 @@ pub fn open_unserved(alloc: Global, workers: u8) -> Option<Unserved>
     ensures of { IfSome result (λ o. All (IsSessionOf o.shared) o.sessions.items) }
 {
     let (shared, seats) = share(alloc, workers)?;
-    let Ok((sessions, rings)) = open_sessions(alloc, &shared, seats, MOST_CAPACITY, RingRecords::usual()) else {
+    let Ok((sessions, rings)) = open_sessions(
+        alloc,
+        &shared,
+        seats,
+        MOST_CAPACITY,
+        RingRecords::usual(),
+    ) else {
         drop(shared);
         return None;
     };
