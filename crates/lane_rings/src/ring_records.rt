@@ -23,6 +23,8 @@ impl Model for RingRecords {
 
     ghost view = { λ r. r.records };
 
+    ghost inverse = { λ n. record { records = n } };
+
     ghost invariant = { λ r. IsRingSize r.records };
 }
 
