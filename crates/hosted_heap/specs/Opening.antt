@@ -20,6 +20,7 @@ use Rattle.recover.specs.Study.{IsStudyOf}
 use Rattle.recover.specs.declared.studied.Study.{Study}
 use Rattle.recover.specs.declared.report.Report.{Report}
 use Rattle.recover.specs.declared.versions.Versions.{Versions}
+use Rattle.running_heap.specs.Joined.{HaveRoom}
 use Rattle.steps.specs.Views.{plan}
 use Rattle.store_image.specs.Formatting.{AreLimits, layout_with}
 use Rattle.store_past.specs.Past.{no_past}
@@ -53,6 +54,10 @@ pub record HasBegun (schema : Declarations) (r : Parts Deferred) (x : Hosting) :
   -- A heap begins with no session handed out.
   pub none_out : x.out ≡ []
   pub unstopped : x.stop.seen ≡ None
+
+-- each lane's ring has room for so many records
+abbrev pub HasRings : (records : ℕ) → Hosting → Type 0
+HasRings records x = HaveRoom records x.helper.rings
 
 -- It was made of so many objects and of these fields, with so many lanes of so many records, and begins with their first values. The calls
 -- made the image of a device of zeros.

@@ -1,5 +1,5 @@
 -- What a round of a hosted heap makes of it (this project's own).
-use Rattle.std.specs.Prelude.{ℕ, ◌≡◌, ◌+◌, ◌<◌, ◌↔◌, false, Result, Ok, Err, IsErrOf, length}
+use Rattle.std.specs.Prelude.{ℕ, ◌≡◌, ◌+◌, ◌<◌, ◌↔◌, false, Option, Result, Ok, Err, IsErrOf, length}
 use Rattle.deferred_disk.specs.Host.{HasLooked}
 use Rattle.deferred_disk.specs.declared.disk.TheConstants.{SYNCS}
 use Rattle.monitor.specs.Views.{GoesOn}
@@ -7,7 +7,7 @@ use Rattle.rtrb.specs.Ring.{known_items}
 use Rattle.steps.specs.Views.{plan}
 use Rattle.store_past.specs.Past.{Past}
 use Rattle.store_past.specs.declared.error.StoreError.{StoreError}
-use Rattle.trim_helper.specs.Calls.{HasGoneOn, Rounds}
+use Rattle.trim_helper.specs.Calls.{HasGoneOn, Rounds, RoundsUpTo}
 use Rattle.trim_helper.specs.Heard.{HasSeen}
 use Rattle.trim_helper.specs.Parts.{IsServing}
 use Rattle.hosted_heap.specs.Hosting.{Hosting, SameHeap, hosted_device}
@@ -24,6 +24,11 @@ IfBegun (Err (Store e)) is = is (Err e)
 -- a round of its helper, which answers this
 abbrev pub MakesRound : Hosting → Hosting → Result ℕ StoreError → Type 0
 MakesRound x y answer = (p : Past) → IsServing hosted_device x.helper (plan x.home) p → Rounds hosted_device (plan x.home) p x.helper y.helper answer
+
+-- the same of a round that applies so many records at most, or any number where there is no bound: its part `works` is a round, so each law on
+-- rounds holds of it
+abbrev pub MakesRoundUpTo : (most : Option ℕ) → Hosting → Hosting → Result ℕ StoreError → Type 0
+MakesRoundUpTo most x y answer = (p : Past) → IsServing hosted_device x.helper (plan x.home) p → RoundsUpTo hosted_device most (plan x.home) p x.helper y.helper answer
 
 -- A call of the helper leaves the rest of the heap as it was.
 pub record KeepsSessions (x y : Hosting) : Type 0 where
@@ -43,14 +48,14 @@ pub record HearsThreads (x y : Hosting) : Type 0 where
   -- The history that a round sees goes on from the one that was seen before.
   pub later : GoesOn y.helper.seat.view.history x.helper.seat.view.history
 
--- A round of the heap: there is no room to hand its syncs over, and nothing was done, or its helper makes one.
-pub record HasRound (x y : Hosting) (answer : Result ℕ RoundError) : Type 0 where
+-- A round of the heap, of so many records at most: there is no room to hand its syncs over, and nothing was done, or its helper makes one.
+pub record HasRound (most : Option ℕ) (x y : Hosting) (answer : Result ℕ RoundError) : Type 0 where
   -- `CallsLeft` is answered exactly where there may be no room for the syncs of a round.
   pub calls_left : IsErrOf answer CallsLeft ↔ (SYNCS < length (known_items y.calls.ring) + ROUND_SYNCS)
   -- A round that answers `CallsLeft` has done nothing.
   pub nothing : IsErrOf answer CallsLeft → SameHeap x y
-  -- A round that is begun does what the helper's round does.
-  pub rounds : IfBegun answer (MakesRound x y)
+  -- A round that is begun does what the helper's round does, with the same bound on its records.
+  pub rounds : IfBegun answer (MakesRoundUpTo most x y)
   pub heard : IfBegun answer (λ answered. HearsThreads x y)
   -- A round leaves the rest of the heap as it was.
   pub kept : KeepsSessions x y

@@ -60,7 +60,7 @@ impl HostedHeap {
     ghost use Rattle.deferred_disk.specs.declared.disk.TheConstants.{SYNCS};
     ghost use Rattle.rtrb.specs.Ring.{known_items};
     ghost use Rattle.session.specs.Sessions.{view_of};
-    ghost use Rattle.hosted_heap.specs.Rounds.{HasRound, HearsThreads, KeepsSessions, MakesRound};
+    ghost use Rattle.hosted_heap.specs.Rounds.{HasRound, HearsThreads, KeepsSessions, MakesRoundUpTo};
     ghost use Rattle.hosted_heap.specs.Lanes.{IsAwaitedBy};
     ghost use Rattle.hosted_heap.specs.declared.lane_end.LaneEnd.{LaneEnd};
     ghost use Rattle.running_heap.specs.Joined.{IsJoined};
@@ -183,21 +183,22 @@ impl HostedHeap {
         StopWord { stopper: stop }
     }
 
-    /// A round of the helper ([`Helper::round`]): what the sessions sent is made durable and acknowledged on the disk in memory, and
-    /// the calls are handed over. It answers how many records it applied.
+    /// A round of the helper ([`Helper::bounded_round`]): what the sessions sent is made durable and acknowledged on the disk in memory,
+    /// and the calls are handed over. It answers how many records it applied: at most `most`, or all that can be applied where that is
+    /// `None`. What a bound leaves stays in the rings for a later round.
     ///
     /// Refused, in this order:
     /// - `CallsLeft`: there is no room to hand over as many syncs as a round may take, [`ROUND_SYNCS`], beside those that the host hasn't
     ///   fetched. Nothing was done;
-    /// - `Store`: as by [`Helper::round`]. A `Fault` is want of memory; from then on each round answers `Failed`, and the heap has to be
-    ///   opened again.
-    pub fn round(&mut self) -> Result<u64, RoundError>
-        ensures round { HasRound self.old self.new result }
+    /// - `Store`: as by [`Helper::bounded_round`]. A `Fault` is want of memory; from then on each round answers `Failed`, and the heap has
+    ///   to be opened again.
+    pub fn round(&mut self, most: Option<u64>) -> Result<u64, RoundError>
+        ensures round { HasRound most self.old self.new result }
     {
         if !self.has_room(ROUND_SYNCS) {
             return Err(RoundError::CallsLeft);
         }
-        match self.serve() {
+        match self.serve(most) {
             Ok(applied) => Ok(applied),
             Err(stop) => Err(RoundError::Store(stop)),
         }
@@ -214,15 +215,15 @@ impl HostedHeap {
     }
 
     // The round of the helper.
-    fn serve(&mut self) -> Result<u64, StoreError>
-        ensures serves { MakesRound self.old self.new result }
+    fn serve(&mut self, most: Option<u64>) -> Result<u64, StoreError>
+        ensures serves { MakesRoundUpTo most self.old self.new result }
         ensures heard { HearsThreads self.old self.new }
         ensures kept { KeepsSessions self.old self.new }
         ensures calls { self.new.calls ≡ self.old.calls }
     {
         joined_law();
         helping_law::<DeferredDisk>();
-        self.helper.round(&self.shared)
+        self.helper.bounded_round(&self.shared, most)
     }
 
     // Whether a call that was handed over isn't made. The disk and its host's calls have met then.

@@ -1,9 +1,9 @@
 //! A running heap for a host that isn't written in Rattle, and that makes the device's calls itself.
 //!
 //! [`format`] and [`open`] make of objects and fields, or of the bytes that the host's device has, a [`HostedHeap`] on a
-//! [`DeferredDisk`](deferred_disk::DeferredDisk). It hands out a [`HostedSession`] for each lane, which may go to a thread of the
-//! host's. What has to be written and synced the host asks of [`HostedHeap::next_call`]. No call waits, and no two values that
-//! belong to different heaps are ever passed to one call.
+//! [`DeferredDisk`](deferred_disk::DeferredDisk); [`format_with`] and [`open_with`] also take the room of its rings. It hands out a
+//! [`HostedSession`] for each lane, which may go to a thread of the host's. What has to be written and synced the host asks of
+//! [`HostedHeap::next_call`]. No call waits, and no two values that belong to different heaps are ever passed to one call.
 #![tactic(auto)]
 
 mod again;
@@ -26,7 +26,7 @@ mod waiting;
 pub use closing::{Closed, NotClosed};
 pub use error::{AcknowledgedError, CloseRefusal, FailedCall, HostError, RoundError};
 pub use heap::HostedHeap;
-pub use opening::{format, open};
+pub use opening::{format, format_with, open, open_with};
 pub use returned::Returned;
 pub use returning::Returning;
 pub use room::{CLOSE_SYNCS, ROUND_SYNCS};

@@ -1,7 +1,8 @@
 //! A hosted heap is made, or opened.
 ghost use Rattle.std.specs.Prelude.{◌≡◌, [], IfErr, IfOk};
 ghost use Rattle.deferred_disk.specs.Host.{IsHostOf};
-ghost use Rattle.hosted_heap.specs.Opening.{HasBegun, IsFound, IsMade, RefusesMaking, RefusesOpening};
+ghost use Rattle.heap_model.specs.declared.limits.TheConstants.{RING_RECORDS};
+ghost use Rattle.hosted_heap.specs.Opening.{HasBegun, HasRings, IsFound, IsMade, RefusesMaking, RefusesOpening};
 ghost use Rattle.trim_helper.specs.Opening.{FitsSchema};
 
 use crate::beginning::begin_all;
@@ -13,19 +14,14 @@ use durable::Store;
 use guards::Schema;
 use heap_model::LAST_NUMBER;
 use image::{GuardRow, ImageError, Layout, Recovered};
+use lane_rings::RingRecords;
 use numbered_schema::declare;
 use recover::{Report, Versions, recover_of};
 use running_heap::RunningHeap;
 use std::alloc::{AllocError, Global};
 use std::sync::Arc;
 
-/// Makes a heap of so many objects and of these fields, and opens it. The host's device has as many zero bytes as
-/// [`HostedHeap::layout`] says that the image has, durably, before the host makes the first call.
-///
-/// Refusals, in this order:
-/// - `Schema`: as [`declare`] refuses;
-/// - `Image`: by `BadHeader`, where `lanes` isn't 1 to 32 or `capacity` isn't 2,000 to 1,048,576;
-/// - `NoMemory`, and `Image` by `NoMemory` and `Fault`, for want of memory.
+/// Makes a heap of so many objects and of these fields, and opens it, as [`format_with`] does. Each lane's ring has the usual room.
 pub fn format(
     alloc: Global,
     objects: u32,
@@ -35,6 +31,34 @@ pub fn format(
 ) -> Result<HostedHeap, HostError>
     // A heap is made of exactly these objects and fields, each field with its owner, its guard and its first value.
     ensures ok { IfOk result (IsMade objects rows.now lanes capacity) }
+    // Where the caller doesn't choose, each lane's ring has room for 4,096 records.
+    ensures rings { IfOk result (HasRings RING_RECORDS) }
+    // A heap is refused by its schema only where it has no object, no field or too many, or a field names an object
+    // that there isn't; by its header only where lanes or records are past their limits; and else for want of memory.
+    ensures refused { IfErr result (RefusesMaking objects rows.now lanes capacity) }
+{
+    format_with(alloc, objects, rows, lanes, capacity, RingRecords::usual())
+}
+
+/// Makes a heap of so many objects and of these fields, and opens it. Each lane's ring has room for `ring` records. The host's device has
+/// as many zero bytes as [`HostedHeap::layout`] says that the image has, durably, before the host makes the first call.
+///
+/// Refusals, in this order:
+/// - `Schema`: as [`declare`] refuses;
+/// - `Image`: by `BadHeader`, where `lanes` isn't 1 to 32 or `capacity` isn't 2,000 to 1,048,576;
+/// - `NoMemory`, and `Image` by `NoMemory` and `Fault`, for want of memory.
+pub fn format_with(
+    alloc: Global,
+    objects: u32,
+    rows: &[GuardRow],
+    lanes: u8,
+    capacity: u32,
+    ring: RingRecords,
+) -> Result<HostedHeap, HostError>
+    // A heap is made of exactly these objects and fields, each field with its owner, its guard and its first value.
+    ensures ok { IfOk result (IsMade objects rows.now lanes capacity) }
+    // Each lane's ring has room for as many records as the caller asks for.
+    ensures rings { IfOk result (HasRings ring) }
     // A heap is refused by its schema only where it has no object, no field or too many, or a field names an object
     // that there isn't; by its header only where lanes or records are past their limits; and else for want of memory.
     ensures refused { IfErr result (RefusesMaking objects rows.now lanes capacity) }
@@ -60,17 +84,13 @@ pub fn format(
             return Err(HostError::Image(refusal));
         }
     };
-    match begin(alloc, schema, made, calls) {
+    match begin(alloc, schema, made, calls, ring) {
         Ok(heap) => Ok(heap),
         Err(_) => Err(HostError::NoMemory),
     }
 }
 
-/// Opens the heap of the image that the host's device has, durably, if it is of one of these versions; these are its bytes, all of
-/// them. It is recovered first, in memory, and so is of the current version: the calls of that are the first that the host makes.
-///
-/// Refusals, in this order: `NoMemory` for the bytes; `Recover`, as [`recover_of`](recover::recover_of) refuses; `Schema` and
-/// `NoMemory`, for want of memory.
+/// Opens the heap of the image that the host's device has, as [`open_with`] does. Each lane's ring has the usual room.
 pub fn open(
     alloc: Global,
     bytes: &[u8],
@@ -78,6 +98,30 @@ pub fn open(
 ) -> Result<(HostedHeap, Report), HostError>
     // A heap is opened with what recovery finds in the bytes of the host's device, and recovery's report is told.
     ensures ok { IfOk result (λ r. IsFound versions bytes.now r.0 r.1) }
+    // Where the caller doesn't choose, each lane's ring has room for 4,096 records.
+    ensures rings { IfOk result (λ r. HasRings RING_RECORDS r.0) }
+    // A heap isn't opened where recovery refuses the bytes, or memory runs out.
+    ensures refused { IfErr result (RefusesOpening versions bytes.now) }
+{
+    open_with(alloc, bytes, versions, RingRecords::usual())
+}
+
+/// Opens the heap of the image that the host's device has, durably, if it is of one of these versions; these are its bytes, all of
+/// them. Each lane's ring has room for `ring` records, whatever room it had before: the image doesn't say. The heap is recovered first,
+/// in memory, and so is of the current version: the calls of that are the first that the host makes.
+///
+/// Refusals, in this order: `NoMemory` for the bytes; `Recover`, as [`recover_of`](recover::recover_of) refuses; `Schema` and
+/// `NoMemory`, for want of memory.
+pub fn open_with(
+    alloc: Global,
+    bytes: &[u8],
+    versions: Versions,
+    ring: RingRecords,
+) -> Result<(HostedHeap, Report), HostError>
+    // A heap is opened with what recovery finds in the bytes of the host's device, and recovery's report is told.
+    ensures ok { IfOk result (λ r. IsFound versions bytes.now r.0 r.1) }
+    // Each lane's ring has room for as many records as the caller asks for.
+    ensures rings { IfOk result (λ r. HasRings ring r.0) }
     // A heap isn't opened where recovery refuses the bytes, or memory runs out.
     ensures refused { IfErr result (RefusesOpening versions bytes.now) }
 {
@@ -100,27 +144,29 @@ pub fn open(
             return Err(HostError::Schema(refusal));
         }
     };
-    match begin(alloc, schema, recovered, calls) {
+    match begin(alloc, schema, recovered, calls, ring) {
         Ok(heap) => Ok((heap, report)),
         Err(_) => Err(HostError::NoMemory),
     }
 }
 
-// Lets a heap of this schema that was recovered run.
+// Lets a heap of this schema that was recovered run, with rings of so many records.
 fn begin(
     alloc: Global,
     schema: Schema,
     recovered: Recovered<DeferredDisk>,
     calls: HostCalls,
+    ring: RingRecords,
 ) -> Result<HostedHeap, AllocError>
     requires schema { FitsSchema schema recovered.layout recovered.guards }
     requires calls { (calls.made ≡ []) × (calls.left ≡ []) }
     requires host { IsHostOf recovered.disk calls }
     ensures begun { IfOk result (HasBegun schema recovered) }
+    ensures rings { IfOk result (HasRings ring) }
     ensures calls { IfOk result (λ x. x.calls ≡ calls) }
 {
     let layout = recovered.layout();
-    let heap = match running_heap::open(alloc, schema, recovered, LAST_NUMBER) {
+    let heap = match running_heap::open_with(alloc, schema, recovered, LAST_NUMBER, ring) {
         Ok(heap) => heap,
         Err((disk, error)) => {
             drop(disk);

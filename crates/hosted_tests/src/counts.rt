@@ -81,7 +81,7 @@ fn work_often(session: &mut HostedSession, sections: u64) -> u64 {
 // The records that a round of so many sections applies, and the calls that it makes.
 fn round(heap: &mut HostedHeap, session: &mut HostedSession, sections: u64) -> (u64, Counts) {
     let _ = work_often(session, sections);
-    let applied = heap.round().unwrap_or(0);
+    let applied = heap.round(None).unwrap_or(0);
     (applied, make_all(heap))
 }
 

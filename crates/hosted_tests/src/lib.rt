@@ -1,7 +1,8 @@
 //! Tests of: hosted_heap.
 //!
 //! A hosted heap, by its public calls alone: what recovery keeps of its host's device, at the end of a life and where the host stops between
-//! two calls. Also: how many calls a round makes, what sessions learn of a call that failed, and lanes whose sessions come and go.
+//! two calls. Also: how many calls a round makes and how many records it applies, how many a lane's ring has room for, what sessions learn
+//! of a call that failed, and lanes whose sessions come and go.
 #![tactic(auto)]
 
 #[cfg(test)]
@@ -14,6 +15,8 @@ mod device;
 mod host;
 #[cfg(test)]
 mod lives;
+#[cfg(test)]
+mod rings;
 #[cfg(test)]
 mod stops;
 #[cfg(test)]

@@ -50,9 +50,9 @@ fn serve(
     host: &mut Host,
 ) -> Served {
     let earlier = host.ended;
-    let first = work_often(session, host, 2) && heap.round().is_ok();
+    let first = work_often(session, host, 2) && heap.round(None).is_ok();
     let told = acknowledged(alloc, heap, host, earlier);
-    let second = work_often(session, host, 3) && heap.round().is_ok();
+    let second = work_often(session, host, 3) && heap.round(None).is_ok();
     let told_again = acknowledged(alloc, heap, host, earlier);
     let last = work_next(session, host);
     (told, told_again, first && second && last)

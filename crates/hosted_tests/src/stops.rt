@@ -42,7 +42,7 @@ fn fail(heap: &mut HostedHeap, one: &mut HostedSession, two: &mut HostedSession)
 // With no call left; with a write; with the sync behind it; and once more.
 fn fail_each(heap: &mut HostedHeap, one: &mut HostedSession, two: &mut HostedSession) -> [Told; 4] {
     let none = fail(heap, one, two);
-    let _ = work(one, 5) && heap.round().is_ok();
+    let _ = work(one, 5) && heap.round(None).is_ok();
     heap.fetch();
     let write = fail(heap, one, two);
     make(heap, false);

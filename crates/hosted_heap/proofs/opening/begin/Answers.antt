@@ -66,5 +66,6 @@ returns-in-Ok-begin_all c =
         unstopped = ap (λ (s : Stopping). s.seen) c.in-Ok-begin_all.ensures.stop ∙ c.in-Ok-new-2.ensures;
         none_out = drop_all (length c.in-Ok-begin_all.unused.items) c.in-Ok-begin_all.lanes.items (let same = c.in-Ok-begin_all.ensures.count in omega (arith, same));
       };
+      rings = c.in-Ok.ensures.rings;
       calls = refl;
     }

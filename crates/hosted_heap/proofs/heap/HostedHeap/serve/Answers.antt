@@ -4,7 +4,7 @@ use Rattle.monitor.specs.Seats.{Home}
 use Rattle.monitor.specs.Views.{GoesOn}
 use Rattle.std.specs.Arc.{arc_value}
 use Rattle.steps.specs.Views.{plan}
-use Rattle.trim_helper.specs.Calls.{HasGoneOn, Rounds}
+use Rattle.trim_helper.specs.Calls.{HasGoneOn, RoundsUpTo}
 use Rattle.trim_helper.specs.Heard.{HasSeen}
 use Rattle.trim_helper.specs.Parts.{IsServing}
 use Rattle.hosted_heap.specs.Hosting.{Hosting, hosted_device}
@@ -16,13 +16,13 @@ invariant_of-self c =
     let was = c.self.invariant in
     let h = arc_value c.self.inside.shared in
     let x = c.self.inside.helper in
-    let y = c.round.new.self in
-    let on : HasGoneOn h x y = subst (λ (k : Home). HasGoneOn k x y) c.deref.ensures c.round.ensures.goes_on in
+    let y = c.bounded_round.new.self in
+    let on : HasGoneOn h x y = subst (λ (k : Home). HasGoneOn k x y) c.deref.ensures c.bounded_round.ensures.goes_on in
     let past = was.helping.past in
     let capacity = ap (λ (l : Layout). l.capacity) on.layout in
-    let rounds = c.round.ensures.rounds (plan h) past was.helping.serving in
+    let rounds = (c.bounded_round.ensures.rounds (plan h) past was.helping.serving).works in
     record {
-      helping = c.helping_law.ensures.round h past x y c.round.result was.helping on rounds;
+      helping = c.helping_law.ensures.round h past x y c.bounded_round.result was.helping on rounds;
       host = rounds.ran.shown.grows.name ∙ was.host;
       layout_is = was.layout_is ∙ sym on.layout;
       within = was.within;
@@ -37,8 +37,8 @@ invariant_of-self c =
 pub returns-clause-serves : goal.returns-clause-serves
 returns-clause-serves c = λ p serving.
     let h = arc_value c.self.inside.shared in
-    subst (λ (x : Hosting). Rounds hosted_device (plan x.home) p x.helper c.round.new.self c.round.result) c.self.view_is
-    (c.round.ensures.rounds (plan h) p (subst (λ (x : Hosting). IsServing hosted_device x.helper (plan x.home) p) (sym c.self.view_is) serving))
+    subst (λ (x : Hosting). RoundsUpTo hosted_device c.args.most (plan x.home) p x.helper c.bounded_round.new.self c.bounded_round.result) c.self.view_is
+    (c.bounded_round.ensures.rounds (plan h) p (subst (λ (x : Hosting). IsServing hosted_device x.helper (plan x.home) p) (sym c.self.view_is) serving))
 
 pub returns-clause-kept : goal.returns-clause-kept
 returns-clause-kept c =
@@ -48,18 +48,18 @@ returns-clause-kept c =
       unused = ap (λ (k : Hosting). k.unused) view;
       out = ap (λ (k : Hosting). k.out) view;
       stop = ap (λ (k : Hosting). k.stop) view;
-      layout = c.round.ensures.goes_on.layout ∙ ap (λ (k : Hosting). k.helper.store.known.layout) view;
+      layout = c.bounded_round.ensures.goes_on.layout ∙ ap (λ (k : Hosting). k.helper.store.known.layout) view;
     }
 
 pub returns-clause-heard : goal.returns-clause-heard
 returns-clause-heard c =
     let x = c.self.inside.helper in
-    let y = c.round.new.self in
+    let y = c.bounded_round.new.self in
     let view = c.self.view_is in
-    let on : HasGoneOn (arc_value c.self.inside.shared) x y = subst (λ (k : Home). HasGoneOn k x y) c.deref.ensures c.round.ensures.goes_on in
-    let seen : x.store.known.has_failed ≡ false → HasSeen (arc_value c.self.inside.shared) y = λ runs. subst (λ (k : Home). HasSeen k y) c.deref.ensures (c.round.ensures.seen runs) in
+    let on : HasGoneOn (arc_value c.self.inside.shared) x y = subst (λ (k : Home). HasGoneOn k x y) c.deref.ensures c.bounded_round.ensures.goes_on in
+    let seen : x.store.known.has_failed ≡ false → HasSeen (arc_value c.self.inside.shared) y = λ runs. subst (λ (k : Home). HasSeen k y) c.deref.ensures (c.bounded_round.ensures.seen runs) in
     record {
       goes_on = subst (λ (k : Hosting). HasGoneOn k.home k.helper y) view on;
       seen = subst (λ (k : Hosting). k.helper.store.known.has_failed ≡ false → HasSeen k.home y) view seen;
-      later = subst (λ (k : Hosting). GoesOn y.seat.view.history k.helper.seat.view.history) view c.round.ensures.later;
+      later = subst (λ (k : Hosting). GoesOn y.seat.view.history k.helper.seat.view.history) view c.bounded_round.ensures.later;
     }
