@@ -166,7 +166,7 @@ fn begin(
     ensures calls { IfOk result (λ x. x.calls ≡ calls) }
 {
     let layout = recovered.layout();
-    let heap = match running_heap::open_with(alloc, schema, recovered, LAST_NUMBER, ring) {
+    let heap = match running_heap::open(alloc, schema, recovered, LAST_NUMBER, ring) {
         Ok(heap) => heap,
         Err((disk, error)) => {
             drop(disk);

@@ -30,8 +30,9 @@ fn work_and_round(heap: &mut HostedHeap) -> Option<Applied> {
     match heap.session() {
         Some(mut session) => {
             let _ = work_often(&mut session, 3);
+            let found = rounds(heap);
             drop(session);
-            Some(rounds(heap))
+            Some(found)
         }
         None => None,
     }

@@ -1,5 +1,5 @@
 -- What C's calls of a heap do to what is behind its handle, and what they answer, by cases on what is there (this project's own).
-use Rattle.std.specs.Prelude.{ℕ, ◌≡◌, ◌<◌, ◌≤◌, ◌↔◌, List, [], ◌∷◌, ◌++◌, ◌+◌, ◌==◌, not, true, false, Option, Some, None, Result, Ok, Err, IfOk, IsErrOf, OnOk, drop, length, map, take}
+use Rattle.std.specs.Prelude.{ℕ, ◌≡◌, ◌<◌, ◌≤◌, ◌↔◌, List, [], ◌∷◌, ◌++◌, ◌+◌, ◌==◌, not, true, false, if◌then◌else◌, Option, Some, None, Result, Ok, Err, IfOk, IsErrOf, OnOk, drop, length, map, take}
 use Rattle.block_disk.specs.Device.{HasFailed}
 use Rattle.deferred_disk.specs.Deferred.{stop_of}
 use Rattle.deferred_disk.specs.Host.{Fetches, HasLooked, HaveMet, Host}
@@ -12,7 +12,7 @@ use Rattle.hosted_heap.specs.Closing.{IsNotClosed}
 use Rattle.hosted_heap.specs.Hosting.{Hosting, IsClosedWith, SameHeap, hosted_device}
 use Rattle.hosted_heap.specs.Lanes.{IsAwaitedBy, IsJoinedHere}
 use Rattle.hosted_heap.specs.Meeting.{AreAllMade, FetchesAll, SameButMet}
-use Rattle.hosted_heap.specs.Opening.{IsFound, IsMade, RefusesMaking, RefusesOpening}
+use Rattle.hosted_heap.specs.Opening.{HasRings, IsFound, IsMade, RefusesMaking, RefusesOpening}
 use Rattle.hosted_heap.specs.Rounds.{HasRound}
 use Rattle.hosted_heap.specs.Sessions.{Seated}
 use Rattle.hosted_heap.specs.declared.closing.Closed.{Closed}
@@ -39,6 +39,7 @@ use Rattle.trim_helper.specs.Parts.{IsServing}
 use Rattle.zelamiku.specs.Own.{Held}
 use Rattle.zelamiku.specs.Behind.{Answers, behind, nothing_behind, heap_behind, closed_behind, session_behind, stopped_behind}
 use Rattle.zelamiku.specs.HeapStatuses.{acknowledged_status, host_status, not_closed_status, round_status}
+use Rattle.zelamiku.specs.declared.heap_calls.TheConstants.{ALL}
 use Rattle.zelamiku.specs.declared.state.Open.{Open}
 use Rattle.zelamiku.specs.declared.state.Open.TheVariants as kind
 use Rattle.zelamiku.specs.declared.status.TheConstants.{OK, OPEN, WRONG_KIND, NO_MEMORY, NONE_LEFT, BAD_HEADER, STOPPED, CLOSED}
@@ -69,11 +70,12 @@ pub data RefusesFormat (objects : ℕ) (fields : List Field) (lanes capacity sta
   NoRoom : lanes ≤ 255 → status ≡ NO_MEMORY → RefusesFormat objects fields lanes capacity status
   NotMade : (e : HostError) → lanes ≤ 255 → RefusesMaking objects (rows_of fields) lanes capacity e → status ≡ host_status e → RefusesFormat objects fields lanes capacity status
 
--- `zelamiku_format_marked`, where nothing was behind the handle: a heap of these objects and fields, with the size of its image; or none
-pub data FormatsAt (objects : ℕ) (fields : List Field) (lanes capacity size : ℕ) (after : Held) (status : ℕ) : Type 0 where
-  IsFormatted : (x : Hosting) → IsMade objects (rows_of fields) lanes capacity x → size ≡ size_of x.helper.store.known.layout → after ≡ heap_behind x → status ≡ OK
-      → FormatsAt objects fields lanes capacity size after status
-  NotFormatted : RefusesFormat objects fields lanes capacity status → after ≡ nothing_behind → FormatsAt objects fields lanes capacity size after status
+-- `zelamiku_format_marked` with rings of the usual room, and `zelamiku_format_rings` with rings of this room, where nothing was behind the handle:
+-- a heap of these objects and fields, with the size of its image; or none
+pub data FormatsAt (ring objects : ℕ) (fields : List Field) (lanes capacity size : ℕ) (after : Held) (status : ℕ) : Type 0 where
+  IsFormatted : (x : Hosting) → IsMade objects (rows_of fields) lanes capacity x → HasRings ring x → size ≡ size_of x.helper.store.known.layout → after ≡ heap_behind x → status ≡ OK
+      → FormatsAt ring objects fields lanes capacity size after status
+  NotFormatted : RefusesFormat objects fields lanes capacity status → after ≡ nothing_behind → FormatsAt ring objects fields lanes capacity size after status
 
 -- what C is told of a heap with this layout, and of what recovery reports
 abbrev pub found_of : Layout → Report → Found
@@ -82,10 +84,11 @@ found_of l report = record { size = size_of l; objects = l.objects; fields = l.f
 abbrev pub nothing_found : Found
 nothing_found = record { size = 0; objects = 0; fields = 0; lanes = 0; capacity = 0; dropped = 0; undone = 0 }
 
--- the heap runs with what recovery finds in these bytes, an image of one of these versions, and this is told of it
-pub record IsOpened (versions : Versions) (bytes : List ℕ) (x : Hosting) (found : Found) : Type 0 where
+-- the heap runs with what recovery finds in these bytes, an image of one of these versions, with rings of this room, and this is told of it
+pub record IsOpened (ring : ℕ) (versions : Versions) (bytes : List ℕ) (x : Hosting) (found : Found) : Type 0 where
   pub report : Report
   pub recovered : IsFound versions bytes x report
+  pub rings : HasRings ring x
   pub told : found ≡ found_of x.helper.store.known.layout report
 
 -- why no heap is opened
@@ -94,11 +97,11 @@ pub record RefusesOpen (versions : Versions) (bytes : List ℕ) (status : ℕ) :
   pub refuses : RefusesOpening versions bytes why
   pub told : status ≡ host_status why
 
--- `zelamiku_open` of the current version, and `zelamiku_upgrade` of both, where nothing was behind the handle: the heap that recovery
--- finds in these bytes, or none
-pub data OpensAt (versions : Versions) (bytes : List ℕ) (found : Found) (after : Held) (status : ℕ) : Type 0 where
-  IsOpen : (x : Hosting) → IsOpened versions bytes x found → after ≡ heap_behind x → status ≡ OK → OpensAt versions bytes found after status
-  NotOpen : RefusesOpen versions bytes status → after ≡ nothing_behind → OpensAt versions bytes found after status
+-- `zelamiku_open` of the current version, and `zelamiku_upgrade` of both, with rings of the usual room, and `zelamiku_open_rings` and
+-- `zelamiku_upgrade_rings` with rings of this room, where nothing was behind the handle: the heap that recovery finds in these bytes, or none
+pub data OpensAt (ring : ℕ) (versions : Versions) (bytes : List ℕ) (found : Found) (after : Held) (status : ℕ) : Type 0 where
+  IsOpen : (x : Hosting) → IsOpened ring versions bytes x found → after ≡ heap_behind x → status ≡ OK → OpensAt ring versions bytes found after status
+  NotOpen : RefusesOpen versions bytes status → after ≡ nothing_behind → OpensAt ring versions bytes found after status
 
 -- the session of the next lane, which was told nothing, is joined to the helper and comes back where it is awaited, and the heap that handed
 -- it out
@@ -178,12 +181,17 @@ MakesCallAt (kind.Closed x) after status = (y : Closed) × (y.disk ≡ x.disk) �
 MakesCallAt (kind.Stopped word) after status = (status ≡ STOPPED) × (after ≡ stopped_behind word)
 MakesCallAt other after status = (status ≡ WRONG_KIND) × (after ≡ behind other)
 
+-- how many records C lets a round apply, or that there is no bound, by `ALL`
+abbrev pub bound_of : (most : ℕ) → Option ℕ
+bound_of most = if most == ALL then None else Some most
+
 -- `zelamiku_round`
-abbrev pub RoundsAt : (applied : ℕ) → Open → (after : Held) → (status : ℕ) → Type 0
-RoundsAt applied (kind.Heap x) after status = (y : Hosting) × (answer : Result ℕ RoundError) × HasRound x y answer × IsSeen round_status answer applied status × (after ≡ heap_behind y)
-RoundsAt applied (kind.Closed x) after status = (status ≡ CLOSED) × (after ≡ closed_behind x)
-RoundsAt applied (kind.Stopped word) after status = (status ≡ STOPPED) × (after ≡ stopped_behind word)
-RoundsAt applied other after status = (status ≡ WRONG_KIND) × (after ≡ behind other)
+abbrev pub RoundsAt : (most applied : ℕ) → Open → (after : Held) → (status : ℕ) → Type 0
+RoundsAt most applied (kind.Heap x) after status =
+    (y : Hosting) × (answer : Result ℕ RoundError) × HasRound (bound_of most) x y answer × IsSeen round_status answer applied status × (after ≡ heap_behind y)
+RoundsAt most applied (kind.Closed x) after status = (status ≡ CLOSED) × (after ≡ closed_behind x)
+RoundsAt most applied (kind.Stopped word) after status = (status ≡ STOPPED) × (after ≡ stopped_behind word)
+RoundsAt most applied other after status = (status ≡ WRONG_KIND) × (after ≡ behind other)
 
 -- How many sections of the lane are acknowledged, where each call was made, or why that isn't told. Recovery takes whatever a crash of the
 -- host's device leaves then, or after whatever calls since, and keeps so many sections.

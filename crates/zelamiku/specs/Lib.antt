@@ -12,4 +12,5 @@ pub mod PoolDoors
 pub mod HeapStatuses
 pub mod HeapDoors
 pub mod ReportDoors
+pub mod RingDoors
 pub mod CopyDoors

@@ -4,7 +4,7 @@ use Rattle.std.specs.Prelude.{ℕ, ◌≡◌, ◌<◌, List, [], length, replica
 use Rattle.std.specs.List.{slice_index_or}
 use Rattle.heap_model.specs.declared.limits.TheConstants.{LANES}
 use Rattle.hosted_heap.specs.Hosting.{Hosting}
-use Rattle.hosted_heap.specs.Opening.{IsFound, RefusesOpening}
+use Rattle.hosted_heap.specs.Opening.{HasRings, IsFound, RefusesOpening}
 use Rattle.hosted_heap.specs.declared.error.HostError.{HostError}
 use Rattle.hosted_heap.specs.declared.error.HostError.TheVariants as host
 use Rattle.image.specs.declared.layout.Layout.{Layout}
@@ -57,15 +57,16 @@ told_at None = record { section = 0; after_section = 0; lane = NOBODY; why = 0; 
 abbrev pub TellsEach : List Section → List Dropped → Type 0
 TellsEach sections told = (i : ℕ) (d : Dropped) → i < length told → slice_index_or told i d ≡ told_at (slice_get sections i)
 
--- Nothing is told of an opening that was refused since something was behind the handle.
+-- Nothing is told of an opening that was refused because something was behind the handle, or because of its rings.
 pub record TellsNothing (told : Told) (dropped : List Dropped) : Type 0 where
   pub told_is : told ≡ nothing_told
   pub none : TellsEach [] dropped
 
--- `zelamiku_open_telling` of the current version, and `zelamiku_upgrade_telling` of both, where nothing was behind the handle: the heap that
+-- `zelamiku_open_telling` of the current version, and `zelamiku_upgrade_telling` of both, with rings of the usual room, and
+-- `zelamiku_open_telling_rings` and `zelamiku_upgrade_telling_rings` with rings of this room, where nothing was behind the handle: the heap that
 -- recovery finds in these bytes, and what it reports; or none, and why
-pub data OpensTelling (versions : Versions) (bytes : List ℕ) (told : Told) (dropped : List Dropped) (after : Held) (status : ℕ) : Type 0 where
-  IsOpenTold : (x : Hosting) (report : Report) → IsFound versions bytes x report → told ≡ told_of x.helper.store.known.layout report → TellsEach report.dropped.items dropped
-      → after ≡ heap_behind x → status ≡ OK → OpensTelling versions bytes told dropped after status
+pub data OpensTelling (ring : ℕ) (versions : Versions) (bytes : List ℕ) (told : Told) (dropped : List Dropped) (after : Held) (status : ℕ) : Type 0 where
+  IsOpenTold : (x : Hosting) (report : Report) → IsFound versions bytes x report → HasRings ring x → told ≡ told_of x.helper.store.known.layout report → TellsEach report.dropped.items dropped
+      → after ≡ heap_behind x → status ≡ OK → OpensTelling ring versions bytes told dropped after status
   NotOpenTold : (why : HostError) → RefusesOpening versions bytes why → told ≡ told_of_refusal why → TellsEach [] dropped → after ≡ nothing_behind → status ≡ host_status why
-      → OpensTelling versions bytes told dropped after status
+      → OpensTelling ring versions bytes told dropped after status

@@ -1,7 +1,7 @@
 //! The calls of a heap, on the heap of a handle.
 ghost use Rattle.std.specs.Prelude.{◌≡◌, ◌≢◌, Some, None, IfErr, IfOk, if◌then◌else◌};
 ghost use Rattle.std.specs.Option.{option_copied};
-ghost use Rattle.hosted_heap.specs.Opening.{IsMade};
+ghost use Rattle.hosted_heap.specs.Opening.{HasRings, IsMade};
 ghost use Rattle.zelamiku.specs.Behind.{Answers, behind, heap_behind, session_behind};
 ghost use Rattle.zelamiku.specs.HeapDoors.{AcknowledgesAt, ClosesAt, HandsOne, HandsOutAt, HasAcknowledged, IsOpened, MakesCallAt, RefusesFormat, RefusesOpen, RoundsAt, TellsNextAt, filled_of, found_of, nothing_found, rows_of, told_of};
 ghost use Rattle.zelamiku.specs.HeapDoors as doors;
@@ -16,18 +16,24 @@ use heap_model::{Lane, ObjectId};
 use hosted_heap::{AcknowledgedError, HostedHeap, HostedSession, NotClosed};
 use hosted_life::host_law;
 use image::GuardRow;
+use lane_rings::RingRecords;
 use recover::{Report, Versions};
 use std::alloc::{AllocError, Global};
 
-/// A heap of these objects and fields.
+/// No bound on the records of a round.
+pub const ALL: u64 = u64::MAX;
+
+/// A heap of these objects and fields, with rings of this room.
 pub fn format(
     alloc: Global,
     objects: u32,
     fields: &[Field],
     lanes: u32,
     capacity: u32,
+    ring: RingRecords,
 ) -> Result<HostedHeap, u32>
     ensures ok { IfOk result (IsMade objects (rows_of fields.now) lanes capacity) }
+    ensures rings { IfOk result (HasRings ring) }
     ensures refused { IfErr result (RefusesFormat objects fields.now lanes capacity) }
 {
     let Ok(lanes) = u8::try_from(lanes) else {
@@ -36,7 +42,7 @@ pub fn format(
     let Ok(rows) = rows_of(alloc, fields) else {
         return Err(status::NO_MEMORY);
     };
-    match hosted_heap::format(alloc, objects, &rows, lanes, capacity) {
+    match hosted_heap::format_with(alloc, objects, &rows, lanes, capacity, ring) {
         Ok(heap) => Ok(heap),
         Err(refusal) => Err(status::of_host(refusal)),
     }
@@ -63,12 +69,17 @@ fn row_of(field: Field) -> GuardRow
     }
 }
 
-/// The heap of these bytes, an image of one of these versions, and what recovery found in them.
-pub fn open(alloc: Global, bytes: &[u8], versions: Versions) -> Result<(HostedHeap, Found), u32>
-    ensures ok { IfOk result (λ r. IsOpened versions bytes.now r.0 r.1) }
+/// The heap of these bytes, an image of one of these versions, with rings of this room, and what recovery found in them.
+pub fn open(
+    alloc: Global,
+    bytes: &[u8],
+    versions: Versions,
+    ring: RingRecords,
+) -> Result<(HostedHeap, Found), u32>
+    ensures ok { IfOk result (λ r. IsOpened ring versions bytes.now r.0 r.1) }
     ensures refused { IfErr result (RefusesOpen versions bytes.now) }
 {
-    match hosted_heap::open(alloc, bytes, versions) {
+    match hosted_heap::open_with(alloc, bytes, versions, ring) {
         Ok((heap, report)) => {
             let found = found_in(&heap, &report);
             Ok((heap, found))
@@ -210,13 +221,13 @@ fn of_done(is_done: bool) -> u32
     }
 }
 
-/// A round of the helper: how many records it applied, or 0, and the status.
-pub fn round(state: &mut Inner) -> (u64, u32)
-    ensures told { Answers (RoundsAt result.0) (Some state.old) (Some state.new) result.1 }
+/// A round of the helper, of at most so many records, or of any number by [`ALL`]: how many it applied, or 0, and the status.
+pub fn round(state: &mut Inner, most: u64) -> (u64, u32)
+    ensures told { Answers (RoundsAt most result.0) (Some state.old) (Some state.new) result.1 }
     ensures refused { result.1 ≢ OK → result.0 ≡ 0 }
 {
     match &mut state.open {
-        Open::Heap(heap) => match heap.round() {
+        Open::Heap(heap) => match heap.round(bound_of(most)) {
             Ok(applied) => (applied, status::OK),
             Err(refusal) => (0, status::of_round(refusal)),
         },
@@ -224,6 +235,12 @@ pub fn round(state: &mut Inner) -> (u64, u32)
         Open::Stopped(_) => (0, status::STOPPED),
         _ => (0, status::WRONG_KIND),
     }
+}
+
+fn bound_of(most: u64) -> Option<u64>
+    ensures { result ≡ doors.bound_of most }
+{
+    if most == ALL { None } else { Some(most) }
 }
 
 /// How many sections of the lane are acknowledged, or 0, and the status.

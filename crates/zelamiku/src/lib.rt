@@ -14,6 +14,7 @@ mod pool_calls;
 mod pool_exports;
 mod report_calls;
 mod report_exports;
+mod ring_exports;
 mod session_calls;
 mod session_exports;
 mod slot;
@@ -32,6 +33,10 @@ pub use heap_exports::{
 };
 pub use pool_exports::{zelamiku_pool_fields, zelamiku_pool_give, zelamiku_pool_take};
 pub use report_exports::{zelamiku_open_telling, zelamiku_upgrade_telling};
+pub use ring_exports::{
+    zelamiku_format_rings, zelamiku_open_rings, zelamiku_open_telling_rings,
+    zelamiku_upgrade_rings, zelamiku_upgrade_telling_rings,
+};
 pub use session_exports::{
     zelamiku_begin_wait, zelamiku_end, zelamiku_exit, zelamiku_lane, zelamiku_load, zelamiku_look,
     zelamiku_notify, zelamiku_notify_all, zelamiku_round_sections, zelamiku_store,

@@ -108,7 +108,7 @@ pub const BAD_RECORD: u32 = 30;
 /// No threads can have left the image's log.
 pub const ILLEGAL_LOG: u32 = 31;
 
-// 32 to 34 are of zelamiku_file.h.
+// 32 to 34 are of the hosts' headers.
 /// The heap has stopped since its host couldn't make a sync.
 pub const STOPPED: u32 = 35;
 
@@ -126,6 +126,10 @@ pub const CLOSED: u32 = 39;
 
 /// The image has version 1, which only an upgrade opens.
 pub const OLD_VERSION: u32 = 40;
+
+// 41 to 43 are of zelamiku_threads.h.
+/// A lane's ring can't have room for as many records as C asks for.
+pub const RING: u32 = 44;
 
 /// The status of a session's refusal.
 pub fn of_session(refusal: SessionError) -> u32

@@ -1,11 +1,10 @@
-use Rattle.std.proofs.Common.{refl, ◌∙◌}
-use Rattle.zelamiku.specs.HeapDoors.{IsFormatted, NotFormatted}
-use Rattle.zelamiku.proofs.Emptiness.{nothing_still}
+use Rattle.std.proofs.Common.{ℕ, subst}
+use Rattle.zelamiku.specs.Ended.{still_behind}
+use Rattle.zelamiku.specs.HeapDoors.{FormatsAt, PutsNew}
 use Rattle.zelamiku.proofs.heap_exports.zelamiku_format_marked.Goals as goal
 
-pub returns-in-Ok-put_new-clause-told : goal.returns-in-Ok-put_new-clause-told
-returns-in-Ok-put_new-clause-told c =
-    rw (nothing_still c.args.place.now.handle.state c.is_taken.new.place.handle.state c.is_taken.ensures.still c.if-is_taken.ensures.told) (IsFormatted c.in-Ok.heap c.in-Ok.ensures.ok c.size-bytes.ensures c.in-Ok-put_new.ensures.ok refl)
-
-pub returns-in-Err-clause-told : goal.returns-in-Err-clause-told
-returns-in-Err-clause-told c = rw (nothing_still c.args.place.now.handle.state c.is_taken.new.place.handle.state c.is_taken.ensures.still c.if-is_taken.ensures.told) (NotFormatted c.in-Err.ensures.refused (c.is_taken.ensures.still ∙ nothing_still c.args.place.now.handle.state c.is_taken.new.place.handle.state c.is_taken.ensures.still c.if-is_taken.ensures.told))
+pub returns-clause-told : goal.returns-clause-told
+returns-clause-told c =
+    subst (λ (n : ℕ). PutsNew (FormatsAt n c.args.objects c.args.fields.now c.args.lanes c.args.capacity c.format_at.new.size) (still_behind c.args.place.now.handle.state) c.format_at.new.place.handle.state c.format_at.result)
+    c.usual-ring.ensures
+    c.format_at.ensures.told

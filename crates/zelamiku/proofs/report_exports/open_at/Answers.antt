@@ -25,7 +25,7 @@ returns-in-Ok-put_new c =
     let each : TellsEach c.in-Ok.report.dropped.items dropped = subst (λ (sections : List Section). TellsEach sections dropped) c.deref.ensures.value c.tell_dropped-in-Ok.ensures in
     let none = nothing_still c.args.place.now.handle.state c.is_taken.new.place.handle.state c.is_taken.ensures.still c.if-is_taken.ensures.told in
     record {
-      told = rw none (IsOpenTold c.in-Ok.heap c.in-Ok.report c.in-Ok.ensures.ok c.of_heap-found.ensures each c.in-Ok-put_new.ensures.ok refl);
+      told = rw none (IsOpenTold c.in-Ok.heap c.in-Ok.report c.in-Ok.ensures.ok c.in-Ok.ensures.rings c.of_heap-found.ensures each c.in-Ok-put_new.ensures.ok refl);
       refused = λ some. absurd (none_some (still_behind c.args.place.now.handle.state) none some);
     }
 
