@@ -185,7 +185,7 @@ MakesCallAt other after status = (status ≡ WRONG_KIND) × (after ≡ behind ot
 abbrev pub bound_of : (most : ℕ) → Option ℕ
 bound_of most = if most == ALL then None else Some most
 
--- `zelamiku_round`
+-- `zelamiku_round_most`
 abbrev pub RoundsAt : (most applied : ℕ) → Open → (after : Held) → (status : ℕ) → Type 0
 RoundsAt most applied (kind.Heap x) after status =
     (y : Hosting) × (answer : Result ℕ RoundError) × HasRound (bound_of most) x y answer × IsSeen round_status answer applied status × (after ≡ heap_behind y)

@@ -185,9 +185,10 @@ pub extern "C" fn zelamiku_call_done(place: &mut Slot) -> u32
     heap_calls::call_done(place.handle.as_mut())
 }
 
-/// A round of the helper, of at most `most` records, or of any number by [`ALL`](heap_calls::ALL).
+/// A round of the helper, of at most `most` records, or of any number by [`ALL`](heap_calls::ALL). A program whose rounds tell no bound,
+/// from before there was one, calls another name.
 #[unsafe(no_mangle)]
-pub extern "C" fn zelamiku_round(place: &mut Slot, most: u64, applied: &mut u64) -> u32
+pub extern "C" fn zelamiku_round_most(place: &mut Slot, most: u64, applied: &mut u64) -> u32
     // A round does what the heap's round does, by the bound that C gives, and 2^64 - 1 is no bound. It tells how many
     // records it applied or why it stopped. `CALLS_LEFT` is answered exactly where there may be no room for its calls,
     // and nothing was done.

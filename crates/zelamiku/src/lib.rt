@@ -28,7 +28,7 @@ mod words;
 pub use copy_exports::zelamiku_copy;
 pub use heap_exports::{
     zelamiku_acknowledged, zelamiku_call_done, zelamiku_close, zelamiku_format_marked,
-    zelamiku_free, zelamiku_next_call, zelamiku_open, zelamiku_round, zelamiku_session,
+    zelamiku_free, zelamiku_next_call, zelamiku_open, zelamiku_round_most, zelamiku_session,
     zelamiku_upgrade,
 };
 pub use pool_exports::{zelamiku_pool_fields, zelamiku_pool_give, zelamiku_pool_take};
