@@ -3,7 +3,7 @@ use Rattle.std.proofs.lemmas.List.Elements.{All-nil, All-cons}
 use Rattle.monitor.specs.Seats.{Sitting}
 use Rattle.session.specs.Sessions.{IsSessionOf, seat_of}
 use Rattle.session.specs.Logs.{rooms}
-use Rattle.session.specs.Opened.{AreFresh, AreOpened}
+use Rattle.session.specs.Opened.{AreFresh, AreOpened, IsOpened}
 use Rattle.session.proofs.Owning.{seat_same}
 use Rattle.session.proofs.Seating.{given_fresh, fresh_last}
 use Rattle.session.proofs.opening.open_sessions.Goals as goal
@@ -35,6 +35,6 @@ seats-preserved c = let s = c.in-Some.seat in let left = c.pop.new.self.items in
         s ∷ i.0,
         sym (append_assoc left (s ∷ []) i.0) ∙ ap (λ (xs : List Sitting). xs ++ i.0) (sym c.in-Some.ensures.items) ∙ i.1,
         subst (λ cs. AreOpened k (s ∷ i.0) c.insert.new.self.items cs) (sym c.in_ok-insert-2.ensures.items) (subst (λ xs. AreOpened k (s ∷ i.0) xs (c.in_ok-session.receiver ∷ c.seats.receivers.items)) (sym c.in_ok-insert.ensures.items)
-            (e, i.2)),
+            (subst (λ n. IsOpened (rooms n c.args.capacity) s c.in_ok-session.session c.in_ok-session.receiver) c.get.ensures.number e, i.2)),
       );
     }
