@@ -1,11 +1,13 @@
 -- What sessions know of a wait.
-use Rattle.std.proofs.Common.{ℕ, ◌≡◌, ◌+◌, ◌<◌, ◌≤◌, inl, inr, [], ◌∷◌, Result, Ok, Err, IfErr, MatchResult, sym, ap, ◌∙◌, subst, arith}
+use Rattle.std.proofs.Common.{ℕ, ◌≡◌, ◌+◌, ◌<◌, ◌≤◌, inl, inr, [], ◌∷◌, Option, Some, None, Result, Ok, Err, IfErr, MatchResult, refl, sym, ap, ◌∙◌, subst, arith}
+use Rattle.std.proofs.lemmas.Bool.{cases_lt}
 use Rattle.heap_model.specs.declared.limits.TheConstants.{SECTION_RECORDS}
 use Rattle.rtrb.specs.Ring.{known_free}
 use Rattle.heap_model.specs.declared.ids.ObjectId.{ObjectId}
 use Rattle.heap_model.specs.declared.event.Event.TheVariants.{Wait}
 use Rattle.heap_model.specs.Own.{Hold}
-use Rattle.steps.specs.Views.{View}
+use Rattle.monitor.specs.Seats.{Home}
+use Rattle.steps.specs.Views.{View, hold, plan}
 use Rattle.steps.specs.declared.grip.Grip.{Grip}
 use Rattle.session.specs.declared.parts.Parts.{Parts}
 use Rattle.session.specs.declared.session.Session.{Session}
@@ -17,7 +19,8 @@ use Rattle.session.specs.Logs.{Rooms, held_count}
 use Rattle.session.specs.Calls.{IsFull, HasRing, IsWaitWorn, LeavesRoom, RefusesWait, BeginsWait}
 use Rattle.session.specs.Steps.{RefusesFat}
 use Rattle.session.specs.Sessions.{SameLane, SameRing, SameRingStill, rooms_in, rooms_of, view_of}
-use Rattle.session.specs.Keeping.{SameNumbers, HasRoomToWait, MayWait}
+use Rattle.session.specs.Keeping.{AsksForGrip, SameNumbers, HasRoomToWait, MayWait, hold_of}
+use Rattle.session.specs.Sits.{Finds}
 use Rattle.session.proofs.Holding.{held_length}
 use Rattle.session.proofs.Fattening.{grip_fat}
 use Rattle.session.proofs.Lengthening.{after_quiet, held_stays, records_stay, place_stays, thin_back}
@@ -83,6 +86,24 @@ ring_for c k r u v w o h P (Err SectionFull) le why = absurd why
 ring_for c k r u v w o h P (Err TooMany) le why = absurd why
 ring_for c k r u v w o h P (Err TooDeep) le why = absurd why
 ring_for c k r u v w o h P (Err (Held x)) le why = absurd why
+
+-- a grip by which the session may wait, once both tests have given it
+pub may_join : (h : Home) (s t : Session) (o : ObjectId) (g : Grip) → AsksForGrip h s t o (Ok g) → MayWait t g.object (hold_of g) g
+may_join h s t o g asks = elim (cases_lt o.0 (plan h).objects) [
+  | inl low ↦ by_hold low (hold (view_of s) o.0) refl
+  | inr high ↦ absurd (let no : Ok g ≡ Err UnknownObject = asks.unknown high in cc)
+]
+  where
+    by_hold : o.0 < (plan h).objects → (x : Option Hold) → hold (view_of s) o.0 ≡ x → MayWait t g.object (hold_of g) g
+    by_hold low None none = absurd (let no : Ok g ≡ Err NotHeld = asks.not_held low none in cc)
+    by_hold low (Some k) own =
+        let may = asks.held k low own in record {
+          found = subst (λ z. Finds (view_of t) t.parts.held.items z g) (sym may.found.object) may.found;
+          number = refl;
+          fat = may.fat;
+          room = may.room;
+          fresh = subst (λ n. IsWaitWorn (view_of t) (record { count = g.count; number = n }) → ⊥) (sym may.number) may.fresh;
+        }
 
 -- a wait is begun
 pub begun : (s t : Session) (w : View) (o : ObjectId) (h : Hold) (g : Grip) (c : Rooms) → Lengthens (view_of s) (view_of t) [] → rooms_of t ≡ c → MayWait t o h g → Lengthens (view_of t) w (Wait g.object g.number ∷ []) → BeginsWait c (view_of s) w o h
