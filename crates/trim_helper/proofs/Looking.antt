@@ -124,8 +124,8 @@ module _ {D : Type 0} (device : D → Device) where
   pub looked_again : (most left : ℕ) (x y z : Taking D) (n m looks : ℕ) → n + left ≡ most → Looked most x y n looks → DrainsRings device 1 (Some left) y z (Ok m) → Looked most x z (n + m) (looks + 1)
   looked_again most left x y z n m looks all was last = record {
     drained = drained_then x y z n m looks 1 was.drained last.ok;
-    stuck = λ some below. last.stuck (omega arith);
-    whole = λ some below. last.whole (omega arith);
+    stuck = λ some below. let low : m < left = omega arith in last.stuck low;
+    whole = λ some below. let low : m < left = omega arith in last.whole low;
   }
 
   drained_within : (x y : Taking D) (n looks most : ℕ) → looks ≤ most → Drained device looks x y n → Drained device most x y n
@@ -172,6 +172,7 @@ module _ {D : Type 0} (device : D → Device) where
   pub drains_up_to : (most : Option ℕ) (bound : ℕ) (x y : Taking D) (answer : Result ℕ StoreError) → MatchOption most (bound ≡ 2 ^ 64 - 1) (λ told. bound ≡ told) → DrainsRings device LOOKS (Some bound) x y answer → DrainsRings device LOOKS most x y answer
   drains_up_to (Some told) bound x y answer is on = subst (λ (k : ℕ). DrainsRings device LOOKS (Some k) x y answer) is on
   drains_up_to None bound x y (Ok n) is on =
+      let bounded : bound ≡ 2 ^ 64 - 1 = is in
       let low : n < bound = let few = on.ok.few in omega arith in
       record { ok = on.ok; within = tt; kept = tt; stuck = λ below. on.stuck low; whole = λ below. on.whole low; failed = tt; why = on.why }
   drains_up_to None bound x y (Err e) is on = record { ok = tt; within = tt; kept = on.kept; stuck = tt; whole = tt; failed = on.failed; why = on.why }

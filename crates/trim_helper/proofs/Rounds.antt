@@ -295,7 +295,7 @@ goes_on_drained device most h x z (Err e) of drains = goes_drained h x z of drai
 -- none is within each bound
 within_none : (most : Option ℕ) (n : ℕ) → n ≡ 0 → IsWithin most n
 within_none None n none = tt
-within_none (Some most) n none = omega arith
+within_none (Some most) n none = let le : n ≤ most = omega arith in le
 
 -- A round, from the drain on.
 module _ {D : Type 0} (device : D → Device) (s : Setting) (p : Past) (x : Parts D) (serving : IsServing device x s p) (z : Parts D) (most : Option ℕ) where

@@ -37,7 +37,7 @@ returns-clause-finishes g c = λ p has.
     let w = c.settle_applied.new.store in
     let taken = looks_taken g.D.Disk.device x c.meet.new.rings s p c.meet.ensures.looks has in
     let on = c.in_default.ensures.takes.ok in
-    let low = count_low g.D.Disk.device _ _ _ on (omega (arith, c.meet.ensures.looks.same.rooms, c.requires.room)) (omega (arith, c.meet.ensures.looks.same.count, c.requires.few)) c.requires.slots in
+    let low = count_low g.D.Disk.device met y _ on (omega (arith, c.meet.ensures.looks.same.rooms, c.requires.room)) (omega (arith, c.meet.ensures.looks.same.count, c.requires.few)) c.requires.slots in
     let all = λ (behind : (l : ℕ) → l < c.args.shared.plan.lanes → place_published c.meet.new.seat l ≤ trimmed_of p l).
     all_applied s c.args.shared.plan.lanes c.layout-layout.result.capacity (place_published c.meet.new.seat) (taken_in c.meet.new.seat) history.history history.one c.meet.new.rings c.meet.ensures.met present count
     c.log_law.ensures c.own_log_law.ensures g.D.Disk.device c.args.store.now c.args.waiting.now y _ p c.next_law.ensures taken lanes (ap (λ l. l.capacity) layout)
