@@ -12,7 +12,7 @@ use Rattle.image.specs.declared.layout.Layout.{Layout}
 use Rattle.monitor.specs.declared.view.Note.{Note}
 use Rattle.monitor.specs.Seats.{Helping, Home}
 use Rattle.monitor.specs.Views.{noted}
-use Rattle.store_past.specs.Past.{Past, IsPast, IsTrimmed, applied, no_past}
+use Rattle.store_past.specs.Past.{Past, IsPast, applied, no_past}
 use Rattle.store_past.specs.declared.error.StoreError.{StoreError}
 use Rattle.store_past.specs.declared.error.StoreError.TheVariants.{Failed, BadLane, BadId, Worn, NotNext, TooLong, LogFull, Unwritten, Fault, Unfinished}
 use Rattle.durable.specs.Runs.{HasRun, IsLeftBy, TakesSequences}
@@ -21,10 +21,10 @@ use Rattle.durable.specs.Store.{Known, HasPast}
 use Rattle.durable.proofs.Sequences.{takes_more, takes_none, takes_then}
 use Rattle.durable.proofs.Running.{left_always, ran_applied, ran_less, ran_none, ran_then}
 use Rattle.trim_helper.specs.Calls.{AreStuck, DrainsUpTo, HasGoneOn, IsBelow, IsWithin, Publishes, RoundsUpTo, SettlesUpTo}
-use Rattle.trim_helper.specs.Counts.{AddsCounts, StandForCuts, WasCount}
+use Rattle.trim_helper.specs.Counts.{WasCount}
 use Rattle.trim_helper.specs.Draining.{DrainsRings}
 use Rattle.trim_helper.specs.declared.draining.TheConstants.{LOOKS}
-use Rattle.trim_helper.specs.Helping.{HasPublished, IsHelper, IsPublished, count_published, place_published, taken_in}
+use Rattle.trim_helper.specs.Helping.{IsHelper, IsPublished, count_published, place_published, taken_in}
 use Rattle.trim_helper.specs.Parts.{HasDrained, IsServing, IsWhole, Parts, taking_of}
 use Rattle.trim_helper.specs.Rings.{received_of, known_of, held_back, waiting_in, stream}
 use Rattle.trim_helper.specs.Moves.{SameRings}

@@ -1,5 +1,5 @@
 -- How rings are drained: each function's call as one relation (this project's own).
-use Rattle.std.specs.Prelude.{ℕ, ◌≡◌, ◌≢◌, ◌+◌, ◌*◌, ◌<◌, ◌≤◌, if◌then◌else◌, Bool, true, false, List, ◌++◌, length, Option, Result, Ok, Err, IfOk, IfErr, OnOk, OnErr}
+use Rattle.std.specs.Prelude.{ℕ, ◌≡◌, ◌≢◌, ◌+◌, ◌*◌, ◌<◌, ◌≤◌, if◌then◌else◌, Bool, true, false, List, ◌++◌, length, Option, Result, Ok, Err, IfOk, IfErr, OnErr}
 use Rattle.heap_model.specs.declared.event.Event.{Event}
 use Rattle.lane_rings.specs.declared.ring_records.TheConstants.{MOST_RING_RECORDS}
 use Rattle.heap_model.specs.declared.record.Record.{Record}
