@@ -1,9 +1,10 @@
 -- Records are applied, one after the other.
-use Rattle.std.proofs.Common.{ℕ, ◌≡◌, ◌≢◌, ◌+◌, ◌*◌, ◌^◌, ◌<◌, ◌≤◌, if◌then◌else◌, Bool, true, false, List, [], ◌∷◌, ◌++◌, length, Ok, Err, Option, None, Some, MatchOption, refl, sym, ap, ◌∙◌, subst, inl, inr, arith}
+use Rattle.std.proofs.Common.{ℕ, ◌≡◌, ◌≢◌, ◌+◌, ◌-◌, ◌*◌, ◌^◌, ◌<◌, ◌≤◌, if◌then◌else◌, Bool, true, false, List, [], ◌∷◌, ◌++◌, length, Ok, Err, Option, None, Some, MatchOption, refl, sym, ap, ◌∙◌, subst, inl, inr, arith}
 use Rattle.std.proofs.lemmas.Bool.{cases_eq}
 use Rattle.std.proofs.lemmas.Bool.Decides.{eqb_tells}
 use Rattle.std.proofs.lemmas.List.{append-nil, append_assoc, length-append}
 use Rattle.lane_rings.specs.Rings.{Receiving}
+use Rattle.lane_rings.specs.declared.ring_records.TheConstants.{MOST_RING_RECORDS}
 use Rattle.heap_model.specs.declared.record.Record.{Record}
 use Rattle.heap_model.specs.Setting.{Setting}
 use Rattle.block_disk.specs.Device.{Device}
@@ -15,7 +16,7 @@ use Rattle.store_past.specs.declared.error.StoreError.{StoreError}
 use Rattle.store_past.specs.declared.error.StoreError.TheVariants.{Failed}
 use Rattle.trim_helper.specs.Rings.{received_of, known_of, held_back, waiting_in, stream}
 use Rattle.trim_helper.specs.Moves.{Moves, most_room, known_sum, held_sum}
-use Rattle.trim_helper.specs.Taken.{Taking, HasTaken, Advances, IsLaneStuck, IsStuckAt, applied_more}
+use Rattle.trim_helper.specs.Taken.{Taking, HasTaken, Advances, AllStuck, IsLaneStuck, IsStuckAt, applied_more}
 use Rattle.trim_helper.specs.Draining.{Empties, AppliesNext, HasAll, Rests, AppliesLane, Takes, AppliesLanes}
 use Rattle.trim_helper.proofs.Progress.{stream_own, stream_other}
 use Rattle.trim_helper.proofs.RingMoves.{same_refl, same_then, known_most, held_most}
@@ -123,16 +124,11 @@ module _ {D : Type 0} (device : D → Device) where
   pub advances_done : (x y z : Taking D) (n m : ℕ) → Advances device x y n → Advances device y z m → m ≡ 0 → Advances device x z n
   advances_done x y z n m one two none = subst (λ k. Advances device x z k) (omega arith) (advances_then x y z n m one two)
 
-  -- what is known and not applied gets less
-  pub turn_less : (x y : Taking D) (m : ℕ) → Advances device x y m → m ≢ 0 → known_sum y.rings + held_sum y.waiting < known_sum x.rings + held_sum x.waiting
-  turn_less x y m one some = let left = one.left in omega arith
-
-  -- so the count stays small
-  pub count_most : (x y z : Taking D) (n m : ℕ) → Advances device x y n → Advances device y z m → most_room x.rings ≤ 4096 → length x.rings ≤ 32 → length x.waiting ≡ 32 → n + m < 2 ^ 64
-  count_most x y z n m one two room few slots =
+  -- what the rings and the waiting records hold is little
+  pub count_low : (x y : Taking D) (n : ℕ) → Advances device x y n → most_room x.rings ≤ MOST_RING_RECORDS → length x.rings ≤ 32 → length x.waiting ≡ 32 → n < 2 ^ 64 - 1
+  count_low x y n one room few slots =
       let a = one.left in
-      let b = two.left in
-      let most : known_sum x.rings ≤ length x.rings * 4096 = known_most 4096 x.rings room in
+      let most : known_sum x.rings ≤ length x.rings * 65536 = known_most 65536 x.rings room in
       let held : held_sum x.waiting ≤ length x.waiting = held_most x.waiting in
       omega arith
 
@@ -206,57 +202,69 @@ module _ {D : Type 0} (device : D → Device) where
   pub advances_by_one : (x y z : Taking D) (lane n : ℕ) (b : Bool) → b ≡ true → Advances device x y n → AppliesNext device lane y z (Ok b) → Advances device x z (n + 1)
   advances_by_one x y z lane n b is one go = subst (λ k. Advances device x z (n + k)) (one_is b is) (advances_then device x y z n (if b then 1 else 0) one go.takes.ok)
 
-  pub count_one_more : (x y z : Taking D) (lane n : ℕ) (b : Bool) → b ≡ true → Advances device x y n → AppliesNext device lane y z (Ok b) → most_room x.rings ≤ 4096 → length x.rings ≤ 32 → length x.waiting ≡ 32 → n + 1 < 2 ^ 64
-  count_one_more x y z lane n b is one go room few slots = subst (λ k. n + k < 2 ^ 64) (one_is b is) (count_most device x y z n (if b then 1 else 0) one go.takes.ok room few slots)
-
-  pub goes_less : (x y : Taking D) (lane : ℕ) (b : Bool) → b ≡ true → AppliesNext device lane x y (Ok b) → known_sum y.rings + held_sum y.waiting < known_sum x.rings + held_sum x.waiting
-  goes_less x y lane b is go = turn_less device x y 1 (subst (λ k. Advances device x y k) (one_is b is) go.takes.ok) (λ no. absurd (omega arith))
-
   -- the lane has run on as long as it could
-  pub runs_done : (x y z : Taking D) (lane n : ℕ) (b : Bool) → b ≡ false → Advances device x y n → (n ≡ 0 → y ≡ x) → AppliesNext device lane y z (Ok b) → AppliesLane device lane x z (Ok n)
-  runs_done x y z lane n b not one still go =
+  pub runs_done : (x y z : Taking D) (lane most n : ℕ) (b : Bool) → b ≡ false → n < most → Advances device x y n → (n ≡ 0 → y ≡ x) → AppliesNext device lane y z (Ok b) → AppliesLane device lane most x z (Ok n)
+  runs_done x y z lane most n b not low one still go =
       let rests = go.rests not in
       record {
         takes = takes_done device x z n (advances_done device x y z n (if b then 1 else 0) one go.takes.ok (none_is b not));
-        stuck = rests.stuck;
-        rests = λ none. subst (λ k. Rests device lane k z) (still none) rests;
+        within = omega arith;
+        stuck = λ below. rests.stuck;
+        rests = λ none some. subst (λ k. Rests device lane k z) (still none) rests;
       }
 
-  pub runs_failed : (x y z : Taking D) (lane n : ℕ) (e : StoreError) → Advances device x y n → AppliesNext device lane y z (Err e) → AppliesLane device lane x z (Err e)
-  runs_failed x y z lane n e one go = record { takes = takes_failed device x y z n e one go.takes; stuck = tt; rests = tt }
+  -- the lane has run on as long as it might
+  pub runs_full : (x y : Taking D) (lane most n : ℕ) → n ≡ most → Advances device x y n → AppliesLane device lane most x y (Ok n)
+  runs_full x y lane most n full one = record {
+    takes = takes_done device x y n one;
+    within = omega arith;
+    stuck = λ below. absurd (omega arith);
+    rests = λ none some. absurd (omega arith);
+  }
 
-  -- The lanes below this one had their turn, and so many records were applied.
-  pub record Turned (x y : Taking D) (went lane : ℕ) : Type 0 where
+  pub runs_failed : (x y z : Taking D) (lane most n : ℕ) (e : StoreError) → Advances device x y n → AppliesNext device lane y z (Err e) → AppliesLane device lane most x z (Err e)
+  runs_failed x y z lane most n e one go = record { takes = takes_failed device x y z n e one go.takes; within = tt; stuck = tt; rests = tt }
+
+  -- The lanes below this one had their turn, and so many records were applied, within the bound.
+  pub record Turned (most : ℕ) (x y : Taking D) (went lane : ℕ) : Type 0 where
     pub advances : Advances device x y went
-    pub stuck : went ≡ 0 → (l : ℕ) → l < lane → IsStuckAt device y l
+    pub stuck : went ≡ 0 → 0 < most → (l : ℕ) → l < lane → IsStuckAt device y l
 
-  pub turned_none : (x : Taking D) → Turned x x 0 0
-  turned_none x = record { advances = advances_start device x; stuck = λ none l lt. absurd (omega arith) }
+  pub turned_none : (most : ℕ) (x : Taking D) → Turned most x x 0 0
+  turned_none most x = record { advances = advances_start device x; stuck = λ none some l lt. absurd (omega arith) }
 
-  pub turned_more : (x y z : Taking D) (went n lane : ℕ) → Turned x y went lane → AppliesLane device lane y z (Ok n) → Turned x z (went + n) (lane + 1)
-  turned_more x y z went n lane was ran = record {
+  -- the next lane had its share, which is some where something remained
+  pub turned_more : (most share : ℕ) (x y z : Taking D) (went n lane : ℕ) → (0 < most - went → 0 < share) → Turned most x y went lane → AppliesLane device lane share y z (Ok n) → Turned most x z (went + n) (lane + 1)
+  turned_more most share x y z went n lane gets was ran = record {
     advances = advances_then device x y z went n was.advances ran.takes.ok;
-    stuck = λ none l lt.
-        let rests : Rests device lane y z = ran.rests (omega arith) in
+    stuck = λ none some l lt.
+        let got : 0 < share = gets (omega arith) in
+        let rests : Rests device lane y z = ran.rests (omega arith) got in
         elim (cases_eq lane l) [
-          | inl at ↦ subst (λ k. IsStuckAt device z k) at ran.stuck
-          | inr other ↦ λ s p has. rests.others l s p other (was.stuck (omega arith) l (omega arith) s p (subst (λ (k : stores.Parts D). HasPast k.known s p (device k.disk)) rests.store has))
+          | inl at ↦ subst (λ k. IsStuckAt device z k) at rests.stuck
+          | inr other ↦ λ s p has. rests.others l s p other (was.stuck (omega arith) some l (omega arith) s p (subst (λ (k : stores.Parts D). HasPast k.known s p (device k.disk)) rests.store has))
         ];
   }
 
   -- each lane had its turn
-  pub turns_done : (x y : Taking D) (went lane : ℕ) → length y.rings ≤ lane → Turned x y went lane → AppliesLanes device x y (Ok went)
-  turns_done x y went lane all was = record { takes = takes_done device x y went was.advances; stuck = λ none l lt. was.stuck none l (omega arith) }
+  pub turns_done : (most : ℕ) (x y : Taking D) (went lane : ℕ) → length y.rings ≤ lane → went ≤ most → Turned most x y went lane → AppliesLanes device most x y (Ok went)
+  turns_done most x y went lane all within was = record { takes = takes_done device x y went was.advances; within = within; stuck = λ none some l lt. was.stuck none some l (omega arith) }
 
-  pub turns_failed : (x y z : Taking D) (went lane : ℕ) (e : StoreError) → Turned x y went lane → AppliesLane device lane y z (Err e) → AppliesLanes device x z (Err e)
-  turns_failed x y z went lane e was ran = record { takes = takes_failed device x y z went e was.advances ran.takes; stuck = tt }
+  pub turns_failed : (most share : ℕ) (x y z : Taking D) (went lane : ℕ) (e : StoreError) → Turned most x y went lane → AppliesLane device lane share y z (Err e) → AppliesLanes device most x z (Err e)
+  turns_failed most share x y z went lane e was ran = record { takes = takes_failed device x y z went e was.advances ran.takes; within = tt; stuck = tt }
 
-  -- a turn in which none went was the last
-  pub empties_done : (x y z : Taking D) (n m : ℕ) → m ≡ 0 → Advances device x y n → AppliesLanes device y z (Ok m) → HasAll device z → Empties device x z (Ok n)
-  empties_done x y z n m none one last all = record { takes = takes_done device x z n (advances_done device x y z n m one last.takes.ok none); stuck = last.stuck none; whole = all }
+  -- a turn in which some might go, and none did, was the last
+  pub empties_done : (most left : ℕ) (x y z : Taking D) (n m : ℕ) → m ≡ 0 → n + left ≡ most → 0 < left → Advances device x y n → AppliesLanes device left y z (Ok m) → (AllStuck device z → HasAll device z) → Empties device most x z (Ok n)
+  empties_done most left x y z n m none all some one last whole =
+      let stuck : AllStuck device z = last.stuck none some in
+      record { takes = takes_done device x z n (advances_done device x y z n m one last.takes.ok none); within = omega arith; stuck = λ below. stuck; whole = λ below. whole stuck }
 
-  pub empties_failed : (x y z : Taking D) (n : ℕ) (e : StoreError) → Advances device x y n → AppliesLanes device y z (Err e) → Empties device x z (Err e)
-  empties_failed x y z n e one last = record { takes = takes_failed device x y z n e one last.takes; stuck = tt; whole = tt }
+  -- so many were applied as might be
+  pub empties_full : (most : ℕ) (x y : Taking D) (n : ℕ) → n ≡ most → Advances device x y n → Empties device most x y (Ok n)
+  empties_full most x y n full one = record { takes = takes_done device x y n one; within = omega arith; stuck = λ below. absurd (omega arith); whole = λ below. absurd (omega arith) }
+
+  pub empties_failed : (most left : ℕ) (x y z : Taking D) (n : ℕ) (e : StoreError) → Advances device x y n → AppliesLanes device left y z (Err e) → Empties device most x z (Err e)
+  empties_failed most left x y z n e one last = record { takes = takes_failed device x y z n e one last.takes; within = tt; stuck = tt; whole = tt }
 
 pub longer : (k n m : ℕ) → m ≡ n → k < n → k < m
 longer k n m e lt = omega arith

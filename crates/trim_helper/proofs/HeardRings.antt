@@ -1,5 +1,5 @@
 -- Rings that are heard: the same records, and what the seat has published.
-use Rattle.std.proofs.Common.{ℕ, ◌≡◌, ◌<◌, ◌≤◌, List, [], ◌++◌, length, MatchOption, Result, Ok, Err, OnErr, slice_index_or, slice_set, refl, sym, ap, ◌∙◌, subst, inl, inr, arith, if◌then◌else◌, true, false, ◌∷◌, reverse}
+use Rattle.std.proofs.Common.{ℕ, ◌≡◌, ◌<◌, ◌≤◌, List, [], ◌++◌, length, MatchOption, Option, Result, Ok, Err, OnErr, slice_index_or, slice_set, refl, sym, ap, ◌∙◌, subst, inl, inr, arith, if◌then◌else◌, true, false, ◌∷◌, reverse}
 use Rattle.std.proofs.lemmas.Bool.Decides.{eqb_tells}
 use Rattle.std.proofs.lemmas.List.{append_assoc, reverse-append}
 use Rattle.lane_rings.specs.Rings.{Receiving, SameReceiver, known_records, received}
@@ -16,7 +16,7 @@ use Rattle.monitor.specs.Words.{setting_of}
 use Rattle.store_past.specs.Past.{Past, applied}
 use Rattle.store_past.specs.declared.error.StoreError.{StoreError}
 use Rattle.durable.specs.Store as stores
-use Rattle.trim_helper.specs.Calls.{AreStuck, HasGoneOn, SettlesAll}
+use Rattle.trim_helper.specs.Calls.{AreStuck, HasGoneOn, SettlesUpTo}
 use Rattle.trim_helper.specs.Heard.{HasSeen, Hears, SeenLaw}
 use Rattle.trim_helper.specs.Hearing.{IsNoted, KeepsRecords}
 use Rattle.trim_helper.specs.Helping.{IsHelper}
@@ -81,30 +81,35 @@ module _ {D : Type 0} (device : D → Device) (y : Parts D) (rings : List Receiv
   still_unpublished h (Err e) was = noted_then h y.seat seat was same
 
   -- and a round that made it is one
-  pub rounds_heard : (s : Setting) (p : Past) (x : Parts D) (answer : Result ℕ StoreError) → SettlesAll device s p x y answer → SettlesAll device s p x (parts_from y.store rings y.waiting y.is_settled seat) answer
-  rounds_heard s p x answer r = record {
-    newer = r.newer;
-    count = r.count;
-    most = λ l. let e : length (received_of rings l) ≡ length (received_of y.rings l) = ap (λ (xs : List Record). length xs) (kept.received l) in omega (arith, e, r.most l);
-    stuck = λ runs. heard_stuck x.store.known.layout (device x.store.disk) s _ (r.stuck runs);
-    now = r.now;
-    same = r.same;
-    cut = r.cut;
-    places = r.places;
-    ran = r.ran;
-    serves = heard_serves s r.now r.serves;
-    takes = r.takes;
-    settled = r.settled;
-    durable = r.durable;
-    left = r.left;
-    quiet = r.quiet;
-    still = r.still;
-    failed = r.failed;
-    refused = r.refused;
-    unsettled = r.unsettled;
-    unpublished = still_unpublished x.seat answer r.unpublished;
-    cause = r.cause;
-  }
+  pub rounds_heard : (most : Option ℕ) (s : Setting) (p : Past) (x : Parts D) (answer : Result ℕ StoreError) → SettlesUpTo device most s p x y answer → SettlesUpTo device most s p x (parts_from y.store rings y.waiting y.is_settled seat) answer
+  rounds_heard most s p x answer r =
+      let w = r.works in
+      record {
+        works = record {
+          newer = w.newer;
+          count = w.count;
+          most = λ l. let e : length (received_of rings l) ≡ length (received_of y.rings l) = ap (λ (xs : List Record). length xs) (kept.received l) in omega (arith, e, w.most l);
+          now = w.now;
+          same = w.same;
+          cut = w.cut;
+          places = w.places;
+          ran = w.ran;
+          serves = heard_serves s w.now w.serves;
+          takes = w.takes;
+          settled = w.settled;
+          durable = w.durable;
+          left = w.left;
+          quiet = w.quiet;
+          still = w.still;
+          failed = w.failed;
+          refused = w.refused;
+          unsettled = w.unsettled;
+          unpublished = still_unpublished x.seat answer w.unpublished;
+          cause = w.cause;
+        };
+        within = r.within;
+        stuck = λ runs below. heard_stuck x.store.known.layout (device x.store.disk) s _ (r.stuck runs below);
+      }
 
 -- all rings were heard
 pub heard_by : {D : Type 0} (home : Home) (was : Parts D) (rings : List Receiving) (seat : Helping) → IsHelper home seat → IsNoted was.seat seat → GoesOn seat.view.history was.seat.view.history → IsLegalHistory (setting_of home.plan) seat.view.history →
@@ -133,8 +138,8 @@ module _ {D : Type 0} (device : D → Device) (home : Home) (z y : Parts D) (hea
   pub drained_parts : z ≡ parts_from y.store z.rings y.waiting y.is_settled z.seat
   drained_parts = λ i. record { store = sym hears.store i; rings = z.rings; waiting = sym hears.waiting i; is_settled = sym hears.settled i; seat = z.seat }
 
-  pub round_heard : (s : Setting) (p : Past) (x : Parts D) (answer : Result ℕ StoreError) → SettlesAll device s p x z answer → SettlesAll device s p x y answer
-  round_heard s p x answer r = subst (λ (k : Parts D). SettlesAll device s p x k answer) heard_parts (rounds_heard device z y.rings y.seat hears.records hears.noted s p x answer r)
+  pub round_heard : (most : Option ℕ) (s : Setting) (p : Past) (x : Parts D) (answer : Result ℕ StoreError) → SettlesUpTo device most s p x z answer → SettlesUpTo device most s p x y answer
+  round_heard most s p x answer r = subst (λ (k : Parts D). SettlesUpTo device most s p x k answer) heard_parts (rounds_heard device z y.rings y.seat hears.records hears.noted most s p x answer r)
 
   pub goes_on_heard : (x : Parts D) → HasGoneOn home x z → HasGoneOn home x y
   goes_on_heard x on = record {

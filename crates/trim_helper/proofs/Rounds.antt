@@ -1,5 +1,5 @@
 -- A round of the helper.
-use Rattle.std.proofs.Common.{ℕ, zero, suc, ◌≡◌, ◌≢◌, ◌+◌, ◌<◌, ◌≤◌, ◌⊎◌, ◌==◌, if◌then◌else◌, Bool, true, false, List, [], ◌∷◌, ◌++◌, length, replicate, Result, Ok, Err, IfOk, OnErr, IsErrOf, Option, None, refl, sym, ap, ◌∙◌, subst, inl, inr, arith}
+use Rattle.std.proofs.Common.{ℕ, zero, suc, ◌≡◌, ◌≢◌, ◌+◌, ◌<◌, ◌≤◌, ◌⊎◌, ◌==◌, if◌then◌else◌, Bool, true, false, List, [], ◌∷◌, ◌++◌, length, replicate, Result, Ok, Err, IfOk, OnErr, IsErrOf, Option, None, Some, refl, sym, ap, ◌∙◌, subst, inl, inr, arith}
 use Rattle.std.proofs.lemmas.Bool.Decides.{eqb_tells}
 use Rattle.std.proofs.lemmas.List.{append_assoc}
 use Rattle.lane_rings.specs.Rings.{Receiving}
@@ -12,7 +12,7 @@ use Rattle.image.specs.declared.layout.Layout.{Layout}
 use Rattle.monitor.specs.declared.view.Note.{Note}
 use Rattle.monitor.specs.Seats.{Helping, Home}
 use Rattle.monitor.specs.Views.{noted}
-use Rattle.store_past.specs.Past.{Past, IsPast, IsTrimmed, applied, no_past}
+use Rattle.store_past.specs.Past.{Past, IsPast, applied, no_past}
 use Rattle.store_past.specs.declared.error.StoreError.{StoreError}
 use Rattle.store_past.specs.declared.error.StoreError.TheVariants.{Failed, BadLane, BadId, Worn, NotNext, TooLong, LogFull, Unwritten, Fault, Unfinished}
 use Rattle.durable.specs.Runs.{HasRun, IsLeftBy, TakesSequences}
@@ -20,11 +20,11 @@ use Rattle.durable.specs.Store as stores
 use Rattle.durable.specs.Store.{Known, HasPast}
 use Rattle.durable.proofs.Sequences.{takes_more, takes_none, takes_then}
 use Rattle.durable.proofs.Running.{left_always, ran_applied, ran_less, ran_none, ran_then}
-use Rattle.trim_helper.specs.Calls.{AreStuck, Drains, HasGoneOn, Publishes, Rounds, SettlesAll}
-use Rattle.trim_helper.specs.Counts.{AddsCounts, StandForCuts, WasCount}
+use Rattle.trim_helper.specs.Calls.{AreStuck, DrainsUpTo, HasGoneOn, IsBelow, IsWithin, Publishes, RoundsUpTo, SettlesUpTo}
+use Rattle.trim_helper.specs.Counts.{WasCount}
 use Rattle.trim_helper.specs.Draining.{DrainsRings}
 use Rattle.trim_helper.specs.declared.draining.TheConstants.{LOOKS}
-use Rattle.trim_helper.specs.Helping.{HasPublished, IsHelper, IsPublished, count_published, place_published, taken_in}
+use Rattle.trim_helper.specs.Helping.{IsHelper, IsPublished, count_published, place_published, taken_in}
 use Rattle.trim_helper.specs.Parts.{HasDrained, IsServing, IsWhole, Parts, taking_of}
 use Rattle.trim_helper.specs.Rings.{received_of, known_of, held_back, waiting_in, stream}
 use Rattle.trim_helper.specs.Moves.{SameRings}
@@ -172,11 +172,11 @@ module _ {D : Type 0} (device : D → Device) where
   seat_sees x z n drained seat sees = subst (λ (h : Helping). SeesFrom h 0 z.rings) (sym seat) (sees_kept x.seat 0 x.rings z.rings drained.told sees)
 
   -- whatever a drain answered
-  pub whole_drained : (x z : Parts D) (answer : Result ℕ StoreError) → IsWhole device x → Drains device x z answer → IsWhole device z
-  whole_drained x z (Ok n) whole drains =
+  pub whole_drained : (most : Option ℕ) (x z : Parts D) (answer : Result ℕ StoreError) → IsWhole device x → DrainsUpTo device most x z answer → IsWhole device z
+  whole_drained most x z (Ok n) whole drains =
       let was = drained_serves x z n whole.setting whole.past drains.rings.ok drains.seat drains.settled whole.serving in
       whole_still x z whole drains.rings.ok.same (seat_sees x z n drains.rings.ok drains.seat whole.sees) drains.layout was.now was.serves
-  whole_drained x z (Err e) whole drains =
+  whole_drained most x z (Err e) whole drains =
       let kept = drains.rings.kept in
       let off : z.is_settled ≡ false = drains.unsettled in
       let was = drained_serves x z kept.0 whole.setting whole.past kept.1 drains.seat (λ is. absurd (let no : false ≡ true = sym off ∙ is in cc)) whole.serving in
@@ -223,10 +223,10 @@ module _ {D : Type 0} (device : D → Device) where
       }
 
   -- a helper's drain, by its rings'
-  pub helper_drains : (x : Parts D) (y : Taking D) (b : Bool) (answer : Result ℕ StoreError) → IsWhole device x → DrainsRings device LOOKS (taking_of x) y answer → IfOk answer (λ n. b ≡ true → (x.is_settled ≡ true) × (n ≡ 0)) →
-      IfOk answer (λ n. n ≡ 0 → x.is_settled ≡ true → b ≡ true) → OnErr answer (b ≡ false) → Drains device x (parts_from y.store y.rings y.waiting b x.seat) answer
-  helper_drains x y b (Ok n) whole drains settled stays off = record { rings = drains; failed = tt; settled = settled; stays = stays; unsettled = tt; seat = refl; layout = drains.ok.layout; still = λ is_off. (drains.ok.still is_off).1 }
-  helper_drains x y b (Err e) whole drains settled stays off = record {
+  pub helper_drains : (most : Option ℕ) (x : Parts D) (y : Taking D) (b : Bool) (answer : Result ℕ StoreError) → IsWhole device x → DrainsRings device LOOKS most (taking_of x) y answer → IfOk answer (λ n. b ≡ true → (x.is_settled ≡ true) × (n ≡ 0)) →
+      IfOk answer (λ n. n ≡ 0 → x.is_settled ≡ true → b ≡ true) → OnErr answer (b ≡ false) → DrainsUpTo device most x (parts_from y.store y.rings y.waiting b x.seat) answer
+  helper_drains most x y b (Ok n) whole drains settled stays off = record { rings = drains; failed = tt; settled = settled; stays = stays; unsettled = tt; seat = refl; layout = drains.ok.layout; still = λ is_off. (drains.ok.still is_off).1 }
+  helper_drains most x y b (Err e) whole drains settled stays off = record {
     rings = drains;
     failed = (drains.failed, drains.why whole.setting whole.past whole.serving.taken);
     settled = tt;
@@ -288,14 +288,19 @@ no_fault_of a b r le none = record { later = le; failed = λ is. absurd (none is
 pub goes_drained : {D : Type 0} (h : Home) (x z : Parts D) → IsHelper h x.seat → z.seat ≡ x.seat → SameRings x.rings z.rings → z.store.known.layout ≡ x.store.known.layout → HasGoneOn h x z
 goes_drained h x z of seat rings layout = record { seat = subst (λ k. IsHelper h k) (sym seat) of; taken = ap (λ k. taken_in k) seat; rings = rings; layout = layout }
 
-pub goes_on_drained : {D : Type 0} (device : D → Device) (h : Home) (x z : Parts D) (answer : Result ℕ StoreError) → IsHelper h x.seat → Drains device x z answer → HasGoneOn h x z
-goes_on_drained device h x z (Ok n) of drains = goes_drained h x z of drains.seat drains.rings.ok.same drains.layout
-goes_on_drained device h x z (Err e) of drains = goes_drained h x z of drains.seat drains.rings.kept.1.same drains.layout
+pub goes_on_drained : {D : Type 0} (device : D → Device) (most : Option ℕ) (h : Home) (x z : Parts D) (answer : Result ℕ StoreError) → IsHelper h x.seat → DrainsUpTo device most x z answer → HasGoneOn h x z
+goes_on_drained device most h x z (Ok n) of drains = goes_drained h x z of drains.seat drains.rings.ok.same drains.layout
+goes_on_drained device most h x z (Err e) of drains = goes_drained h x z of drains.seat drains.rings.kept.1.same drains.layout
+
+-- none is within each bound
+within_none : (most : Option ℕ) (n : ℕ) → n ≡ 0 → IsWithin most n
+within_none None n none = tt
+within_none (Some most) n none = let le : n ≤ most = omega arith in le
 
 -- A round, from the drain on.
-module _ {D : Type 0} (device : D → Device) (s : Setting) (p : Past) (x : Parts D) (serving : IsServing device x s p) (z : Parts D) where
+module _ {D : Type 0} (device : D → Device) (s : Setting) (p : Past) (x : Parts D) (serving : IsServing device x s p) (z : Parts D) (most : Option ℕ) where
   -- nothing could be applied
-  pub rounds_failed : (e : StoreError) → Drains device x z (Err e) → SettlesAll device s p x z (Err e)
+  pub rounds_failed : (e : StoreError) → DrainsUpTo device most x z (Err e) → SettlesUpTo device most s p x z (Err e)
   rounds_failed e drains =
       let kept = drains.rings.kept in
       let is : e ≡ Failed = drains.failed.0 in
@@ -304,30 +309,33 @@ module _ {D : Type 0} (device : D → Device) (s : Setting) (p : Past) (x : Part
       let was = drained_serves device x z kept.0 s p kept.1 drains.seat (λ settled. absurd (let no : false ≡ true = sym unsettled ∙ settled in cc)) serving in
       let same_failures : (device z.store.disk).failures ≡ (device x.store.disk).failures = ap (λ (d : Device). d.failures) kept.1.uncalled in
       record {
-        newer = was.newer;
-        count = tt;
-        most = kept.1.most;
-        stuck = λ runs. absurd (let no : false ≡ true = sym runs ∙ off in cc);
-        now = was.now;
-        same = was.same;
-        cut = was.cut;
-        places = was.places;
-        ran = was.ran;
-        serves = was.serves;
-        takes = takes_more 0 2 _ _ _ _ (omega arith) (takes_none x.store.known z.store.known (device x.store.disk) (device z.store.disk) kept.1.sequence kept.1.uncalled);
-        settled = tt;
-        durable = tt;
-        left = tt;
-        quiet = λ settled none. absurd (let no : false ≡ true = sym (serving.running settled) ∙ off in cc);
-        still = λ is_off. let stays = kept.1.still is_off in (none_of was.newer (was.long ∙ stays.0), stays.1);
-        failed = λ was_off. ap Err is;
-        refused = subst (λ k. RefusesRound x.store.known z.store.known k) (sym is) (off, kept.1.running ∙ off);
-        unsettled = unsettled;
-        unpublished = noted_same x.seat z.seat drains.seat;
-        cause = no_fault_of _ _ _ (omega (arith, same_failures)) (λ fault. absurd (let no : Failed ≡ Fault = sym is ∙ err_same (refusal e) e Fault refl fault in cc));
+        works = record {
+          newer = was.newer;
+          count = tt;
+          most = kept.1.most;
+          now = was.now;
+          same = was.same;
+          cut = was.cut;
+          places = was.places;
+          ran = was.ran;
+          serves = was.serves;
+          takes = takes_more 0 2 _ _ _ _ (omega arith) (takes_none x.store.known z.store.known (device x.store.disk) (device z.store.disk) kept.1.sequence kept.1.uncalled);
+          settled = tt;
+          durable = tt;
+          left = tt;
+          quiet = λ settled none. absurd (let no : false ≡ true = sym (serving.running settled) ∙ off in cc);
+          still = λ is_off. let stays = kept.1.still is_off in (none_of was.newer (was.long ∙ stays.0), stays.1);
+          failed = λ was_off. ap Err is;
+          refused = subst (λ k. RefusesRound x.store.known z.store.known k) (sym is) (off, kept.1.running ∙ off);
+          unsettled = unsettled;
+          unpublished = noted_same x.seat z.seat drains.seat;
+          cause = no_fault_of _ _ _ (omega (arith, same_failures)) (λ fault. absurd (let no : Failed ≡ Fault = sym is ∙ err_same (refusal e) e Fault refl fault in cc));
+        };
+        within = within_none most (length was.newer) (was.long ∙ (kept.1.still off).0);
+        stuck = λ runs below. absurd (let no : false ≡ true = sym runs ∙ off in cc);
       }
 
-  module _ (n : ℕ) (drains : Drains device x z (Ok n)) where
+  module _ (n : ℕ) (drains : DrainsUpTo device most x z (Ok n)) where
     -- what the drain has done
     abbrev drained : Served device (device x.store.disk) z s p n
     drained = drained_serves device x z n s p drains.rings.ok drains.seat drains.settled serving
@@ -338,36 +346,42 @@ module _ {D : Type 0} (device : D → Device) (s : Setting) (p : Past) (x : Part
     drained_takes : TakesSequences 0 x.store.known (device x.store.disk) z.store.known (device z.store.disk)
     drained_takes = takes_none x.store.known z.store.known (device x.store.disk) (device z.store.disk) drains.rings.ok.sequence drains.rings.ok.uncalled
 
-    stuck_now : AreStuck x.store.known.layout (device x.store.disk) z.rings z.waiting s drained.now
-    stuck_now = stuck_drained device x z n s drained.now drains.rings.ok drained.serves.taken.has drains.rings.stuck
+    within_now : IsWithin most (length drained.newer)
+    within_now = subst (λ (k : ℕ). IsWithin most k) (sym drained.long) drains.rings.within
+
+    stuck_now : IsBelow most (length drained.newer) → AreStuck x.store.known.layout (device x.store.disk) z.rings z.waiting s drained.now
+    stuck_now below = stuck_drained device x z n s drained.now drains.rings.ok drained.serves.taken.has (drains.rings.stuck (subst (λ (k : ℕ). IsBelow most k) drained.long below))
 
     -- all was settled, and nothing new came
-    pub rounds_quiet : z.is_settled ≡ true → SettlesAll device s p x z (Ok n)
+    pub rounds_quiet : z.is_settled ≡ true → SettlesUpTo device most s p x z (Ok n)
     rounds_quiet settled =
         let was_so = drains.settled settled in
         let runs = drains.rings.ok.running ∙ serving.running was_so.0 in
         record {
-          newer = drained.newer;
-          count = drained.long;
-          most = drains.rings.ok.most;
-          stuck = λ ran. stuck_now;
-          now = drained.now;
-          same = drained.same;
-          cut = drained.cut;
-          places = drained.places;
-          ran = drained.ran;
-          serves = drained.serves;
-          takes = takes_more 0 2 _ _ _ _ (omega arith) drained_takes;
-          settled = tt;
-          durable = record { running = runs; settled = drained.serves.settled settled; trimmed = drained.serves.trimmed settled };
-          left = left_by z.store.known (device z.store.disk) s drained.now drained.serves.taken.has runs;
-          quiet = λ is empty. (ap Ok was_so.1, drains.rings.ok.uncalled);
-          still = λ off. absurd (let no : false ≡ true = sym (serving.running was_so.0) ∙ off in cc);
-          failed = λ off. absurd (let no : false ≡ true = sym (serving.running was_so.0) ∙ off in cc);
-          refused = tt;
-          unsettled = tt;
-          unpublished = tt;
-          cause = no_fault_of _ _ _ (omega (arith, same_failures)) (λ is. absurd cc);
+          works = record {
+            newer = drained.newer;
+            count = drained.long;
+            most = drains.rings.ok.most;
+            now = drained.now;
+            same = drained.same;
+            cut = drained.cut;
+            places = drained.places;
+            ran = drained.ran;
+            serves = drained.serves;
+            takes = takes_more 0 2 _ _ _ _ (omega arith) drained_takes;
+            settled = tt;
+            durable = record { running = runs; settled = drained.serves.settled settled; trimmed = drained.serves.trimmed settled };
+            left = left_by z.store.known (device z.store.disk) s drained.now drained.serves.taken.has runs;
+            quiet = λ is empty. (ap Ok was_so.1, drains.rings.ok.uncalled);
+            still = λ off. absurd (let no : false ≡ true = sym (serving.running was_so.0) ∙ off in cc);
+            failed = λ off. absurd (let no : false ≡ true = sym (serving.running was_so.0) ∙ off in cc);
+            refused = tt;
+            unsettled = tt;
+            unpublished = tt;
+            cause = no_fault_of _ _ _ (omega (arith, same_failures)) (λ is. absurd cc);
+          };
+          within = within_now;
+          stuck = λ ran below. stuck_now below;
         }
 
     -- what was drained is made durable, where something is to be
@@ -383,122 +397,138 @@ module _ {D : Type 0} (device : D → Device) (s : Setting) (p : Past) (x : Part
           let none : n ≡ 0 = sym drained.long ∙ ap (λ (xs : List (ℕ × Record)). length xs) empty in
           absurd (let no : false ≡ true = sym unsettled ∙ drains.stays none is in cc)
 
-      pub rounds_refused : (e : StoreError) → SettlesAndTrimsApplied device z.store w (Err e) → StaysFailed device z.store w → TakesSequences 2 z.store.known (device z.store.disk) w.known (device w.disk) → HasCause (device z.store.disk).failures (device w.disk).failures Fault (refusal e) → SettlesAll device s p x (record z { store = w }) (Err e)
+      pub rounds_refused : (e : StoreError) → SettlesAndTrimsApplied device z.store w (Err e) → StaysFailed device z.store w → TakesSequences 2 z.store.known (device z.store.disk) w.known (device w.disk) → HasCause (device z.store.disk).failures (device w.disk).failures Fault (refusal e) → SettlesUpTo device most s p x (record z { store = w }) (Err e)
       rounds_refused e settles still takes cause =
           let told = (settles s drained.now drained.serves.taken.has).settles in
           let h = told.same in
           record {
-            newer = drained.newer;
-            count = tt;
-            most = drains.rings.ok.most;
-            stuck = λ runs. stuck_now;
-            now = h.now;
-            same = h.same ∙ drained.same;
-            cut = λ l. omega (arith, drained.cut l, h.cut l);
-            places = λ l. omega (arith, drained.places l, h.places l);
-            ran = ran_to h.now h.ran;
-            serves = same_serves device z w s drained.now unsettled layout drained.serves h;
-            takes = takes_on takes;
-            settled = tt;
-            durable = tt;
-            left = tt;
-            quiet = λ is empty. never_quiet is empty;
-            still = λ off. let stays = drains.rings.ok.still off in
-                (none_of drained.newer (drained.long ∙ stays.0), still s drained.now drained.serves.taken.has (drains.rings.ok.running ∙ off) ∙ stays.1);
-            failed = λ off. ap Err (err_same (Err e) e Failed refl (told.failed (drains.rings.ok.running ∙ off)));
-            refused = refused_moved x.store.known z.store.known w.known e drains.rings.ok.running told.refused;
-            unsettled = unsettled;
-            unpublished = noted_same x.seat z.seat drains.seat;
-            cause = cause_since _ _ _ Fault (refusal e) (omega (arith, same_failures)) cause;
+            works = record {
+              newer = drained.newer;
+              count = tt;
+              most = drains.rings.ok.most;
+              now = h.now;
+              same = h.same ∙ drained.same;
+              cut = λ l. omega (arith, drained.cut l, h.cut l);
+              places = λ l. omega (arith, drained.places l, h.places l);
+              ran = ran_to h.now h.ran;
+              serves = same_serves device z w s drained.now unsettled layout drained.serves h;
+              takes = takes_on takes;
+              settled = tt;
+              durable = tt;
+              left = tt;
+              quiet = λ is empty. never_quiet is empty;
+              still = λ off. let stays = drains.rings.ok.still off in
+                  (none_of drained.newer (drained.long ∙ stays.0), still s drained.now drained.serves.taken.has (drains.rings.ok.running ∙ off) ∙ stays.1);
+              failed = λ off. ap Err (err_same (Err e) e Failed refl (told.failed (drains.rings.ok.running ∙ off)));
+              refused = refused_moved x.store.known z.store.known w.known e drains.rings.ok.running told.refused;
+              unsettled = unsettled;
+              unpublished = noted_same x.seat z.seat drains.seat;
+              cause = cause_since _ _ _ Fault (refusal e) (omega (arith, same_failures)) cause;
+            };
+            within = within_now;
+            stuck = λ runs below. stuck_now below;
           }
 
       pub rounds_done : {t : Unit {0}} → w.known.has_failed ≡ false → SettlesAndTrimsApplied device z.store w (Ok t) → TakesSequences 2 z.store.known (device z.store.disk) w.known (device w.disk) → (device z.store.disk).failures ≤ (device w.disk).failures →
-          SettlesAll device s p x (record z { store = w }) (Ok n)
+          SettlesUpTo device most s p x (record z { store = w }) (Ok n)
       rounds_done {t} runs settles takes later =
           let both = settles s drained.now drained.serves.taken.has in
           let told = both.settles in
           let h = told.same in
           record {
-            newer = drained.newer;
-            count = drained.long;
-            most = drains.rings.ok.most;
-            stuck = λ ran. stuck_now;
-            now = h.now;
-            same = h.same ∙ drained.same;
-            cut = λ l. omega (arith, drained.cut l, h.cut l);
-            places = λ l. omega (arith, drained.places l, h.places l);
-            ran = ran_to h.now h.ran;
-            serves = same_serves device z w s drained.now unsettled layout drained.serves h;
-            takes = takes_on takes;
-            settled = tt;
-            durable = record { running = runs; settled = told.settled; trimmed = both.trimmed };
-            left = left_by w.known (device w.disk) s h.now h.has runs;
-            quiet = λ is empty. never_quiet is empty;
-            still = λ off. absurd (let no = told.failed (drains.rings.ok.running ∙ off) in cc);
-            failed = λ off. absurd (let no = told.failed (drains.rings.ok.running ∙ off) in cc);
-            refused = tt;
-            unsettled = tt;
-            unpublished = tt;
-            cause = no_fault_of _ _ _ (omega (arith, same_failures, later)) (λ is. absurd cc);
+            works = record {
+              newer = drained.newer;
+              count = drained.long;
+              most = drains.rings.ok.most;
+              now = h.now;
+              same = h.same ∙ drained.same;
+              cut = λ l. omega (arith, drained.cut l, h.cut l);
+              places = λ l. omega (arith, drained.places l, h.places l);
+              ran = ran_to h.now h.ran;
+              serves = same_serves device z w s drained.now unsettled layout drained.serves h;
+              takes = takes_on takes;
+              settled = tt;
+              durable = record { running = runs; settled = told.settled; trimmed = both.trimmed };
+              left = left_by w.known (device w.disk) s h.now h.has runs;
+              quiet = λ is empty. never_quiet is empty;
+              still = λ off. absurd (let no = told.failed (drains.rings.ok.running ∙ off) in cc);
+              failed = λ off. absurd (let no = told.failed (drains.rings.ok.running ∙ off) in cc);
+              refused = tt;
+              unsettled = tt;
+              unpublished = tt;
+              cause = no_fault_of _ _ _ (omega (arith, same_failures, later)) (λ is. absurd cc);
+            };
+            within = within_now;
+            stuck = λ ran below. stuck_now below;
           }
 
 -- A settling, and then what it has made durable is published.
-module _ {D : Type 0} (device : D → Device) (s : Setting) (p : Past) (x z : Parts D) where
+module _ {D : Type 0} (device : D → Device) (most : Option ℕ) (s : Setting) (p : Past) (x z : Parts D) where
   -- a refused settling is a refused round
-  pub round_refused : (e : StoreError) → SettlesAll device s p x z (Err e) → Rounds device s p x z (Err e)
-  round_refused e r = record {
-    newer = r.newer;
-    count = tt;
-    most = r.most;
-    stuck = r.stuck;
-    now = r.now;
-    same = r.same;
-    cut = r.cut;
-    places = r.places;
-    ran = r.ran;
-    serves = r.serves;
-    takes = r.takes;
-    settled = tt;
-    durable = tt;
-    left = tt;
-    quiet = r.quiet;
-    still = r.still;
-    failed = r.failed;
-    refused = r.refused;
-    unsettled = r.unsettled;
-    unpublished = r.unpublished;
-    cause = r.cause;
-  }
+  pub round_refused : (e : StoreError) → SettlesUpTo device most s p x z (Err e) → RoundsUpTo device most s p x z (Err e)
+  round_refused e r =
+      let w = r.works in
+      record {
+        works = record {
+          newer = w.newer;
+          count = tt;
+          most = w.most;
+          now = w.now;
+          same = w.same;
+          cut = w.cut;
+          places = w.places;
+          ran = w.ran;
+          serves = w.serves;
+          takes = w.takes;
+          settled = tt;
+          durable = tt;
+          left = tt;
+          quiet = w.quiet;
+          still = w.still;
+          failed = w.failed;
+          refused = w.refused;
+          unsettled = w.unsettled;
+          unpublished = w.unpublished;
+          cause = w.cause;
+        };
+        within = r.within;
+        stuck = r.stuck;
+      }
 
   module _ (h : Home) (y : Parts D) (published : Publishes device h z y) where
     -- but for its seat, and that all is settled, the helper is as it was
     published_parts : parts_from z.store z.rings z.waiting true y.seat ≡ y
     published_parts = λ i. record { store = sym published.store i; rings = sym published.rings i; waiting = sym published.waiting i; is_settled = sym published.settled i; seat = y.seat }
 
-    pub round_published : (n : ℕ) → SettlesAll device s p x z (Ok n) → Rounds device s p x y (Ok n)
-    round_published n r = subst (λ (k : Parts D). Rounds device s p x k (Ok n)) published_parts record {
-      newer = r.newer;
-      count = r.count;
-      most = r.most;
-      stuck = r.stuck;
-      now = r.now;
-      same = r.same;
-      cut = r.cut;
-      places = r.places;
-      ran = r.ran;
-      serves = subst (λ (k : Parts D). IsServing device k s r.now) (sym published_parts) (published.serves s r.now r.serves r.durable);
-      takes = r.takes;
-      settled = refl;
-      durable = r.durable;
-      left = r.left;
-      quiet = r.quiet;
-      still = r.still;
-      failed = r.failed;
-      refused = tt;
-      unsettled = tt;
-      unpublished = tt;
-      cause = r.cause;
-    }
+    pub round_published : (n : ℕ) → SettlesUpTo device most s p x z (Ok n) → RoundsUpTo device most s p x y (Ok n)
+    round_published n r =
+        let w = r.works in
+        subst (λ (k : Parts D). RoundsUpTo device most s p x k (Ok n)) published_parts record {
+          works = record {
+            newer = w.newer;
+            count = w.count;
+            most = w.most;
+            now = w.now;
+            same = w.same;
+            cut = w.cut;
+            places = w.places;
+            ran = w.ran;
+            serves = subst (λ (k : Parts D). IsServing device k s w.now) (sym published_parts) (published.serves s w.now w.serves w.durable);
+            takes = w.takes;
+            settled = refl;
+            durable = w.durable;
+            left = w.left;
+            quiet = w.quiet;
+            still = w.still;
+            failed = w.failed;
+            refused = tt;
+            unsettled = tt;
+            unpublished = tt;
+            cause = w.cause;
+          };
+          within = r.within;
+          stuck = r.stuck;
+        }
 
 -- publishing keeps the words, the lanes and the rings
 pub goes_on_published : {D : Type 0} (device : D → Device) (h : Home) (x z y : Parts D) → Publishes device h z y → HasGoneOn h x z → HasGoneOn h x y

@@ -1,7 +1,6 @@
 -- What each call of a helper makes of it, as one relation a call (this project's own).
-use Rattle.std.specs.Prelude.{ℕ, ◌≡◌, ◌+◌, ◌*◌, ◌<◌, ◌≤◌, ◌++◌, true, false, List, [], Option, Result, Ok, length, IfOk, IfErr, OnOk, OnErr, IsErrOf, IsErrAnd, MatchResult}
+use Rattle.std.specs.Prelude.{ℕ, ◌≡◌, ◌+◌, ◌*◌, ◌<◌, ◌≤◌, ◌++◌, true, false, List, [], Option, None, Result, Ok, length, IfOk, IfErr, OnOk, OnErr, IsErrOf, IsErrAnd, MatchResult}
 use Rattle.lane_rings.specs.Rings.{Receiving}
-use Rattle.heap_model.specs.declared.limits.TheConstants.{RING_RECORDS}
 use Rattle.heap_model.specs.declared.record.Record.{Record}
 use Rattle.heap_model.specs.Setting.{Setting}
 use Rattle.block_disk.specs.Device.{Device, HasCause}
@@ -17,13 +16,14 @@ use Rattle.durable.specs.Store.{Known, HasPast}
 use Rattle.monitor.specs.Seats.{Final, Helping, Home}
 use Rattle.monitor.specs.Views.{GoesOn}
 use Rattle.monitor.specs.Words.{setting_of}
+pub use Rattle.trim_helper.specs.Bounds.{IsBelow, IsWithin}
 use Rattle.trim_helper.specs.Closed.{HasSpelled, IsClosedDown, Stood, disk_of}
 use Rattle.trim_helper.specs.Counts.{StandForCuts}
 use Rattle.trim_helper.specs.Draining.{DrainsRings}
 use Rattle.trim_helper.specs.Endings.{HoldNone, IsCloseStop, IsCloseWhy, IsComplete, IsOfSessions, RefusesClosing, parts_of}
 use Rattle.trim_helper.specs.Hearing.{IsNoted}
 use Rattle.trim_helper.specs.Helping.{IsBehind, IsHelper, taken_in}
-use Rattle.trim_helper.specs.Moves.{SameRings}
+use Rattle.trim_helper.specs.Moves.{SameRings, most_room}
 use Rattle.trim_helper.specs.Parts.{Parts, IsServing, taking_of}
 use Rattle.trim_helper.specs.Seen.{SameSight}
 use Rattle.trim_helper.specs.Rings.{received_of}
@@ -50,11 +50,11 @@ pub record AreStuck (l : Layout) (d : Device) (rings : List Receiving) (waiting 
   pub stuck : (lane : ℕ) → lane < length rings → IsLaneStuck known rings waiting s p lane
 
 module _ {D : Type 0} (device : D → Device) where
-  -- A drain, in memory alone: the rings are looked at, a few times at most, and each time each lane goes on as far as it can. It is refused
-  -- only where the store had failed, and what was applied before stands.
-  pub record Drains (x y : Parts D) (answer : Result ℕ StoreError) : Type 0 where
-    -- A drain looks at the rings at most 16 times, and applies what each lane can go on with.
-    pub rings : DrainsRings device LOOKS (taking_of x) (taking_of y) answer
+  -- A drain, in memory alone: the rings are looked at, a few times at most, and each time each lane goes on as far as it can, within the
+  -- bound. It is refused only where the store had failed, and what was applied before stands.
+  pub record DrainsUpTo (most : Option ℕ) (x y : Parts D) (answer : Result ℕ StoreError) : Type 0 where
+    -- A drain looks at the rings at most 16 times, and applies what each lane can go on with, up to its bound.
+    pub rings : DrainsRings device LOOKS most (taking_of x) (taking_of y) answer
     -- A drain is refused only where the store had failed.
     pub failed : IfErr answer (λ e. (e ≡ Failed) × (x.store.known.has_failed ≡ true))
     -- all stays settled where it was and nothing came, and nowhere else
@@ -68,7 +68,11 @@ module _ {D : Type 0} (device : D → Device) where
     -- A store that has failed stays as it is, and so does its device.
     pub still : x.store.known.has_failed ≡ true → y.store ≡ x.store
 
-  -- What a helper that serves this past makes of it. Each lane goes on as far as it can; then store calls make durable what was applied,
+  -- a drain with no bound
+  abbrev pub Drains : (x y : Parts D) → Result ℕ StoreError → Type 0
+  Drains x y answer = DrainsUpTo None x y answer
+
+  -- What a helper that serves this past makes of it. Records are applied; then store calls make durable what was applied,
   -- acknowledge its stable cut and trim that. Whatever a crash leaves meanwhile shows what some of these calls make of the past, so that
   -- recovery takes it, with the stable cut only where a settling was running. `Done` is what holds of the helper after Ok.
   pub record Works (Done : Type 0) (s : Setting) (p : Past) (x y : Parts D) (answer : Result ℕ StoreError) : Type 0 where
@@ -76,10 +80,8 @@ module _ {D : Type 0} (device : D → Device) where
     pub newer : List (ℕ × Record)
     -- It answers how many records it has applied.
     pub count : IfOk answer (λ n. length newer ≡ n)
-    -- It takes at most a ring's fill of each lane for each look at the rings.
-    pub most : (l : ℕ) → length (received_of y.rings l) ≤ length (received_of x.rings l) + LOOKS * RING_RECORDS
-    -- Whatever it answers, no record that waits, or that is known to be in a ring, could be applied, unless the store had failed.
-    pub stuck : x.store.known.has_failed ≡ false → AreStuck x.store.known.layout (device x.store.disk) y.rings y.waiting s (applied_more newer p)
+    -- It takes of each lane at most the largest ring's fill for each look at the rings.
+    pub most : (l : ℕ) → length (received_of y.rings l) ≤ length (received_of x.rings l) + LOOKS * most_room x.rings
     -- The past that the helper's store has afterwards.
     pub now : Past
     -- What was applied afterwards is what was applied before, and these records.
@@ -115,6 +117,16 @@ module _ {D : Type 0} (device : D → Device) where
     -- It answers a fault only if a call of the device failed meanwhile.
     pub cause : HasCause (device x.store.disk).failures (device y.store.disk).failures Fault answer
 
+  -- A helper works so, and applies at most so many records, where a bound is told. `None` is no bound.
+  pub record WorksUpTo (most : Option ℕ) (Done : Type 0) (s : Setting) (p : Past) (x y : Parts D) (answer : Result ℕ StoreError) : Type 0 where
+    -- Whatever its bound, it makes durable what it applied, acknowledges its stable cut and trims that.
+    pub works : Works Done s p x y answer
+    -- It applies at most as many records as its bound says, whatever it answers.
+    pub within : IsWithin most (length works.newer)
+    -- Whatever it answers, if it applied fewer records than its bound, no record that waits, or that is known to be in a ring, could be
+    -- applied, unless the store had failed.
+    pub stuck : x.store.known.has_failed ≡ false → IsBelow most (length works.newer) → AreStuck x.store.known.layout (device x.store.disk) y.rings y.waiting s (applied_more works.newer p)
+
   -- a settling: what it has made durable is not published yet
   abbrev pub SettlesAll : Setting → Past → (x y : Parts D) → Result ℕ StoreError → Type 0
   SettlesAll s p x y answer = Works (Unit {0}) s p x y answer
@@ -122,6 +134,13 @@ module _ {D : Type 0} (device : D → Device) where
   -- a round: after Ok all is settled and published
   abbrev pub Rounds : Setting → Past → (x y : Parts D) → Result ℕ StoreError → Type 0
   Rounds s p x y answer = Works (y.is_settled ≡ true) s p x y answer
+
+  -- a settling, and a round, of at most so many records
+  abbrev pub SettlesUpTo : (most : Option ℕ) → Setting → Past → (x y : Parts D) → Result ℕ StoreError → Type 0
+  SettlesUpTo most s p x y answer = WorksUpTo most (Unit {0}) s p x y answer
+
+  abbrev pub RoundsUpTo : (most : Option ℕ) → Setting → Past → (x y : Parts D) → Result ℕ StoreError → Type 0
+  RoundsUpTo most s p x y answer = WorksUpTo most (y.is_settled ≡ true) s p x y answer
 
   -- all that was applied is durable, by some past that the helper serves, so that it may be published
   abbrev pub MayBePublished : Parts D → Type 0

@@ -1,7 +1,7 @@
 -- How rings are drained: each function's call as one relation (this project's own).
-use Rattle.std.specs.Prelude.{ℕ, ◌≡◌, ◌≢◌, ◌+◌, ◌*◌, ◌≤◌, if◌then◌else◌, Bool, true, false, List, ◌++◌, length, Result, Ok, Err, IfOk, IfErr, OnOk, OnErr}
+use Rattle.std.specs.Prelude.{ℕ, ◌≡◌, ◌≢◌, ◌+◌, ◌*◌, ◌<◌, ◌≤◌, if◌then◌else◌, Bool, true, false, List, ◌++◌, length, Option, Result, Ok, Err, IfOk, IfErr, OnErr}
 use Rattle.heap_model.specs.declared.event.Event.{Event}
-use Rattle.heap_model.specs.declared.limits.TheConstants.{RING_RECORDS}
+use Rattle.lane_rings.specs.declared.ring_records.TheConstants.{MOST_RING_RECORDS}
 use Rattle.heap_model.specs.declared.record.Record.{Record}
 use Rattle.heap_model.specs.History.{log_of}
 use Rattle.heap_model.specs.Log.{lane as lane_of}
@@ -10,7 +10,8 @@ use Rattle.block_disk.specs.Device.{Device}
 use Rattle.store_past.specs.Past.{Past, applied}
 use Rattle.store_past.specs.declared.error.StoreError.{StoreError}
 use Rattle.store_past.specs.declared.error.StoreError.TheVariants.{Failed}
-use Rattle.trim_helper.specs.Moves.{SameRings}
+use Rattle.trim_helper.specs.Bounds.{IsBelow, IsWithin}
+use Rattle.trim_helper.specs.Moves.{SameRings, most_room}
 use Rattle.trim_helper.specs.Rings.{received_of, known_of}
 use Rattle.trim_helper.specs.Seen.{KeepsTold}
 use Rattle.trim_helper.specs.Serving.{HoldHistory}
@@ -40,26 +41,30 @@ module _ {D : Type 0} (device : D → Device) where
     pub takes : Takes x y (counted answer)
     pub rests : IfOk answer (λ gone. gone ≡ false → Rests lane x y)
 
-  -- One lane's records are applied, as long as the next one can be.
-  pub record AppliesLane (lane : ℕ) (x y : Taking D) (answer : Result ℕ StoreError) : Type 0 where
+  -- At most so many of one lane's records are applied, as long as the next one can be.
+  pub record AppliesLane (lane most : ℕ) (x y : Taking D) (answer : Result ℕ StoreError) : Type 0 where
     pub takes : Takes x y answer
-    pub stuck : OnOk answer (IsStuckAt device y lane)
-    pub rests : IfOk answer (λ n. n ≡ 0 → Rests lane x y)
+    pub within : IfOk answer (λ n. n ≤ most)
+    pub stuck : IfOk answer (λ n. n < most → IsStuckAt device y lane)
+    pub rests : IfOk answer (λ n. n ≡ 0 → 0 < most → Rests lane x y)
 
-  -- Each lane's records are applied in turn, as long as the next one can be. Where none was, none can be.
-  pub record AppliesLanes (x y : Taking D) (answer : Result ℕ StoreError) : Type 0 where
+  -- At most so many of the lanes' records are applied, in turn, as long as the next one can be. Where some might be and none was, none can
+  -- be.
+  pub record AppliesLanes (most : ℕ) (x y : Taking D) (answer : Result ℕ StoreError) : Type 0 where
     pub takes : Takes x y answer
-    pub stuck : IfOk answer (λ n. n ≡ 0 → AllStuck device y)
+    pub within : IfOk answer (λ n. n ≤ most)
+    pub stuck : IfOk answer (λ n. n ≡ 0 → 0 < most → AllStuck device y)
 
   -- where the rings hold the logs of one legal history, all of it is applied
   abbrev pub HasAll : Taking D → Type 0
   HasAll y = (s : Setting) (p : Past) (h : List (ℕ × Event)) → HasTaken device y s p → HoldHistory y.rings y.store.known.layout s p h → (l : ℕ) → lane_of l (applied p) ≡ lane_of l (log_of s h)
 
-  -- The lanes go on until none can.
-  pub record Empties (x y : Taking D) (answer : Result ℕ StoreError) : Type 0 where
+  -- The lanes go on until none can, or so many records were applied.
+  pub record Empties (most : ℕ) (x y : Taking D) (answer : Result ℕ StoreError) : Type 0 where
     pub takes : Takes x y answer
-    pub stuck : OnOk answer (AllStuck device y)
-    pub whole : OnOk answer (HasAll y)
+    pub within : IfOk answer (λ n. n ≤ most)
+    pub stuck : IfOk answer (λ n. n < most → AllStuck device y)
+    pub whole : IfOk answer (λ n. n < most → HasAll y)
 
   -- So many records were applied of what the rings held in so many looks at them: of each lane at most a ring's a look.
   pub record Drained (looks : ℕ) (x y : Taking D) (n : ℕ) : Type 0 where
@@ -67,10 +72,10 @@ module _ {D : Type 0} (device : D → Device) where
     pub made : (s : Setting) (p : Past) → HasTaken device x s p → (newer : List (ℕ × Record)) × (length newer ≡ n) × HasTaken device y s (applied_more newer p)
     -- more may be known of the rings, and what was known before is in its place
     pub whole : (l : ℕ) → (more : List Record) × (received_of y.rings l ++ known_of y.rings l ≡ (received_of x.rings l ++ known_of x.rings l) ++ more)
-    -- A drain takes of each lane at most a ring's records for each look at it.
-    pub most : (l : ℕ) → length (received_of y.rings l) ≤ length (received_of x.rings l) + looks * RING_RECORDS
-    -- a ring's a look, and the one that waits, of each of 32 lanes
-    pub few : n ≤ looks * (32 * (RING_RECORDS + 1))
+    -- A drain takes of each lane at most the records of the largest of its rings for each look at them.
+    pub most : (l : ℕ) → length (received_of y.rings l) ≤ length (received_of x.rings l) + looks * most_room x.rings
+    -- the largest ring's a look, and the one that waits, of each of 32 lanes
+    pub few : n ≤ looks * (32 * (MOST_RING_RECORDS + 1))
     pub same : SameRings x.rings y.rings
     pub told : KeepsTold x.rings y.rings
     pub slots : length y.waiting ≡ length x.waiting
@@ -82,14 +87,17 @@ module _ {D : Type 0} (device : D → Device) where
     -- A store that has failed stays as it is, and nothing is applied.
     pub still : x.store.known.has_failed ≡ true → (n ≡ 0) × (y.store ≡ x.store)
 
-  -- The rings are looked at, at most so often, and each time the lanes go on until none can.
-  pub record DrainsRings (looks : ℕ) (x y : Taking D) (answer : Result ℕ StoreError) : Type 0 where
+  -- The rings are looked at, at most so often, and each time the lanes go on until none can, or so many records were applied.
+  pub record DrainsRings (looks : ℕ) (most : Option ℕ) (x y : Taking D) (answer : Result ℕ StoreError) : Type 0 where
     pub ok : IfOk answer (λ n. Drained looks x y n)
+    -- A drain with a bound applies at most so many records.
+    pub within : IfOk answer (λ n. IsWithin most n)
     -- What a refused drain had applied stands.
     pub kept : OnErr answer ((n : ℕ) × Drained looks x y n)
-    pub stuck : OnOk answer (AllStuck device y)
-    -- A drain that isn't refused empties rings that hold the logs of one legal history within limits, in whatever order
-    -- the lanes come.
-    pub whole : OnOk answer (HasAll y)
+    -- A drain that applied fewer than its bound leaves no lane that can go on.
+    pub stuck : IfOk answer (λ n. IsBelow most n → AllStuck device y)
+    -- A drain that isn't refused, and whose bound isn't reached, empties rings that hold the logs of one legal history
+    -- within limits, in whatever order the lanes come.
+    pub whole : IfOk answer (λ n. IsBelow most n → HasAll y)
     pub failed : IfErr answer (λ e. e ≡ Failed)
     pub why : (s : Setting) (p : Past) → HasTaken device x s p → OnErr answer (x.store.known.has_failed ≡ true)

@@ -2,6 +2,7 @@
 pub mod Parts
 pub mod Serving
 pub mod Taken
+pub mod Bounds
 pub mod Draining
 pub mod Settled
 pub mod Helping

@@ -7,7 +7,7 @@ use Rattle.block_disk.specs.Device.{Device}
 use Rattle.durable.specs.Store as stores
 use Rattle.store_past.specs.Past.{Past, IsTrimmed}
 use Rattle.monitor.specs.Seats.{Helping}
-use Rattle.heap_model.specs.declared.limits.TheConstants.{RING_RECORDS}
+use Rattle.lane_rings.specs.declared.ring_records.TheConstants.{MOST_RING_RECORDS}
 use Rattle.trim_helper.specs.Counts.{StandForCuts}
 use Rattle.trim_helper.specs.Draining.{Drained}
 use Rattle.trim_helper.specs.declared.draining.TheConstants.{LOOKS}
@@ -59,7 +59,7 @@ module _ {D : Type 0} (device : D → Device) where
   pub record IsWhole (x : Parts D) : Type 0 where
     pub lanes : length x.rings ≡ x.store.known.layout.lanes
     pub few : length x.rings ≤ 32
-    pub rooms : most_room x.rings ≤ RING_RECORDS
+    pub rooms : most_room x.rings ≤ MOST_RING_RECORDS
     pub sees : SeesFrom x.seat 0 x.rings
     pub setting : Setting
     pub past : Past

@@ -6,7 +6,7 @@ ghost use Rattle.trim_helper.specs.Calls.{Closes, Finishes, StaysFailedTaking};
 ghost use Rattle.trim_helper.specs.Helping.{IsHelper, taken_in};
 ghost use Rattle.trim_helper.specs.Endings.{AreEnded, HasOpen, HoldNone, IsComplete, RefusesEnded, count_lane};
 ghost use Rattle.trim_helper.specs.Moves.{most_room};
-ghost use Rattle.heap_model.specs.declared.limits.TheConstants.{RING_RECORDS};
+ghost use Rattle.lane_rings.specs.declared.ring_records.TheConstants.{MOST_RING_RECORDS};
 ghost use Rattle.trim_helper.specs.Parts.{IsServing};
 ghost use Rattle.trim_helper.specs.Taken.{with_rings};
 
@@ -20,9 +20,9 @@ use crate::settling::settle_applied;
 use block_disk::Disk;
 use cut_laws::{stable_law, unlogged_law};
 use durable::Store;
-use heap_model::{Lane, RING_RECORDS, Record};
+use heap_model::{Lane, Record};
 use history_laws::{all_kept_law, log_law, next_law, order_law, own_log_law};
-use lane_rings::Receiver;
+use lane_rings::{MOST_RING_RECORDS, Receiver};
 use monitor::{Finals, HelperSeat, Shared};
 
 // How many of the sessions are of this lane.
@@ -94,7 +94,7 @@ fn finish<D: Disk>(
     requires lanes { shared.plan.lanes ≡ store.old.known.layout.lanes }
     requires rings { length rings.old ≡ store.old.known.layout.lanes }
     requires few { length rings.old ≤ 32 }
-    requires room { most_room rings.old ≤ RING_RECORDS }
+    requires room { most_room rings.old ≤ MOST_RING_RECORDS }
     requires slots { length waiting.old ≡ 32 }
     requires ended { AreEnded shared store.old.known.layout.capacity rings.old ended.items }
     requires none { HoldNone ended.items }
@@ -112,7 +112,7 @@ fn finish<D: Disk>(
     unlogged_law();
     let layout = store.layout();
     meet(&shared, ended, rings, &mut seat, layout.capacity);
-    if let Err(reason) = drain_known(store, rings, waiting) {
+    if let Err(reason) = drain_known(store, rings, waiting, u64::MAX) {
         drop(seat);
         drop(shared);
         return Err(close_error(reason));

@@ -1,6 +1,6 @@
-//! What is next in its lane is applied, until nothing is.
-ghost use Rattle.std.specs.Prelude.{◌≡◌, ◌<◌, ◌≤◌, length};
-ghost use Rattle.heap_model.specs.declared.limits.TheConstants.{RING_RECORDS};
+//! What is next in its lane is applied, until nothing is or a bound is reached.
+ghost use Rattle.std.specs.Prelude.{◌≡◌, ◌<◌, ◌≤◌, Some, length};
+ghost use Rattle.lane_rings.specs.declared.ring_records.TheConstants.{MOST_RING_RECORDS};
 ghost use Rattle.trim_helper.specs.declared.draining.TheConstants.{LOOKS};
 ghost use Rattle.trim_helper.specs.Draining.{DrainsRings, Empties, AppliesNext, AppliesLane, AppliesLanes};
 ghost use Rattle.trim_helper.specs.Moves.{most_room};
@@ -9,11 +9,12 @@ ghost use Rattle.trim_helper.specs.Taken.{with_rings};
 use crate::rings::{clear_waiting, fetch, look};
 use block_disk::Disk;
 use durable::{Store, StoreError};
-use heap_model::{Lane, RING_RECORDS, Record};
+use heap_model::{Lane, Record};
 use history_laws::{log_law, next_law, own_log_law};
-use lane_rings::Receiver;
+use lane_rings::{MOST_RING_RECORDS, Receiver};
 
-/// How often a drain looks at the rings at most. While threads send as quickly as it applies, it takes so many rings' fill of each lane.
+/// How often a drain looks at the rings at most. While threads send as quickly as it applies, a drain with no bound takes so many
+/// rings' fill of each lane.
 pub const LOOKS: usize = 16;
 
 /// Applies the lane's next record, if one is known and it is next. Answers whether it did.
@@ -46,21 +47,21 @@ pub fn apply_next<D: Disk>(
     }
 }
 
-/// Applies the lane's records as long as the next one can be, and answers how many it applied.
+/// Applies the lane's records as long as the next one can be, at most `most` of them, and answers how many it applied.
 pub fn apply_lane<D: Disk>(
     store: &mut Store<D>,
     rings: &mut [Receiver],
     waiting: &mut [Option<Record>],
     lane: usize,
+    most: u64,
 ) -> Result<u64, StoreError>
     requires lane { lane < length rings.old }
     requires slots { length waiting.old ≡ 32 }
     requires few { length rings.old ≤ 32 }
-    requires room { most_room rings.old ≤ RING_RECORDS }
-    ensures { AppliesLane D.device lane (with_rings store.old rings.old waiting.old) (with_rings store.new rings.new waiting.new) result }
+    ensures { AppliesLane D.device lane most (with_rings store.old rings.old waiting.old) (with_rings store.new rings.new waiting.new) result }
 {
     let mut count = 0u64;
-    'records: loop {
+    'records: while count < most {
         match apply_next(store, rings, waiting, lane) {
             Ok(gone) => {
                 if !gone {
@@ -71,22 +72,40 @@ pub fn apply_lane<D: Disk>(
             Err(reason) => return Err(reason),
         }
     }
+    Ok(count)
 }
 
-/// Applies each lane's records in turn, as long as the next one can be. Answers how many it applied.
+// The next lane's part of what remains of a bound, where so many lanes are left: an equal part, rounded up. So a bound of at least one
+// record a lane leaves no lane out.
+fn share_of(remaining: u64, lanes: usize) -> u64
+    requires lanes { 0 < lanes }
+    ensures within { result ≤ remaining }
+    ensures some { 0 < remaining → 0 < result }
+{
+    if remaining == 0 {
+        0
+    } else {
+        (remaining - 1) / lanes as u64 + 1
+    }
+}
+
+/// Applies the lanes' records in turn, each as long as its next one can be, and at most `most` in all: each lane at most an equal part
+/// of what the lanes before it left. Answers how many it applied.
 pub fn apply_lanes<D: Disk>(
     store: &mut Store<D>,
     rings: &mut [Receiver],
     waiting: &mut [Option<Record>],
+    most: u64,
 ) -> Result<u64, StoreError>
     requires slots { length waiting.old ≡ 32 }
     requires few { length rings.old ≤ 32 }
-    requires room { most_room rings.old ≤ RING_RECORDS }
-    ensures { AppliesLanes D.device (with_rings store.old rings.old waiting.old) (with_rings store.new rings.new waiting.new) result }
+    ensures { AppliesLanes D.device most (with_rings store.old rings.old waiting.old) (with_rings store.new rings.new waiting.new) result }
 {
+    let lanes = rings.len();
     let mut went = 0u64;
-    for lane in 0..rings.len() {
-        match apply_lane(store, rings, waiting, lane) {
+    for lane in 0..lanes {
+        let share = share_of(most - went, lanes - lane);
+        match apply_lane(store, rings, waiting, lane, share) {
             Ok(gone) => went += gone,
             Err(reason) => return Err(reason),
         }
@@ -94,24 +113,25 @@ pub fn apply_lanes<D: Disk>(
     Ok(went)
 }
 
-/// Applies what is next in its lane, until nothing is, and reads no more of the rings than is known of them.
+/// Applies what is next in its lane, until nothing is or `most` records were applied, and reads no more of the rings than is known of
+/// them.
 pub fn drain_known<D: Disk>(
     store: &mut Store<D>,
     rings: &mut [Receiver],
     waiting: &mut [Option<Record>],
+    most: u64,
 ) -> Result<u64, StoreError>
     requires slots { length waiting.old ≡ 32 }
     requires few { length rings.old ≤ 32 }
-    requires room { most_room rings.old ≤ RING_RECORDS }
     requires lanes { length rings.old ≡ store.old.known.layout.lanes }
-    ensures { Empties D.device (with_rings store.old rings.old waiting.old) (with_rings store.new rings.new waiting.new) result }
+    ensures { Empties D.device most (with_rings store.old rings.old waiting.old) (with_rings store.new rings.new waiting.new) result }
 {
     next_law();
     log_law();
     own_log_law();
     let mut count = 0u64;
-    'turns: loop {
-        match apply_lanes(store, rings, waiting) {
+    'turns: while count < most {
+        match apply_lanes(store, rings, waiting, most - count) {
             Ok(went) => {
                 if went == 0 {
                     return Ok(count);
@@ -121,44 +141,47 @@ pub fn drain_known<D: Disk>(
             Err(reason) => return Err(reason),
         }
     }
+    Ok(count)
 }
 
-/// Looks how many records are in the rings, and applies what is next in its lane of those, until nothing is. Answers how many
-/// it applied.
+/// Looks how many records are in the rings, and applies what is next in its lane of those, until nothing is or `most` were applied.
+/// Answers how many it applied.
 fn drain_once<D: Disk>(
     store: &mut Store<D>,
     rings: &mut [Receiver],
     waiting: &mut [Option<Record>],
+    most: u64,
 ) -> Result<u64, StoreError>
     requires slots { length waiting.old ≡ 32 }
     requires few { length rings.old ≤ 32 }
-    requires room { most_room rings.old ≤ RING_RECORDS }
+    requires room { most_room rings.old ≤ MOST_RING_RECORDS }
     requires lanes { length rings.old ≡ store.old.known.layout.lanes }
-    ensures { DrainsRings D.device 1 (with_rings store.old rings.old waiting.old) (with_rings store.new rings.new waiting.new) result }
+    ensures { DrainsRings D.device 1 (Some most) (with_rings store.old rings.old waiting.old) (with_rings store.new rings.new waiting.new) result }
 {
     look(rings);
-    match drain_known(store, rings, waiting) {
+    match drain_known(store, rings, waiting, most) {
         Ok(count) => Ok(count),
         Err(reason) => Err(reason),
     }
 }
 
-/// Looks at the rings and applies what is next in its lane, again and again until nothing was, or it has looked [`LOOKS`] times.
-/// Answers how many records it applied.
+/// Looks at the rings and applies what is next in its lane, again and again until nothing was, it has looked [`LOOKS`] times, or
+/// `most` records were applied. Answers how many it applied.
 pub fn drain_rings<D: Disk>(
     store: &mut Store<D>,
     rings: &mut [Receiver],
     waiting: &mut [Option<Record>],
+    most: u64,
 ) -> Result<u64, StoreError>
     requires slots { length waiting.old ≡ 32 }
     requires few { length rings.old ≤ 32 }
-    requires room { most_room rings.old ≤ RING_RECORDS }
+    requires room { most_room rings.old ≤ MOST_RING_RECORDS }
     requires lanes { length rings.old ≡ store.old.known.layout.lanes }
-    ensures { DrainsRings D.device LOOKS (with_rings store.old rings.old waiting.old) (with_rings store.new rings.new waiting.new) result }
+    ensures { DrainsRings D.device LOOKS (Some most) (with_rings store.old rings.old waiting.old) (with_rings store.new rings.new waiting.new) result }
 {
     let mut count = 0u64;
     for look in 0..LOOKS {
-        match drain_once(store, rings, waiting) {
+        match drain_once(store, rings, waiting, most - count) {
             Ok(more) => {
                 count += more;
                 if more == 0 {

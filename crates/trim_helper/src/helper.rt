@@ -1,10 +1,10 @@
 //! The helper.
-ghost use Rattle.std.specs.Prelude.{◌≡◌, ◌<◌, ◌≤◌, [], ℕ, true, false, vec_len, OnOk};
+ghost use Rattle.std.specs.Prelude.{◌≡◌, ◌<◌, ◌≤◌, ◌-◌, ◌^◌, [], ℕ, true, false, vec_len, None, MatchOption, OnOk};
 ghost use Rattle.durable.specs.Store.{HasPast};
 ghost use Rattle.heap_model.specs.Setting.{Setting};
 ghost use Rattle.monitor.specs.Views.{GoesOn};
 ghost use Rattle.store_past.specs.Past.{Past, no_past};
-ghost use Rattle.trim_helper.specs.Calls.{Drains, HasGoneOn, MayBePublished, Publishes, Rounds, SettlesAll};
+ghost use Rattle.trim_helper.specs.Calls.{Drains, DrainsUpTo, HasGoneOn, MayBePublished, Publishes, RoundsUpTo, SettlesUpTo};
 ghost use Rattle.trim_helper.specs.Heard.{HasSeen, Hears};
 ghost use Rattle.trim_helper.specs.Hearing.{IsNoted};
 ghost use Rattle.trim_helper.specs.Helping.{IsHelper};
@@ -12,7 +12,7 @@ ghost use Rattle.trim_helper.specs.Moves.{most_room};
 ghost use Rattle.trim_helper.specs.Parts.{IsServing};
 ghost use Rattle.trim_helper.specs.Rings.{received_of};
 ghost use Rattle.trim_helper.specs.Seen.{SeesFrom};
-ghost use Rattle.heap_model.specs.declared.limits.TheConstants.{RING_RECORDS};
+ghost use Rattle.lane_rings.specs.declared.ring_records.TheConstants.{MOST_RING_RECORDS};
 
 use crate::draining::drain_rings;
 use crate::hearing::catch_up;
@@ -20,8 +20,8 @@ use crate::published::publish_all;
 use crate::settling::settle_and_trim;
 use block_disk::Disk;
 use durable::{Store, StoreError};
-use heap_model::{LANES, Lane, RING_RECORDS, Record};
-use lane_rings::Receiver;
+use heap_model::{LANES, Lane, Record};
+use lane_rings::{MOST_RING_RECORDS, Receiver};
 use monitor::{HelperSeat, Shared};
 use std::marker::Model;
 
@@ -58,7 +58,7 @@ impl<D: Disk> Helper<D> {
     /// round makes no device call unless something came.
     pub fn new(store: Store<D>, rings: Vec<Receiver>, seat: HelperSeat) -> Helper<D>
         requires lanes { vec_len rings ≡ store.known.layout.lanes }
-        requires rooms { most_room rings.items ≤ RING_RECORDS }
+        requires rooms { most_room rings.items ≤ MOST_RING_RECORDS }
         requires untaken { (l : ℕ) → received_of rings.items l ≡ [] }
         requires sees { SeesFrom seat 0 rings.items }
         requires untold { (s : Setting) × HasPast store.known s no_past (D.device store.disk) }
@@ -87,17 +87,25 @@ impl<D: Disk> Helper<D> {
     }
 
     /// Applies records that are next in their lanes, in memory alone, until none is, and answers how many. It looks at the rings
-    /// again as long as it found something, at most `LOOKS` times, and takes what was there then: at most `LOOKS` times
-    /// `RING_RECORDS` of each lane. A record that the store refuses, as not next, for want of room or at an end of numbers, waits
+    /// again as long as it found something, at most `LOOKS` times, and takes what was there then: of each lane at most `LOOKS` times
+    /// the room of the largest ring. A record that the store refuses, as not next, for want of room or at an end of numbers, waits
     /// for the next call.
     ///
     /// It refuses with `Failed` alone; what it applied before stands.
     pub fn drain(&mut self) -> Result<u64, StoreError>
         ensures { Drains D.device self.old self.new result }
     {
+        self.drain_within(None)
+    }
+
+    // Drains the rings, and applies at most so many records, where a bound is told.
+    fn drain_within(&mut self, most: Option<u64>) -> Result<u64, StoreError>
+        ensures { DrainsUpTo D.device most self.old self.new result }
+    {
         let was_settled = self.is_settled;
         self.is_settled = false;
-        match drain_rings(&mut self.store, &mut self.rings, &mut self.waiting) {
+        let bound = bound_of(most);
+        match drain_rings(&mut self.store, &mut self.rings, &mut self.waiting, bound) {
             Ok(count) => {
                 self.is_settled = stays_settled(was_settled, count);
                 Ok(count)
@@ -125,8 +133,8 @@ impl<D: Disk> Helper<D> {
         requires seat { IsHelper shared.now self.old.seat }
         requires lanes { shared.now.plan.lanes ≡ self.old.store.known.layout.lanes }
         // Settling makes durable what was applied, acknowledges its stable cut and trims that, by store calls that are
-        // named.
-        ensures settles { (s : Setting) (p : Past) → IsServing D.device self.old s p → SettlesAll D.device s p self.old self.new result }
+        // named. Unless the store had failed, no record that waits or is known to be in a ring could be applied then.
+        ensures settles { (s : Setting) (p : Past) → IsServing D.device self.old s p → SettlesUpTo D.device None s p self.old self.new result }
         // After Ok, what is acknowledged may be published.
         ensures ready { OnOk result (MayBePublished D.device self.new) }
         // Settling publishes nothing: what the sessions may have read is what was published before.
@@ -137,7 +145,28 @@ impl<D: Disk> Helper<D> {
         // The history that settling sees goes on from the one that the helper had seen before.
         ensures later { GoesOn self.new.seat.view.history self.old.seat.view.history }
     {
-        let count = match self.drain() {
+        self.bounded_settle(shared, None)
+    }
+
+    /// [`settle`](Helper::settle) of at most `most` records: a drain that reaches the bound stops there, and what is left in the rings
+    /// waits for the next call. Each lane gets an equal part of what remains of the bound, rounded up. `None` is no bound.
+    pub fn bounded_settle(&mut self, shared: &Shared, most: Option<u64>) -> Result<u64, StoreError>
+        requires seat { IsHelper shared.now self.old.seat }
+        requires lanes { shared.now.plan.lanes ≡ self.old.store.known.layout.lanes }
+        // Settling with a bound applies at most so many records. It makes durable what was applied, acknowledges its
+        // stable cut and trims that. If it applied fewer, and the store hadn't failed, no record could be applied then.
+        ensures settles { (s : Setting) (p : Past) → IsServing D.device self.old s p → SettlesUpTo D.device most s p self.old self.new result }
+        // After Ok, what is acknowledged may be published.
+        ensures ready { OnOk result (MayBePublished D.device self.new) }
+        // Settling publishes nothing: what the sessions may have read is what was published before.
+        ensures noted { IsNoted self.old.seat self.new.seat }
+        ensures goes_on { HasGoneOn shared.now self.old self.new }
+        // Unless the store had failed, the helper has seen what it took of each ring, up to the last release of its lane.
+        ensures seen { self.old.store.known.has_failed ≡ false → HasSeen shared.now self.new }
+        // The history that settling sees goes on from the one that the helper had seen before.
+        ensures later { GoesOn self.new.seat.view.history self.old.seat.view.history }
+    {
+        let count = match self.drain_within(most) {
             Ok(count) => count,
             Err(reason) => return Err(reason),
         };
@@ -176,7 +205,7 @@ impl<D: Disk> Helper<D> {
     pub fn round(&mut self, shared: &Shared) -> Result<u64, StoreError>
         requires seat { IsHelper shared.now self.old.seat }
         requires lanes { shared.now.plan.lanes ≡ self.old.store.known.layout.lanes }
-        ensures rounds { (s : Setting) (p : Past) → IsServing D.device self.old s p → Rounds D.device s p self.old self.new result }
+        ensures rounds { (s : Setting) (p : Past) → IsServing D.device self.old s p → RoundsUpTo D.device None s p self.old self.new result }
         ensures goes_on { HasGoneOn shared.now self.old self.new }
         // While threads go on, a round sees one legal history. What it took of each lane, up to the last release, is
         // the beginning of what that history logs of the lane. So it is whatever the round answers, where the store
@@ -185,7 +214,27 @@ impl<D: Disk> Helper<D> {
         // The history that a round sees goes on from the one that the helper had seen before.
         ensures later { GoesOn self.new.seat.view.history self.old.seat.view.history }
     {
-        match self.settle(shared) {
+        self.bounded_round(shared, None)
+    }
+
+    /// A round of at most `most` records: [`bounded_settle`](Helper::bounded_settle), and then, if that answered Ok,
+    /// [`publish`](Helper::publish). So a round stays short, however much the rings hold. What is left in them waits for
+    /// the next round. `None` is no bound. It is refused as [`round`](Helper::round) is.
+    pub fn bounded_round(&mut self, shared: &Shared, most: Option<u64>) -> Result<u64, StoreError>
+        requires seat { IsHelper shared.now self.old.seat }
+        requires lanes { shared.now.plan.lanes ≡ self.old.store.known.layout.lanes }
+        // A round with a bound applies at most so many records. If it applied fewer, and the store hadn't failed, no
+        // record that waits or is known to be in a ring could be applied then.
+        ensures rounds { (s : Setting) (p : Past) → IsServing D.device self.old s p → RoundsUpTo D.device most s p self.old self.new result }
+        ensures goes_on { HasGoneOn shared.now self.old self.new }
+        // While threads go on, a round sees one legal history. What it took of each lane, up to the last release, is
+        // the beginning of what that history logs of the lane. So it is whatever the round answers, where the store
+        // hadn't failed.
+        ensures seen { self.old.store.known.has_failed ≡ false → HasSeen shared.now self.new }
+        // The history that a round sees goes on from the one that the helper had seen before.
+        ensures later { GoesOn self.new.seat.view.history self.old.seat.view.history }
+    {
+        match self.bounded_settle(shared, most) {
             Ok(count) => {
                 self.publish(shared);
                 Ok(count)
@@ -200,6 +249,16 @@ impl<D: Disk> Helper<D> {
     {
         let Helper { store, .. } = self;
         store
+    }
+}
+
+// The bound as a number. With no bound it is more than a drain can apply.
+fn bound_of(most: Option<u64>) -> u64
+    ensures { MatchOption most (result ≡ 2 ^ 64 - 1) (λ told. result ≡ told) }
+{
+    match most {
+        Some(told) => told,
+        None => u64::MAX,
     }
 }
 

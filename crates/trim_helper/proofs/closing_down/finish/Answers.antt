@@ -8,6 +8,7 @@ use Rattle.trim_helper.specs.Helping.{place_published, taken_in}
 use Rattle.trim_helper.specs.Meeting.{HasPart}
 use Rattle.trim_helper.specs.Taken.{applied_more, trimmed_of, with_rings}
 use Rattle.block_disk.specs.Device.{HasFailed}
+use Rattle.trim_helper.proofs.Advancing.{count_low}
 use Rattle.trim_helper.proofs.ClosingReasons.{why_drained, why_settled}
 use Rattle.trim_helper.proofs.Counting.{count_later, have_kept}
 use Rattle.trim_helper.proofs.Homes.{stops_round}
@@ -36,10 +37,11 @@ returns-clause-finishes g c = λ p has.
     let w = c.settle_applied.new.store in
     let taken = looks_taken g.D.Disk.device x c.meet.new.rings s p c.meet.ensures.looks has in
     let on = c.in_default.ensures.takes.ok in
+    let low = count_low g.D.Disk.device met y _ on (omega (arith, c.meet.ensures.looks.same.rooms, c.requires.room)) (omega (arith, c.meet.ensures.looks.same.count, c.requires.few)) c.requires.slots in
     let all = λ (behind : (l : ℕ) → l < c.args.shared.plan.lanes → place_published c.meet.new.seat l ≤ trimmed_of p l).
     all_applied s c.args.shared.plan.lanes c.layout-layout.result.capacity (place_published c.meet.new.seat) (taken_in c.meet.new.seat) history.history history.one c.meet.new.rings c.meet.ensures.met present count
     c.log_law.ensures c.own_log_law.ensures g.D.Disk.device c.args.store.now c.args.waiting.now y _ p c.next_law.ensures taken lanes (ap (λ l. l.capacity) layout)
-    (λ x among. (c.close-words.ensures.read x among).1) behind on c.in_default.ensures.stuck in
+    (λ x among. (c.close-words.ensures.read x among).1) behind on (c.in_default.ensures.stuck low) in
     let free = all_free s c.args.shared.plan.lanes c.layout-layout.result.capacity (place_published c.meet.new.seat) (taken_in c.meet.new.seat) history.history history.one c.meet.new.rings c.meet.ensures.met present count
     c.log_law.ensures c.own_log_law.ensures in
     let each : (x : Part) → Among (parts_of c.args.ended.items) x → HasMet c.args.shared c.drain_known.new.rings x = λ x among. on.whole x.lane ∙ c.meet.ensures.met.whole x (subst (λ parts. Among parts x) (sym c.meet.ensures.gathered) among) in

@@ -1,7 +1,6 @@
-use Rattle.std.proofs.Common.{◌≡◌, ◌∙◌, [], true, refl, sym, ap, subst, arith}
+use Rattle.std.proofs.Common.{◌≡◌, ◌∙◌, [], true, refl, sym, ap, subst}
 use Rattle.trim_helper.specs.Calls.{MayBePublished, Publishes}
 use Rattle.trim_helper.specs.Helping.{IsHelper}
-use Rattle.trim_helper.specs.Parts.{IsServing}
 use Rattle.trim_helper.proofs.RingMoves.{same_refl}
 use Rattle.trim_helper.proofs.Rounds.{parts_from, published_serves, whole_still}
 use Rattle.trim_helper.proofs.Seeing.{sees_same}
