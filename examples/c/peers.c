@@ -2,7 +2,9 @@
  *
  *     peers ENGINE FILE THREADS GROUP SECONDS
  * Each thread counts in a counter of its own and in the total, and is durable behind every GROUP sections (1: each one waits until no crash
- * loses it). It prints how many sections a second were durable, and the processor time of each, of all threads, in microseconds.
+ * loses it). It prints how many sections a second were durable, and the processor time of each, of all threads, in microseconds. Built with
+ * -DSYNCS=MICROSECONDS -rdynamic, each sync of the store is a sleep of so long, whose processor time lacks the kernel's work for a sync.
+ * Then it also prints how many syncs a section had, and how long one took, in microseconds (the median).
  *
  * zelamiku: a section of two monitors over zelamiku_threads.h, which awaits after the group.
  * sqlite:   two UPDATEs a section, a transaction a group, in WAL mode with synchronous=FULL; threads take turns by a mutex.
@@ -13,11 +15,15 @@
 #include <fcntl.h>
 #include <inttypes.h>
 #include <pthread.h>
+#include <stdarg.h>
 #include <stdatomic.h>
 #include <stdio.h>
 #include <stdlib.h>
 #include <string.h>
+#include <sys/mman.h>
+#include <sys/prctl.h>
 #include <sys/resource.h>
+#include <sys/syscall.h>
 #include <time.h>
 #include <unistd.h>
 #include "zelamiku_threads.h"
@@ -46,6 +52,88 @@ static void must(bool is_done, const char *what) {
         exit(2);
     }
 }
+
+/* ---- syncs that sleep ---- */
+
+#ifdef SYNCS
+enum { MOST_KEPT = 1 << 20, MOST_FILES = 1024 };
+
+static _Atomic uint64_t syncs;            /* since the threads began */
+static uint32_t took[MOST_KEPT];          /* how many nanoseconds each of the first ones took */
+static atomic_bool has_dsync[MOST_FILES]; /* by descriptor: each write to the file is a sync */
+
+static uint64_t nanoseconds(void) {
+    struct timespec t;
+    clock_gettime(CLOCK_MONOTONIC, &t);
+    return (uint64_t)t.tv_sec * 1000000000 + (uint64_t)t.tv_nsec;
+}
+
+static int sleep_as_sync(void) {
+    uint64_t began = nanoseconds(), end = began + SYNCS * (uint64_t)1000;
+    struct timespec until = {.tv_sec = (time_t)(end / 1000000000), .tv_nsec = (long)(end % 1000000000)};
+    /* The kernel may wake a thread as late as its slack, which is 50 microseconds. The sleeps of the store itself keep theirs. */
+    (void)prctl(PR_SET_TIMERSLACK, 1ul, 0ul, 0ul, 0ul);
+    while (clock_nanosleep(CLOCK_MONOTONIC, TIMER_ABSTIME, &until, NULL) != 0) {}
+    (void)prctl(PR_SET_TIMERSLACK, 0ul, 0ul, 0ul, 0ul);
+    uint64_t place = syncs++;
+    if (place < MOST_KEPT) took[place] = (uint32_t)(nanoseconds() - began);
+    return 0;
+}
+
+/* The stores call these functions in place of the C library's: a symbol of the program comes before those of shared libraries. */
+int fsync(int file) {
+    (void)file;
+    return sleep_as_sync();
+}
+
+int fdatasync(int file) {
+    (void)file;
+    return sleep_as_sync();
+}
+
+int sync_file_range(int file, off64_t from, off64_t size, unsigned flags) {
+    (void)file, (void)from, (void)size, (void)flags;
+    return sleep_as_sync();
+}
+
+int msync(void *from, size_t size, int flags) {
+    (void)from, (void)size;
+    return (flags & MS_SYNC) != 0 ? sleep_as_sync() : 0;
+}
+
+/* LMDB writes its meta page through a descriptor with O_DSYNC, so the disk would sync it. The flag is taken away, and the write sleeps. */
+int open(const char *name, int flags, ...) {
+    va_list more;
+    va_start(more, flags);
+    mode_t mode = (flags & O_CREAT) != 0 || (flags & O_TMPFILE) == O_TMPFILE ? va_arg(more, mode_t) : 0;
+    va_end(more);
+    int file = (int)syscall(SYS_openat, AT_FDCWD, name, flags & ~O_SYNC, mode);
+    must(file < MOST_FILES, "descriptors");
+    if (file >= 0) has_dsync[file] = (flags & O_DSYNC) != 0;
+    return file;
+}
+
+ssize_t pwrite(int file, const void *bytes, size_t size, off_t at) {
+    ssize_t written = syscall(SYS_pwrite64, file, bytes, size, at);
+    if (written >= 0 && file < MOST_FILES && has_dsync[file]) (void)sleep_as_sync();
+    return written;
+}
+
+int open64(const char *name, int flags, ...) __attribute__((alias("open")));
+ssize_t pwrite64(int file, const void *bytes, size_t size, off64_t at) __attribute__((alias("pwrite")));
+
+static int compare(const void *one, const void *other) {
+    uint32_t a = *(const uint32_t *)one, b = *(const uint32_t *)other;
+    return (a > b) - (a < b);
+}
+
+/* The median of so many syncs, in microseconds. */
+static double median(uint64_t made) {
+    size_t kept = made < MOST_KEPT ? (size_t)made : MOST_KEPT;
+    qsort(took, kept, sizeof *took, compare);
+    return kept == 0 ? 0 : took[kept / 2] / 1e3;
+}
+#endif
 
 /* An engine: opens the store, gives each thread its own use of it, makes so many sections durable, and closes it. */
 typedef struct {
@@ -354,6 +442,9 @@ int main(int count, char **words_of) {
         must(pthread_create(&workers[i].thread, NULL, work, &workers[i]) == 0, "thread");
     }
     pthread_barrier_wait(&start);
+#ifdef SYNCS
+    syncs = 0;
+#endif
     double began = now(), used = processor();
     struct timespec rest = {.tv_sec = atoi(words_of[5])};
     nanosleep(&rest, NULL);
@@ -363,9 +454,16 @@ int main(int count, char **words_of) {
         pthread_join(workers[i].thread, NULL);
         sections += workers[i].sections;
     }
-    double took = now() - began;
+    double seconds = now() - began;
     used = processor() - used;
+#ifdef SYNCS
+    uint64_t made = syncs;
+#endif
     by->close();
-    printf("%.0f %.2f\n", (double)sections / took, used * 1e6 / (double)sections);
+    printf("%.0f %.2f", (double)sections / seconds, used * 1e6 / (double)sections);
+#ifdef SYNCS
+    printf(" %.6g %.2f", (double)made / (double)sections, median(made));
+#endif
+    printf("\n");
     return 0;
 }

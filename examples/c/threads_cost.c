@@ -1,9 +1,10 @@
 /* What sections cost over zelamiku_threads.h: two monitors and two stores each, by threads that each wait until theirs is durable, or that
- * wait for none.
+ * wait for none, or of which one waits.
  *
- *     threads_cost FILE [THREADS [SECONDS [none]]]
+ *     threads_cost FILE [THREADS [SECONDS [none | one]]]
  * makes a heap in the file, which it replaces, and prints how many sections so many threads (32) do in a second, over so many seconds (2),
- * and the processor time of a section, of all threads and the helper.
+ * and the processor time of a section, of all threads and the helper. With `one` the first thread waits and the others don't. It also
+ * prints then how long the waits of that thread took: the median, and the worst.
  *
  *     threads_cost FILE handles | threads GROUPS SECTIONS
  * lets one thread work, in so many groups of so many sections, that are made durable one after the other: by the bare handles the same
@@ -21,11 +22,13 @@
 #include <unistd.h>
 #include "zelamiku_threads.h"
 
-enum { MOST = 32, SHARED = 0 };
+enum { MOST = 32, SHARED = 0, MOST_WAITS = 1 << 20 };
+enum { EACH, NONE, ONE }; /* which threads wait */
 
 static zelamiku_heap heap;
 static atomic_bool stopping;
-static bool waits = true;
+static int waiters = EACH;
+static uint64_t took[MOST_WAITS], waits; /* where ONE waits: how many nanoseconds each of its waits took, and how many there were */
 
 static inline void must(zelamiku_status status, const char *what) {
     if (status == ZELAMIKU_OK) return;
@@ -73,6 +76,13 @@ __attribute__((noinline)) static void by_handles(zelamiku_handle *session, uint3
     must(zelamiku_exit(session, object), "exit");
 }
 
+/* Waits, and keeps how long. */
+static void await_timed(zelamiku_thread own) {
+    uint64_t began = zelamiku_now();
+    must(zelamiku_thread_await(own), "await");
+    if (waits < MOST_WAITS) took[waits++] = zelamiku_now() - began;
+}
+
 static void *work(void *data) {
     uint32_t object = *(uint32_t *)data;
     zelamiku_thread own;
@@ -80,7 +90,8 @@ static void *work(void *data) {
     uint64_t count = 0;
     while (!atomic_load(&stopping)) {
         by_threads(own, object);
-        if (waits) must(zelamiku_thread_await(own), "await");
+        if (waiters == EACH) must(zelamiku_thread_await(own), "await");
+        if (waiters == ONE && object == 1) await_timed(own);
         count++;
     }
     must(zelamiku_thread_end(own), "end");
@@ -147,6 +158,11 @@ static int groups_by_threads(const char *path, unsigned groups, unsigned section
     return 0;
 }
 
+static int compare(const void *one, const void *other) {
+    uint64_t a = *(const uint64_t *)one, b = *(const uint64_t *)other;
+    return (a > b) - (a < b);
+}
+
 static int rate(const char *path, int threads, int seconds) {
     uint32_t objects[MOST + 1];
     for (uint32_t i = 0; i <= MOST; i++) objects[i] = i;
@@ -165,20 +181,27 @@ static int rate(const char *path, int threads, int seconds) {
         free(done);
     }
     double time = processor_time() - before;
-    printf("%d threads that wait for %s: %.0f sections a second, %.2f us of processor time a section\n", threads,
-           waits ? "each section" : "none", (double)sections / seconds, time / (double)sections);
+    static const char *const WHO[] = {"that wait for each section", "that wait for none", "of which one waits"};
+    printf("%d threads %s: %.0f sections a second, %.2f us of processor time a section", threads, WHO[waiters], (double)sections / seconds,
+           time / (double)sections);
+    if (waits > 0) {
+        qsort(took, waits, sizeof *took, compare);
+        printf("; a wait took %.3f ms in the median, %.3f at worst", (double)took[waits / 2] / 1e6, (double)took[waits - 1] / 1e6);
+    }
+    printf("\n");
     must(zelamiku_heap_close(heap), "close");
     return 0;
 }
 
 int main(int count, char **words) {
     if (count < 2) {
-        fprintf(stderr, "threads_cost FILE [THREADS [SECONDS [none]]], or threads_cost FILE handles | threads GROUPS SECTIONS\n");
+        fprintf(stderr, "threads_cost FILE [THREADS [SECONDS [none | one]]], or threads_cost FILE handles | threads GROUPS SECTIONS\n");
         return 2;
     }
     for (uint32_t i = 0; i <= MOST; i++) fields[i] = (zelamiku_field){.owner = i, .guard = i};
-    waits = count < 5 || strcmp(words[4], "none") != 0;
-    if (count == 5 && waits) {
+    if (count == 5 && strcmp(words[4], "none") == 0) waiters = NONE;
+    if (count == 5 && strcmp(words[4], "one") == 0) waiters = ONE;
+    if (count == 5 && waiters == EACH) {
         unsigned groups = (unsigned)atoi(words[3]), sections = (unsigned)atoi(words[4]);
         return strcmp(words[2], "handles") == 0 ? groups_by_handles(words[1], groups, sections) : groups_by_threads(words[1], groups, sections);
     }
