@@ -124,7 +124,7 @@ static int groups_by_handles(const char *path, unsigned groups, unsigned section
     must(zelamiku_session(&handle, &session), "session");
     for (unsigned group = 1; group <= groups; group++) {
         for (unsigned i = 0; i < sections; i++) by_handles(&session, 1);
-        must(zelamiku_round(&handle, &count), "round");
+        must(zelamiku_round(&handle, ZELAMIKU_ALL, &count), "round");
         must(zelamiku_make_calls(&handle, file, &count), "calls");
         must(zelamiku_acknowledged(&handle, 0, &count), "acknowledged");
         if (count != (uint64_t)group * sections) return 2;

@@ -43,10 +43,10 @@ static int round_lasts;               /* and after it until a thread has done mo
 static unsigned done;                 /* the sections of that thread */
 static unsigned went_on, stood_still; /* how often it had, and hadn't: by who leads */
 
-static zelamiku_status lasting_round(zelamiku_handle *heap, uint64_t *applied) {
+static zelamiku_status lasting_round(zelamiku_handle *heap, uint64_t most, uint64_t *applied) {
     if (__atomic_load_n(&round_lasts, __ATOMIC_SEQ_CST)) make_haste();
     if (round_waits > 0) usleep(round_waits);
-    zelamiku_status status = zelamiku_round(heap, applied);
+    zelamiku_status status = zelamiku_round(heap, most, applied);
     unsigned before = __atomic_load_n(&done, __ATOMIC_SEQ_CST);
     for (unsigned tries = 0; __atomic_load_n(&round_lasts, __ATOMIC_SEQ_CST); tries++) {
         bool has_gone_on = __atomic_load_n(&done, __ATOMIC_SEQ_CST) >= before + 100;
@@ -656,7 +656,7 @@ static void after_a_session(void) {
     MUST(zelamiku_format(&handle, 2, FIELDS, 3, LANES, 2000, &number) == ZELAMIKU_OK);
     MUST(zelamiku_session(&handle, &session) == ZELAMIKU_OK && zelamiku_try_enter(&session, LIST) == ZELAMIKU_OK);
     MUST(zelamiku_store(&session, COUNT, 7) == ZELAMIKU_OK && zelamiku_exit(&session, LIST) == ZELAMIKU_OK);
-    MUST(zelamiku_end(&session) == ZELAMIKU_OK && zelamiku_round(&handle, &number) == ZELAMIKU_OK);
+    MUST(zelamiku_end(&session) == ZELAMIKU_OK && zelamiku_round(&handle, ZELAMIKU_ALL, &number) == ZELAMIKU_OK);
     MUST(no_calls(&handle, NULL, &number) == ZELAMIKU_OK);
     MUST(zelamiku_heap_start(&all, "a device", &handle, no_calls, NULL, NULL) == ZELAMIKU_OK);
     zelamiku_thread own = begin_thread();
