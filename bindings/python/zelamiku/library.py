@@ -97,6 +97,7 @@ class PlanRow(ctypes.Structure):
         ("objects", c_uint32),
         ("lanes", c_uint32),
         ("capacity", c_uint32),
+        ("ring", c_uint32),
         ("linger", c_uint32),
         ("upgrades", c_uint32),
         ("log", c_void_p),
