@@ -342,6 +342,7 @@ ZELAMIKU_MUST_USE zelamiku_status zelamiku_call_failed(zelamiku_handle *heap);
  * that those of one more might have no room: nothing was done; make them, and go on. FAULT, FAILED: the heap has stopped; what was
  * acknowledged stays: free the handles, and open it again. WORN: the control's sequence is at its end. The heap hasn't stopped, but no round
  * that has to write acknowledges anything from now on; what was acknowledged stays. */
+#define zelamiku_round zelamiku_round_most /* a program of an older header, whose rounds have no bound, doesn't link */
 ZELAMIKU_MUST_USE zelamiku_status zelamiku_round(zelamiku_handle *heap, uint64_t most, uint64_t *applied);
 
 /* How many sections of the lane are acknowledged since the heap was opened: no crash of the device loses them.

@@ -1549,7 +1549,10 @@ zelamiku_status zelamiku_heap_await_round(zelamiku_heap heap_, uint64_t seen, ui
     if (of == NULL) return status;
     uint64_t troubles = of->troubles;
     of->awaiting++;
-    if (of->has_work) demand(of, ZELAMIKU_ROUND_AWAITED);
+    if (of->has_work) {
+        of->arrivals++;
+        demand(of, ZELAMIKU_ROUND_AWAITED);
+    }
     for (bool is_early = true;;) {
         uint32_t word = of->told;
         *rounds = of->rounds;

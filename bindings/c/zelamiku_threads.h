@@ -148,6 +148,7 @@ int zelamiku_heap_error(void);
  * file has something else. DEVICE: it can't be opened, made, locked, read or written: zelamiku_heap_error has the cause. These, and what
  * zelamiku_open and zelamiku_format answer, leave a file that was there as it was, but for DEVICE one that was free; and they leave no file
  * where there was none. NONE_LEFT: 255 heaps are open. NO_MEMORY: no memory, or no thread could be started. */
+#define zelamiku_heap_open zelamiku_heap_open_rings /* a program of an older header, whose plans are shorter, doesn't link */
 ZELAMIKU_MUST_USE zelamiku_status zelamiku_heap_open(zelamiku_heap *heap, const char *path, const zelamiku_plan *plan,
                                                      zelamiku_report *report);
 
@@ -262,6 +263,7 @@ typedef zelamiku_status zelamiku_device_calls(zelamiku_handle *heap, void *devic
  * then, also after NO_MEMORY.
  * RUNNING: a session that was handed out before hasn't ended, or held a monitor when it did. NOTHING, CLOSED, STOPPED, WRONG_KIND:
  * `handle` is as it was, and may only be freed. */
+#define zelamiku_heap_start zelamiku_heap_start_rings /* the same */
 ZELAMIKU_MUST_USE zelamiku_status zelamiku_heap_start(zelamiku_heap *heap, const char *name, zelamiku_handle *handle,
                                                       zelamiku_device_calls *make_calls, void *device, const zelamiku_plan *plan);
 

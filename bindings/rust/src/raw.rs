@@ -174,6 +174,8 @@ extern "C" {
     fn zelamiku_next_call(heap: *mut Handle, call: *mut Call, bytes: *mut u8, size: usize) -> u32;
     fn zelamiku_call_done(heap: *mut Handle) -> u32;
     fn zelamiku_call_failed(heap: *mut Handle) -> u32;
+    // An older name is of a library whose rounds have no bound.
+    #[link_name = "zelamiku_round_most"]
     fn zelamiku_round(heap: *mut Handle, most: u64, applied: *mut u64) -> u32;
     fn zelamiku_acknowledged(heap: *mut Handle, lane: u32, sections: *mut u64) -> u32;
     fn zelamiku_close(heap: *mut Handle) -> u32;

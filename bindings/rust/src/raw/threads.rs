@@ -113,6 +113,8 @@ extern "C" {
     fn zelamiku_thread_exited(thread: ThreadNumber, object: u32) -> u32;
     fn zelamiku_heap_message() -> *const c_char;
     fn zelamiku_heap_error() -> i32;
+    // An older name is of a library whose plans are shorter.
+    #[link_name = "zelamiku_heap_open_rings"]
     fn zelamiku_heap_open(heap: *mut HeapNumber, path: *const c_char, plan: *const RawPlan, report: *mut Report) -> u32;
     fn zelamiku_heap_dropped(heap: HeapNumber, from: usize, dropped: *mut Dropped, count: usize, told: *mut usize) -> u32;
     fn zelamiku_heap_close(heap: HeapNumber) -> u32;
