@@ -1830,7 +1830,7 @@ static zelamiku_status begin_wait(heap *of, seat *own, uint32_t object) {
         uint64_t step = of->steps;
         zelamiku_status status = (zelamiku_status)of->over;
         if (status == ZELAMIKU_OK) status = zelamiku_begin_wait(&own->session, object);
-        if (status != ZELAMIKU_BEHIND || (demands == DEMANDS && !of->leaves)) return status;
+        if (status != ZELAMIKU_BEHIND || demands == DEMANDS) return status;
         status = await_room(of, own, step, &demands, ZELAMIKU_NO_DEADLINE, &is_late);
         if (status != ZELAMIKU_OK) return status;
     }
