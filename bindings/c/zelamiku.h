@@ -81,6 +81,8 @@ extern "C" {
 #define ZELAMIKU_MOST_FIELDS 16384
 #define ZELAMIKU_LEAST_CAPACITY 2000
 #define ZELAMIKU_MOST_CAPACITY 1048576
+#define ZELAMIKU_LEAST_RING 4096
+#define ZELAMIKU_MOST_RING 65536
 #define ZELAMIKU_MOST_RECORDS 1000   /* of a section: one for each monitor that is taken, each that is freed, and each store */
 #define ZELAMIKU_MOST_HELD 16        /* monitors, by one session at once */
 #define ZELAMIKU_MOST_LOCKS 65536    /* of one monitor, by one session at once */
@@ -152,7 +154,8 @@ typedef enum {
     ZELAMIKU_OLD_VERSION = 40,    /* the image has version 1, from before there were transient fields: zelamiku_upgrade opens it */
     ZELAMIKU_FORKED = 41,         /* of zelamiku_threads.h: the heap is that of the process that has forked this one */
     ZELAMIKU_ABANDONED = 42,      /* of zelamiku_threads.h: the heap was abandoned */
-    ZELAMIKU_OTHER_HEAP = 43      /* of zelamiku_threads.h: the file's heap isn't that of the plan */
+    ZELAMIKU_OTHER_HEAP = 43,     /* of zelamiku_threads.h: the file's heap isn't that of the plan */
+    ZELAMIKU_RING = 44            /* a lane's ring would hold fewer than 4,096 records, or more than 65,536 */
 } zelamiku_status;
 
 /* A field of a heap that is to be made. */
@@ -253,6 +256,14 @@ ZELAMIKU_MUST_USE uint32_t zelamiku_version(void);
 ZELAMIKU_MUST_USE zelamiku_status zelamiku_format(zelamiku_handle *heap, uint32_t objects, const zelamiku_field *fields, size_t count,
                                                   uint32_t lanes, uint32_t capacity, uint64_t *size);
 
+/* The same, where a lane's ring holds `ring` (4,096 to 65,536) records. A session sends what it does through its lane's ring, from which a
+ * round takes it. So a larger ring lets the session go on for longer while the host makes a round's calls, up to the lane's capacity. It
+ * takes 24 bytes of memory a record. The ring is no part of the image: each opening chooses it anew. The calls without `_rings` give rings
+ * of 4,096 records.
+ * RING, before any other answer: `ring` is out of these limits; the handle is as it was, and `size` is 0. Else as zelamiku_format. */
+ZELAMIKU_MUST_USE zelamiku_status zelamiku_format_rings(zelamiku_handle *heap, uint32_t objects, const zelamiku_field *fields, size_t count,
+                                                        uint32_t lanes, uint32_t capacity, uint32_t ring, uint64_t *size);
+
 /* Recovers the heap of these bytes, and opens it.
  * Needs: the device has these bytes, all of them, durably.
  * OPEN, NOT_FORMATTED, BAD_HEADER, TOO_SMALL, NO_CONTROL, BAD_CONTROL, OLD_VERSION, WORN, BAD_RECORD, ILLEGAL_LOG, NO_MEMORY, FAULT
@@ -266,6 +277,14 @@ ZELAMIKU_MUST_USE zelamiku_status zelamiku_open(zelamiku_handle *heap, const uin
 ZELAMIKU_MUST_USE zelamiku_status zelamiku_open_telling(zelamiku_handle *heap, const uint8_t *image, size_t size, zelamiku_told *told,
                                                         zelamiku_dropped *dropped, size_t count);
 
+/* The same as zelamiku_open, and as zelamiku_open_telling, with rings of so many records (zelamiku_format_rings).
+ * RING, before any other answer: `ring` is less than 4,096 or more than 65,536; the handle is as it was, `found` is all 0, and `told` and
+ * `dropped` tell nothing. */
+ZELAMIKU_MUST_USE zelamiku_status zelamiku_open_rings(zelamiku_handle *heap, const uint8_t *image, size_t size, uint32_t ring,
+                                                      zelamiku_found *found);
+ZELAMIKU_MUST_USE zelamiku_status zelamiku_open_telling_rings(zelamiku_handle *heap, const uint8_t *image, size_t size, uint32_t ring,
+                                                              zelamiku_told *told, zelamiku_dropped *dropped, size_t count);
+
 /* Opens the heap of these bytes as zelamiku_open does, also where their image has version 1, from before there were transient fields. The
  * calls of its recovery, which zelamiku_next_call tells first, give the image version 2, in place, with the same heap. A crash while the host
  * makes them leaves that heap too: call zelamiku_upgrade again, which takes both versions. The image has version 1 until the last gate is
@@ -278,6 +297,12 @@ ZELAMIKU_MUST_USE zelamiku_status zelamiku_upgrade(zelamiku_handle *heap, const 
 /* The same as zelamiku_upgrade, and tells what recovery did, as zelamiku_open_telling does. */
 ZELAMIKU_MUST_USE zelamiku_status zelamiku_upgrade_telling(zelamiku_handle *heap, const uint8_t *image, size_t size, zelamiku_told *told,
                                                            zelamiku_dropped *dropped, size_t count);
+
+/* The same as zelamiku_upgrade, and as zelamiku_upgrade_telling, with rings of so many records; RING as zelamiku_open_rings. */
+ZELAMIKU_MUST_USE zelamiku_status zelamiku_upgrade_rings(zelamiku_handle *heap, const uint8_t *image, size_t size, uint32_t ring,
+                                                         zelamiku_found *found);
+ZELAMIKU_MUST_USE zelamiku_status zelamiku_upgrade_telling_rings(zelamiku_handle *heap, const uint8_t *image, size_t size, uint32_t ring,
+                                                                 zelamiku_told *told, zelamiku_dropped *dropped, size_t count);
 
 /* Hands out the session of the next lane, from 0 on; once each was, that of a lane whose session has ended (zelamiku_end) and held no
  * monitor then, whichever it is: so threads may come and go. zelamiku_lane tells which lane it has.
@@ -305,14 +330,20 @@ ZELAMIKU_MUST_USE zelamiku_status zelamiku_call_done(zelamiku_handle *heap);
  * NONE_LEFT: no call was told. */
 ZELAMIKU_MUST_USE zelamiku_status zelamiku_call_failed(zelamiku_handle *heap);
 
-/* Takes what the sessions have done, writes it to the log, acknowledges each section that has ended and depends on none that hasn't,
- * and leaves the calls of that to zelamiku_next_call: make them after each round, or in a thread that orders its calls with this one.
- * `applied` gets how many records were taken. With none there is no call.
- * CLOSED: nothing was done. CALLS_LEFT: the host hasn't made its calls for so many rounds
+#define ZELAMIKU_ALL UINT64_MAX /* no bound on a round */
+
+/* Takes what the sessions have done, at most `most` records of it, writes it to the log, acknowledges each section that has ended and
+ * depends on none that hasn't, and leaves the calls of that to zelamiku_next_call: make them after each round, or in a thread that orders
+ * its calls with this one. `applied` gets how many records were taken. With none there is no call.
+ * A round that has taken `most` may have left some: make another one, also where nothing comes meanwhile. A session that waits for its
+ * section is kept until all rounds are over that take what its section depends on: so where threads wait beside others that send much,
+ * choose a bound that takes about as long as the calls of a round. The lanes have equal parts of it. ZELAMIKU_ALL is no bound.
+ * After each refusal `applied` is 0. CLOSED: nothing was done. CALLS_LEFT: the host hasn't made its calls for so many rounds
  * that those of one more might have no room: nothing was done; make them, and go on. FAULT, FAILED: the heap has stopped; what was
  * acknowledged stays: free the handles, and open it again. WORN: the control's sequence is at its end. The heap hasn't stopped, but no round
  * that has to write acknowledges anything from now on; what was acknowledged stays. */
-ZELAMIKU_MUST_USE zelamiku_status zelamiku_round(zelamiku_handle *heap, uint64_t *applied);
+#define zelamiku_round zelamiku_round_most /* a program of an older header, whose rounds have no bound, doesn't link */
+ZELAMIKU_MUST_USE zelamiku_status zelamiku_round(zelamiku_handle *heap, uint64_t most, uint64_t *applied);
 
 /* How many sections of the lane are acknowledged since the heap was opened: no crash of the device loses them.
  * CLOSED, BAD_LANE. CALLS_LEFT: make the calls that are left, and ask again.

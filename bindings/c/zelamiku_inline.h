@@ -22,6 +22,7 @@ extern "C" {
 typedef struct {
     uint32_t waiting[64]; /* how many wait for monitors, by the object modulo 64 */
     uint32_t has_work;    /* 0: the helper may have to be told */
+    uint32_t enough;      /* records, after which a section's end asks for a round */
 } ZELAMIKU_SHARED zelamiku_news;
 
 /* What the thread that has a lane keeps of it. */
@@ -38,7 +39,6 @@ typedef struct {
 /* Every number, also one that is no handle, names a place here. */
 extern char zelamiku_seats[];
 #define ZELAMIKU_OWN_OF(thread) ((zelamiku_own *)(void *)(zelamiku_seats + 128 + ((thread).number & 2096896)))
-#define ZELAMIKU_ENOUGH 1000 /* records, after which a section's end asks for a round: about a quarter of a ring */
 
 /* What is left of an exit that the proved library has made, where there is somebody to be told. */
 ZELAMIKU_MUST_USE zelamiku_status zelamiku_thread_exited(zelamiku_thread thread, uint32_t object);
@@ -82,7 +82,7 @@ ZELAMIKU_INLINE __attribute__((__always_inline__)) bool zelamiku_ends(zelamiku_o
     __atomic_store_n(&own->open, 0, __ATOMIC_RELAXED);
     __atomic_store_n(&own->ended, own->ended + 1, __ATOMIC_SEQ_CST);
     if (!ZELAMIKU_OFTEN(__atomic_load_n(&own->news->has_work, __ATOMIC_SEQ_CST) != 0)) return false;
-    if (!ZELAMIKU_OFTEN(own->records < ZELAMIKU_ENOUGH)) return false;
+    if (!ZELAMIKU_OFTEN(own->records < own->news->enough)) return false;
     __atomic_store_n(&own->is_busy, 0, __ATOMIC_RELEASE);
     return ZELAMIKU_OFTEN(__atomic_load_n(&own->number, __ATOMIC_SEQ_CST) == thread.number);
 }

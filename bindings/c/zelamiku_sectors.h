@@ -44,12 +44,13 @@ typedef struct {
 
 typedef enum { ZELAMIKU_IN_PLACE, ZELAMIKU_TWO_PLACES } zelamiku_layout;
 
-/* The host of a heap. The caller sets the first three, where all others are 0 (by an initializer, or memset before), and reads and writes
+/* The host of a heap. The caller sets the first four, where all others are 0 (by an initializer, or memset before), and reads and writes
  * none of the others. */
 typedef struct {
     zelamiku_device device;
     uint32_t sector; /* bytes: 512 or 4,096 */
     zelamiku_layout layout;
+    uint32_t ring;  /* records of a lane's ring (zelamiku_format_rings): 4,096 to 65,536; 0 is 4,096 */
     uint8_t *image; /* in whole sectors */
     uint8_t *fresh; /* of each sector: 1 where the area whose turn it is may lack it */
     uint8_t *stale; /* the same of the other area */
@@ -206,17 +207,21 @@ static inline bool zelamiku_sectors_blank(zelamiku_sectors *host) {
     return device->write(device->at, ZELAMIKU_SECTOR_LABEL, host->spare, 1) && device->flush(device->at);
 }
 
+static inline uint32_t zelamiku_sectors_ring(const zelamiku_sectors *host) {
+    return host->ring != 0 ? host->ring : (uint32_t)ZELAMIKU_LEAST_RING;
+}
+
 /* ---- the calls ---- */
 
 /* Makes a heap as zelamiku_format does, on the device, whose image has zeros then, durably. Its first calls are left to
  * zelamiku_make_calls_sectors. Whatever the device had there is gone.
- * As zelamiku_format: the handle and the device are as they were. TOO_SMALL: the device has too few sectors; NO_MEMORY: so they are too.
+ * As zelamiku_format_rings: the handle and the device are as they were. TOO_SMALL: the device has too few sectors; NO_MEMORY: so they are too.
  * DEVICE: a call of the device has failed; the handle is as it was, and the device may have no image any more, or zeros. */
 ZELAMIKU_MUST_USE static inline zelamiku_status zelamiku_format_sectors(zelamiku_handle *heap, zelamiku_sectors *host, uint32_t objects,
                                                                         const zelamiku_field *fields, size_t count, uint32_t lanes,
                                                                         uint32_t capacity) {
     uint64_t size = 0;
-    zelamiku_status status = zelamiku_format(heap, objects, fields, count, lanes, capacity, &size);
+    zelamiku_status status = zelamiku_format_rings(heap, objects, fields, count, lanes, capacity, zelamiku_sectors_ring(host), &size);
     if (status != ZELAMIKU_OK) return status;
     status = zelamiku_sectors_room(host, (size + host->sector - 1) / host->sector);
     if (status == ZELAMIKU_OK && !zelamiku_sectors_blank(host)) status = ZELAMIKU_DEVICE;
@@ -224,8 +229,9 @@ ZELAMIKU_MUST_USE static inline zelamiku_status zelamiku_format_sectors(zelamiku
     return status;
 }
 
-/* Opens a heap of its bytes: zelamiku_open, or what upgrades. */
-typedef zelamiku_status zelamiku_sectors_opening(zelamiku_handle *heap, const uint8_t *image, size_t size, zelamiku_found *found);
+/* Opens a heap of its bytes: zelamiku_open_rings, or what upgrades. */
+typedef zelamiku_status zelamiku_sectors_opening(zelamiku_handle *heap, const uint8_t *image, size_t size, uint32_t ring,
+                                                 zelamiku_found *found);
 
 /* Flushes the device, reads the image, and opens the heap of it so. */
 static inline zelamiku_status zelamiku_sectors_open(zelamiku_handle *heap, zelamiku_sectors *host, zelamiku_found *found,
@@ -235,22 +241,23 @@ static inline zelamiku_status zelamiku_sectors_open(zelamiku_handle *heap, zelam
     if (heap->is_open) return ZELAMIKU_OPEN;
     if (!host->device.flush(host->device.at)) return ZELAMIKU_DEVICE;
     zelamiku_status status = zelamiku_sectors_load(host);
-    return status == ZELAMIKU_OK ? opening(heap, host->image, (size_t)(host->count * host->sector), found) : status;
+    if (status != ZELAMIKU_OK) return status;
+    return opening(heap, host->image, (size_t)(host->count * host->sector), zelamiku_sectors_ring(host), found);
 }
 
 /* Flushes the device, reads the image, and opens the heap of it as zelamiku_open does. The calls of its recovery are left to
  * zelamiku_make_calls_sectors.
- * As zelamiku_open; NOT_FORMATTED, where no label of this sector size is there; TOO_SMALL; NO_MEMORY; and DEVICE: a call of the device has
+ * As zelamiku_open_rings; NOT_FORMATTED, where no label of this sector size is there; TOO_SMALL; NO_MEMORY; and DEVICE: a call of the device has
  * failed, or a sector can't be read. The handle is as it was, and nothing was written. */
 ZELAMIKU_MUST_USE static inline zelamiku_status zelamiku_open_sectors(zelamiku_handle *heap, zelamiku_sectors *host,
                                                                       zelamiku_found *found) {
-    return zelamiku_sectors_open(heap, host, found, zelamiku_open);
+    return zelamiku_sectors_open(heap, host, found, zelamiku_open_rings);
 }
 
 /* The same, as zelamiku_upgrade does: the image has version 2 once zelamiku_make_calls_sectors has made the calls that are left to it. */
 ZELAMIKU_MUST_USE static inline zelamiku_status zelamiku_upgrade_sectors(zelamiku_handle *heap, zelamiku_sectors *host,
                                                                          zelamiku_found *found) {
-    return zelamiku_sectors_open(heap, host, found, zelamiku_upgrade);
+    return zelamiku_sectors_open(heap, host, found, zelamiku_upgrade_rings);
 }
 
 /* Makes all calls of the device that are left, in their order. `made` gets how many there were: a write counts once it is noted, a sync

@@ -47,6 +47,7 @@ enum {
     PART = 8,             /* of the time that a round's calls take: so long those without room look while the next takes records */
     GATHER = 16,          /* of that time: so long a round waits at most for those that the last one has told */
     MOST_PART = 20000000, /* nanoseconds, of such a part, also after calls that hung */
+    FEWEST = 4096,        /* records of each lane that a bounded round has room for */
     NAP = 20000,          /* nanoseconds between two looks, for each thread that waits for a round, where many do */
     SECOND = 1000000000
 };
@@ -69,10 +70,11 @@ typedef struct {
     _Atomic uint32_t is_busy;            /* a section is open, or it waits: nobody else touches the session */
     zelamiku_handle session;             /* own; freed by who ends the heap where the thread isn't busy */
     zelamiku_news *news;                 /* the heap's */
-    uint32_t records;                    /* own: about how many it has sent since it last asked for a round */
+    uint32_t records;                    /* own: about how many it has sent since the section `counted` */
     uint32_t lane;
     _Atomic uint64_t known;              /* the handle, also after the heap's end */
     heap *of;
+    uint64_t counted;                    /* own: how many sections had ended when it began to count the records */
 } seat;
 
 struct heap {
@@ -95,7 +97,9 @@ struct heap {
     pthread_t helper;
     pthread_mutex_t mutex;
     zelamiku_handle handle;  /* leads */
+    uint64_t room;           /* how many records a lane's ring takes, or its log where that is less */
     uint64_t last_calls;     /* leads: how many nanoseconds the calls of the last round took */
+    uint64_t paid;           /* leads: how many records it would have taken in that time */
     uint64_t syncs_made;     /* leads */
     uint32_t urgent;         /* mutex: why a round is wanted now */
     uint32_t guests;         /* mutex: how many wait to lead for something else than a round */
@@ -105,11 +109,13 @@ struct heap {
     zelamiku_stats stats;    /* mutex */
     _Alignas(64) _Atomic uint32_t waiting[BUCKETS]; /* how many wait for monitors, by the object modulo the buckets */
     _Atomic uint32_t has_work;              /* a section has ended since the last round began */
+    uint32_t enough;                        /* records that a lane has sent, after which a section's end asks for a round */
     _Alignas(64) _Atomic uint32_t over;     /* the status that all calls answer; 0 while the heap goes on */
     _Atomic uint32_t is_settled;            /* nothing more will be acknowledged */
     _Atomic uint32_t told, bell, watches;   /* see above; the helper's next look is due */
     _Atomic uint32_t awaiting;              /* how many threads wait for a round */
     _Atomic uint32_t arrivals, expected;    /* how many came for their sections since the last round began; were told by it */
+    _Atomic uint32_t leaves;                /* the last round has taken as much as it might: the next one comes at once */
     _Atomic uint64_t steps;                 /* odd while who leads takes records from the lanes' rings, each of which gives room */
     _Atomic uint64_t haste;                 /* until when those without room look again, by zelamiku_now */
     _Atomic uint64_t rounds, troubles;      /* that have ended; of which a write has failed */
@@ -129,6 +135,7 @@ static heap heaps[ZELAMIKU_MOST_HEAPS];
 _Static_assert(IS_OWN(open) && IS_OWN(ended) && IS_OWN(records) && IS_OWN(locks) && IS_OWN(is_busy) && IS_OWN(session) && IS_OWN(news),
                "zelamiku_own");
 _Static_assert(offsetof(heap, has_work) == offsetof(heap, waiting) + offsetof(zelamiku_news, has_work), "zelamiku_news");
+_Static_assert(offsetof(heap, enough) == offsetof(heap, waiting) + offsetof(zelamiku_news, enough), "zelamiku_news");
 _Static_assert(sizeof(seat) == 256 && offsetof(seat, number) == 128 && PLACE == 2096896, "ZELAMIKU_OWN_OF");
 
 static pthread_mutex_t registry = PTHREAD_MUTEX_INITIALIZER;
@@ -214,6 +221,7 @@ static const char *const TEXTS[][2] = {
     [ZELAMIKU_FORKED] = {"the heap is that of the process that has forked this one", "open a heap in this process after the fork"},
     [ZELAMIKU_ABANDONED] = {"the heap was abandoned", "open it again"},
     [ZELAMIKU_OTHER_HEAP] = {"the file's heap isn't that of the plan", ""},
+    [ZELAMIKU_RING] = {"a lane's ring is out of its limits", "give it 4,096 to 65,536 records"},
 };
 
 static const char *text_of(uint32_t status, unsigned which) {
@@ -372,10 +380,22 @@ COLD void hand_on(seat *own, uint32_t object) {
     if (own->locks == 0 || locks_of(own, object) == 0) wake_first(own->of, object);
 }
 
+/* Whether the lane has sent enough for a round that isn't durable by now. Of the records that it has counted, as large a part is durable as of
+ * the sections: about, since sections differ. */
+static bool has_enough(const heap *of, seat *own) {
+    uint64_t ended = own->ended, durable = own->acknowledged;
+    if (durable > own->counted) {
+        own->records = (uint32_t)(own->records * (ended - durable) / (ended - own->counted));
+        own->counted = durable;
+    }
+    return own->records >= of->enough;
+}
+
 /* A section has ended that the helper may not know of. While its look is due within the linger nobody has to wake it. */
 COLD void tell_of_work(heap *of, seat *own) {
-    if (own->records >= ZELAMIKU_ENOUGH) {
+    if (own->records >= of->enough && has_enough(of, own)) {
         own->records = 0;
+        own->counted = own->ended;
         of->has_work = 1;
         demand(of, ZELAMIKU_ROUND_FULL);
     } else if (atomic_exchange(&of->has_work, 1) == 0 && (of->awaiting > 0 || !of->watches)) {
@@ -392,7 +412,7 @@ COLD void tell_of_work(heap *of, seat *own) {
 COLD void tell_and_wake(seat *own, uint32_t object, bool waits) {
     heap *of = own->of;
     if (own->locks == 0 && own->is_busy) {
-        if (of->has_work == 0 || own->records >= ZELAMIKU_ENOUGH) tell_of_work(of, own);
+        if (of->has_work == 0 || own->records >= of->enough) tell_of_work(of, own);
         if (!waits) atomic_store_explicit(&own->is_busy, 0, memory_order_release);
     }
     if (of->waiting[object % BUCKETS] > 0) hand_on(own, object);
@@ -415,8 +435,8 @@ static zelamiku_status sleep_for_step(heap *of, seat *own, uint64_t step, unsign
     zelamiku_status status;
     of->awaiting++;
     own->is_behind = 1;
-    /* A round that takes records, or has begun to since, gives what another one would. */
-    if (step % 2 == 0 && of->steps == step && *demands < DEMANDS) {
+    /* A round that takes records, or has begun to since, gives what another one would; and so does one that comes at once. */
+    if (step % 2 == 0 && of->steps == step && !of->leaves && *demands < DEMANDS) {
         ++*demands;
         demand(of, ZELAMIKU_ROUND_ROOM);
     }
@@ -470,9 +490,26 @@ static void let_come(heap *of, uint64_t end) {
         while (seat_at(of, lane)->is_behind && zelamiku_now() < end) nap(NAP);
 }
 
-/* Takes what the threads have done. Where calls take long it is worth some time that much comes into one round: those without room are
- * woken before. Else they have room soon, and sleep until all is taken. */
-static zelamiku_status take(heap *of, uint64_t *records) {
+/* How many records a round takes at most, where so many lanes have sections for it, and so many threads wait for theirs. As many as the last
+ * round would have taken while its calls were made: so one that waits isn't kept for long by what others do, and no more time goes into calls
+ * than into the rest. But no fewer than FEWEST of each lane. Where nobody waits, or somebody for each lane, nobody is kept for another's sake:
+ * as many as the rings hold then. */
+static uint64_t bound(const heap *of, uint32_t lanes, uint32_t waiting) {
+    uint64_t least = waiting == 0 || waiting >= lanes ? of->room : FEWEST;
+    least *= lanes > 0 ? lanes : 1;
+    return of->paid > least ? of->paid : least;
+}
+
+/* Notes how long taking so many records took, and the calls after it. */
+static void note_times(heap *of, uint64_t records, uint64_t taking, uint64_t calls) {
+    of->last_calls = calls;
+    if (calls > MOST_PART) calls = MOST_PART;
+    if (records > 0) of->paid = records * calls / (taking + 1);
+}
+
+/* Takes what the threads have done, at most so many records, and tells how long that took. Where calls take long it is worth some time that
+ * much comes into one round: those without room are woken before. Else they have room soon, and sleep until all is taken. */
+static zelamiku_status take(heap *of, uint64_t most, uint64_t *records, uint64_t *time) {
     uint64_t begun = zelamiku_now(), part = of->last_calls / PART;
     if (part > MOST_PART) part = MOST_PART;
     of->haste = begun + part;
@@ -481,7 +518,10 @@ static zelamiku_status take(heap *of, uint64_t *records) {
         go_on(of);
         let_come(of, begun + part / 4);
     }
-    zelamiku_status status = zelamiku_round(&of->handle, records);
+    begun = zelamiku_now();
+    zelamiku_status status = zelamiku_round(&of->handle, most, records);
+    *time = zelamiku_now() - begun;
+    of->leaves = *records == most;
     of->steps++;
     go_on(of);
     return status;
@@ -494,13 +534,15 @@ static zelamiku_status make_calls(heap *of, uint64_t *calls) {
     return status;
 }
 
-/* Makes the calls that a failed write left, a round, and its calls, and counts what is durable by them. */
-static zelamiku_status round_and_calls(heap *of, zelamiku_stats *count) {
+/* Makes the calls that a failed write left, a round of at most so many records, and its calls, and counts what is durable by them. */
+static zelamiku_status round_and_calls(heap *of, uint64_t most, zelamiku_stats *count) {
+    uint64_t taking = 0;
     zelamiku_status status = make_calls(of, &count->calls);
-    if (status == ZELAMIKU_OK) status = take(of, &count->records);
+    if (status == ZELAMIKU_OK) status = take(of, most, &count->records, &taking);
     uint64_t begun = zelamiku_now();
     if (status == ZELAMIKU_OK) status = make_calls(of, &count->calls);
-    count->calls_time = of->last_calls = zelamiku_now() - begun;
+    count->calls_time = zelamiku_now() - begun;
+    note_times(of, count->records, taking, count->calls_time);
     for (uint32_t lane = 0; status == ZELAMIKU_OK && lane < of->lanes; lane++) {
         uint64_t sections = 0;
         status = zelamiku_acknowledged(&of->handle, lane, &sections);
@@ -529,7 +571,7 @@ static void end(heap *of, zelamiku_status status) {
 /* Under the mutex: who leads does no more. */
 static void lead_no_more(heap *of, bool is_helper) {
     of->is_led = false;
-    if (!is_helper && (of->urgent != 0 || of->has_work || of->is_troubled || of->is_ending || of->guests > 0)) ring_helper(of);
+    if (!is_helper && (of->urgent != 0 || of->leaves || of->has_work || of->is_troubled || of->is_ending || of->guests > 0)) ring_helper(of);
 }
 
 static void add_up(zelamiku_stats *all, const zelamiku_stats *round) {
@@ -547,6 +589,7 @@ static void finish(heap *of, zelamiku_status status, int error, const zelamiku_s
     pthread_mutex_lock(&of->mutex);
     bool was_troubled = of->is_troubled;
     of->is_troubled = is_trouble;
+    if (is_trouble) of->leaves = 0; /* it doesn't come at once */
     add_up(&of->stats, round);
     of->stats.syncs = of->syncs_made;
     /* Of what the heap has ended with the first cause, also where a stop has set another status meanwhile. */
@@ -577,8 +620,11 @@ static zelamiku_status lead(heap *of, uint32_t cause, bool is_helper) {
     uint32_t come = atomic_exchange(&of->arrivals, 0);
     /* No section that has ended before is unknown to this round: one of whose end nothing is learned here finds the word 0, and tells. */
     of->has_work = 0;
-    for (uint32_t lane = 0; lane < of->lanes; lane++) (void)seat_at(of, lane)->ended;
-    zelamiku_status status = round_and_calls(of, &round);
+    uint32_t lanes = 0, waiting = come > of->expected ? come : of->expected;
+    for (uint32_t lane = 0; lane < of->lanes; lane++) lanes += seat_at(of, lane)->ended > seat_at(of, lane)->acknowledged;
+    /* Nothing comes after the last one. */
+    uint64_t most = cause == ZELAMIKU_ROUND_CLOSING ? ZELAMIKU_ALL : bound(of, lanes, waiting);
+    zelamiku_status status = round_and_calls(of, most, &round);
     int error = errno;
     of->expected = come + of->arrivals;
     round.longest_round = zelamiku_now() - begun;
@@ -615,6 +661,7 @@ static uint32_t cause_of(const heap *of, bool is_due) {
     if (of->over != 0) return ZELAMIKU_ROUND_NONE;
     if (of->urgent != 0) return of->urgent;
     if (of->is_troubled) return is_due ? ZELAMIKU_ROUND_AGAIN : ZELAMIKU_ROUND_NONE;
+    if (of->leaves) return ZELAMIKU_ROUND_LEFT;
     if (!of->has_work) return ZELAMIKU_ROUND_NONE;
     return of->awaiting > 0 ? ZELAMIKU_ROUND_AWAITED : is_due ? ZELAMIKU_ROUND_LINGER : ZELAMIKU_ROUND_NONE;
 }
@@ -765,7 +812,7 @@ static zelamiku_status take_lanes(heap *of, zelamiku_handle *handle) {
         own->news = (zelamiku_news *)(void *)of->waiting;
         own->lane = lane;
         own->session = session;
-        own->ended = ended;
+        own->ended = own->counted = ended;
         memset(&session, 0, sizeof session);
     }
     if (status != ZELAMIKU_OK && status != ZELAMIKU_NONE_LEFT) return status;
@@ -790,14 +837,27 @@ static void clear_place(heap *of, const zelamiku_plan *plan) {
     of->linger = (uint64_t)(plan->linger != 0 ? plan->linger : ZELAMIKU_DEFAULT_LINGER) * 1000;
     of->log = plan->log;
     of->log_of = plan->log_of;
-    of->last_calls = of->syncs_made = of->turns = 0;
+    of->last_calls = of->paid = of->syncs_made = of->turns = 0;
     of->urgent = of->guests = of->left = 0;
     of->is_led = of->is_ending = of->is_troubled = of->is_taken = false;
     memset(&of->stats, 0, sizeof of->stats);
     for (unsigned i = 0; i < BUCKETS; i++) of->waiting[i] = 0;
-    of->has_work = of->is_settled = of->awaiting = of->arrivals = of->expected = of->watches = 0;
+    of->has_work = of->is_settled = of->awaiting = of->arrivals = of->expected = of->leaves = of->watches = 0;
     of->steps = of->haste = of->rounds = of->troubles = 0;
     (void)pthread_mutex_init(&of->mutex, NULL);
+}
+
+/* How much comes into a lane, whose ring and whose log take so many records, and when that is enough for a round: at three quarters of what
+ * sections fill before the next one has no room. */
+static void set_room(heap *of, uint32_t ring, uint32_t capacity) {
+    if (capacity < ring) ring = capacity;
+    of->room = ring > ZELAMIKU_LEAST_CAPACITY ? ring : ZELAMIKU_LEAST_CAPACITY;
+    of->enough = (uint32_t)(of->room - ZELAMIKU_MOST_RECORDS) / 4 * 3;
+}
+
+/* How many records a lane's log takes, by the header of the image (docs/FORMAT.md). */
+static uint32_t capacity_in(const uint8_t *header) {
+    return (uint32_t)header[20] << 24 | (uint32_t)header[21] << 16 | (uint32_t)header[22] << 8 | header[23];
 }
 
 /* A place for a heap of this path and plan; NULL: why not. */
@@ -860,6 +920,10 @@ zelamiku_status zelamiku_heap_start(zelamiku_heap *heap_, const char *name, zela
     of->size = 0;
     of->objects = ZELAMIKU_MOST_OBJECTS;
     of->fields = ZELAMIKU_MOST_FIELDS;
+    uint8_t header[ZELAMIKU_HEADER_BYTES] = {0};
+    uint64_t copied = 0;
+    uint32_t ring = plan != NULL && plan->ring != 0 ? plan->ring : ZELAMIKU_LEAST_RING;
+    if (zelamiku_copy(handle, 0, header, sizeof header, &copied) == ZELAMIKU_OK) set_room(of, ring, capacity_in(header));
     status = begin(of, handle, heap_);
     if (status != ZELAMIKU_OK) {
         free_place(of);
@@ -967,7 +1031,7 @@ typedef struct {
     const zelamiku_plan *plan;
     zelamiku_report *report;
     zelamiku_handle handle;
-    uint32_t lanes, capacity; /* of the plan */
+    uint32_t lanes, capacity, ring; /* of the plan */
     bool is_new;              /* there was no file */
     char cause[160], cure[160];
 } door;
@@ -996,6 +1060,7 @@ static zelamiku_status check_plan(door *at) {
     if (status == ZELAMIKU_OK)
         status = limit(at, plan->count == 0 ? ZELAMIKU_EMPTY : ZELAMIKU_TOO_MANY, "count of fields", plan->count, 1, ZELAMIKU_MOST_FIELDS);
     if (status == ZELAMIKU_OK) status = limit(at, ZELAMIKU_BAD_HEADER, "lanes", at->lanes, 1, ZELAMIKU_MOST_LANES);
+    if (status == ZELAMIKU_OK) status = limit(at, ZELAMIKU_RING, "ring", at->ring, ZELAMIKU_LEAST_RING, ZELAMIKU_MOST_RING);
     if (status == ZELAMIKU_OK) status = limit(at, ZELAMIKU_BAD_HEADER, "capacity", at->capacity, ZELAMIKU_LEAST_CAPACITY, ZELAMIKU_MOST_CAPACITY);
     for (uint32_t i = 0; status == ZELAMIKU_OK && i < plan->count; i++) {
         const zelamiku_field *field = &plan->fields[i];
@@ -1046,14 +1111,21 @@ static zelamiku_status compare(door *at, const uint8_t *image) {
     return refuse(at, ZELAMIKU_OTHER_HEAP, 0);
 }
 
+/* How many records a ring holds, where a lane's log takes so many: a record that the log has no room for can't be sent. */
+static uint32_t ring_for(const door *at, uint32_t capacity) {
+    if (at->ring <= capacity) return at->ring;
+    return capacity > ZELAMIKU_LEAST_RING ? capacity : ZELAMIKU_LEAST_RING;
+}
+
 /* Opens the heap of these bytes. Of a process that has died few sections are dropped; where there are more it is opened again, by which
  * nothing is asked of the device. */
 static zelamiku_status open_bytes(door *at, const uint8_t *image, size_t size, zelamiku_opening *opening) {
     zelamiku_told *told = &at->report->told;
+    uint32_t ring = size < ZELAMIKU_HEADER_BYTES ? at->ring : ring_for(at, capacity_in(image));
     for (size_t room = 256;;) {
         zelamiku_dropped *dropped = (zelamiku_dropped *)calloc(room, sizeof *dropped);
         if (dropped == NULL) return ZELAMIKU_NO_MEMORY;
-        zelamiku_status status = opening(&at->handle, image, size, told, dropped, room);
+        zelamiku_status status = opening(&at->handle, image, size, ring, told, dropped, room);
         bool is_whole = status != ZELAMIKU_OK || told->found.dropped <= room;
         at->of->dropped = is_whole && status == ZELAMIKU_OK ? dropped : NULL;
         if (at->of->dropped == NULL) free(dropped);
@@ -1073,15 +1145,15 @@ static zelamiku_status open_image(door *at, uint64_t size) {
     int file = at->of->file;
     uint64_t begun = size < sizeof header ? size : sizeof header;
     if (!read_all(file, header, begun, 0)) return no_file(at, "it can't be read");
-    zelamiku_status status = open_bytes(at, header, (size_t)begun, zelamiku_open_telling);
+    zelamiku_status status = open_bytes(at, header, (size_t)begun, zelamiku_open_telling_rings);
     if (status == ZELAMIKU_NOT_FORMATTED) return status;
     if (status != ZELAMIKU_TOO_SMALL) return refuse(at, status, 0);
     size_t whole = (size_t)zelamiku_image_size(header, size);
     uint8_t *image = (uint8_t *)malloc(whole > 0 ? whole : 1);
     if (image == NULL) return refuse(at, ZELAMIKU_NO_MEMORY, 0);
-    status = read_all(file, image, whole, 0) ? open_bytes(at, image, whole, zelamiku_open_telling) : no_file(at, "it can't be read");
+    status = read_all(file, image, whole, 0) ? open_bytes(at, image, whole, zelamiku_open_telling_rings) : no_file(at, "it can't be read");
     if (status == ZELAMIKU_OLD_VERSION && at->plan->upgrades != 0) {
-        status = open_bytes(at, image, whole, zelamiku_upgrade_telling);
+        status = open_bytes(at, image, whole, zelamiku_upgrade_telling_rings);
         at->report->is_upgraded = status == ZELAMIKU_OK;
     }
     if (at->report->told.bad_lane < ZELAMIKU_NOBODY)
@@ -1136,7 +1208,7 @@ static zelamiku_status make_heap(door *at, uint64_t old_size, const char *real_p
     zelamiku_status status = must_be_free(at, old_size);
     if (status != ZELAMIKU_OK) return status;
     uint64_t size = 0;
-    status = zelamiku_format(&at->handle, plan->objects, plan->fields, plan->count, at->lanes, at->capacity, &size);
+    status = zelamiku_format_rings(&at->handle, plan->objects, plan->fields, plan->count, at->lanes, at->capacity, ring_for(at, at->capacity), &size);
     if (status != ZELAMIKU_OK) return refuse(at, status, 0);
     zelamiku_found made = {size, plan->objects, plan->count, at->lanes, at->capacity, 0, 0};
     *found = made;
@@ -1230,6 +1302,7 @@ static zelamiku_status open_door(door *at, zelamiku_heap *told) {
         of->size = found->size;
         of->objects = found->objects;
         of->fields = found->fields;
+        set_room(of, at->ring, found->capacity);
         of->make_calls = calls_of_heap;
         of->device = of;
         status = begin(of, &at->handle, told);
@@ -1252,7 +1325,8 @@ zelamiku_status zelamiku_heap_open(zelamiku_heap *heap_, const char *path, const
     if (heap_ == NULL || path == NULL || plan == NULL || (plan->fields == NULL && plan->count > 0)) return nothing("open", "give each");
     door at = {.path = path, .plan = plan, .report = report};
     at.lanes = plan->lanes != 0 ? plan->lanes : ZELAMIKU_DEFAULT_LANES;
-    at.capacity = plan->capacity != 0 ? plan->capacity : ZELAMIKU_DEFAULT_CAPACITY;
+    at.ring = plan->ring != 0 ? plan->ring : ZELAMIKU_DEFAULT_RING;
+    at.capacity = plan->capacity != 0 ? plan->capacity : at.ring;
     zelamiku_status status = ZELAMIKU_OK;
     at.of = place_for(path, plan, "open", &status);
     if (at.of == NULL) return status;
@@ -1475,7 +1549,10 @@ zelamiku_status zelamiku_heap_await_round(zelamiku_heap heap_, uint64_t seen, ui
     if (of == NULL) return status;
     uint64_t troubles = of->troubles;
     of->awaiting++;
-    if (of->has_work) demand(of, ZELAMIKU_ROUND_AWAITED);
+    if (of->has_work) {
+        of->arrivals++;
+        demand(of, ZELAMIKU_ROUND_AWAITED);
+    }
     for (bool is_early = true;;) {
         uint32_t word = of->told;
         *rounds = of->rounds;

@@ -51,7 +51,8 @@ enum {
     ZELAMIKU_MOST_HEAPS = 256,     /* one more than may be open at once in a process */
     ZELAMIKU_MOST_MESSAGE = 1024,  /* bytes of a message, with its end */
     ZELAMIKU_DEFAULT_LANES = 8,
-    ZELAMIKU_DEFAULT_CAPACITY = 4096,
+    ZELAMIKU_DEFAULT_RING = 16384,
+    ZELAMIKU_DEFAULT_CAPACITY = ZELAMIKU_DEFAULT_RING,
     ZELAMIKU_DEFAULT_LINGER = 5000 /* microseconds */
 };
 #define ZELAMIKU_NO_DEADLINE 18446744073709551615u
@@ -62,13 +63,17 @@ enum {
 enum { ZELAMIKU_LOG_INFO = 0, ZELAMIKU_LOG_WARNING = 1, ZELAMIKU_LOG_ERROR = 2 };
 typedef void zelamiku_log(void *of, uint32_t level, const char *text);
 
-/* What a heap is made of, and how it works. All zeros but for objects, fields and count is a good plan. */
+/* What a heap is made of, and how it works. All zeros but for objects, fields and count is a good plan.
+ * What a thread does lies in its lane's ring until a round takes it, and in the lane's log until it is durable. One that has no room in either
+ * sleeps until a round. So a larger ring and a larger log give more sections a second where syncs are slow and few threads wait. A ring holds no
+ * more than its log. */
 typedef struct {
     const zelamiku_field *fields; /* numbered from 0 */
     uint32_t count;               /* of fields: 1 to 16,384 */
     uint32_t objects;             /* 1 to 4,096, numbered from 0 */
     uint32_t lanes;               /* how many threads use the heap at once: 1 to 32; 0 is 8. A heap that is there may have more */
-    uint32_t capacity;            /* records of a lane's log: 2,000 to 1,048,576; 0 is 4,096. A heap that is there keeps its own */
+    uint32_t capacity;            /* records of a lane's log: 2,000 to 1,048,576; 0: as its ring. A heap that is there keeps its own */
+    uint32_t ring;                /* records of a lane's ring: 4,096 to 65,536; 0 is 16,384. 24 bytes of memory each: 393 kB a lane */
     uint32_t linger;              /* microseconds that a section which nobody waits for may lie before a round; 0 is 5,000 */
     uint32_t upgrades;            /* 1: a heap of an older version is upgraded in place; 0: OLD_VERSION */
     zelamiku_log *log;            /* or NULL */
@@ -102,10 +107,11 @@ enum {
     ZELAMIKU_ROUND_OPENING = 1, /* the calls of opening and making */
     ZELAMIKU_ROUND_AWAITED = 2, /* a thread waits for its sections */
     ZELAMIKU_ROUND_ROOM = 3,    /* a thread has no room for a section's records */
-    ZELAMIKU_ROUND_FULL = 4,    /* a lane has sent a quarter of its ring */
+    ZELAMIKU_ROUND_FULL = 4,    /* a lane has sent three quarters of what its ring or its log takes */
     ZELAMIKU_ROUND_LINGER = 5,  /* the linger has passed */
     ZELAMIKU_ROUND_AGAIN = 6,   /* a second after a write has failed */
-    ZELAMIKU_ROUND_CLOSING = 7
+    ZELAMIKU_ROUND_CLOSING = 7,
+    ZELAMIKU_ROUND_LEFT = 8     /* the last one has left records, for its bound */
 };
 
 /* Counts since the open; each is exact, and they are of moments close to each other. Times are nanoseconds. */
@@ -142,6 +148,7 @@ int zelamiku_heap_error(void);
  * file has something else. DEVICE: it can't be opened, made, locked, read or written: zelamiku_heap_error has the cause. These, and what
  * zelamiku_open and zelamiku_format answer, leave a file that was there as it was, but for DEVICE one that was free; and they leave no file
  * where there was none. NONE_LEFT: 255 heaps are open. NO_MEMORY: no memory, or no thread could be started. */
+#define zelamiku_heap_open zelamiku_heap_open_rings /* a program of an older header, whose plans are shorter, doesn't link */
 ZELAMIKU_MUST_USE zelamiku_status zelamiku_heap_open(zelamiku_heap *heap, const char *path, const zelamiku_plan *plan,
                                                      zelamiku_report *report);
 
@@ -251,10 +258,12 @@ ZELAMIKU_MUST_USE zelamiku_status zelamiku_thread_await_until(zelamiku_thread th
 typedef zelamiku_status zelamiku_device_calls(zelamiku_handle *heap, void *device, uint64_t *made);
 
 /* Takes over a heap that zelamiku_open or zelamiku_format has opened, on a device whose calls `make_calls` makes, and starts its helper. Of
- * the plan `linger`, `log` and `log_of` count; NULL is a plan of zeros. `name` stands for the path in messages. `handle` is ZELAMIKU_NONE
+ * the plan `linger`, `log`, `log_of` and `ring` count: the ring is what the heap was opened with, and 0 is 4,096 here, as of the calls without
+ * `_rings`. NULL is a plan of zeros. `name` stands for the path in messages. `handle` is ZELAMIKU_NONE
  * then, also after NO_MEMORY.
  * RUNNING: a session that was handed out before hasn't ended, or held a monitor when it did. NOTHING, CLOSED, STOPPED, WRONG_KIND:
  * `handle` is as it was, and may only be freed. */
+#define zelamiku_heap_start zelamiku_heap_start_rings /* the same */
 ZELAMIKU_MUST_USE zelamiku_status zelamiku_heap_start(zelamiku_heap *heap, const char *name, zelamiku_handle *handle,
                                                       zelamiku_device_calls *make_calls, void *device, const zelamiku_plan *plan);
 
@@ -268,14 +277,14 @@ ZELAMIKU_MUST_USE zelamiku_status zelamiku_make_calls(zelamiku_handle *heap, int
 #define ZELAMIKU_HEADER_BYTES 64
 uint64_t zelamiku_image_size(const uint8_t *header, uint64_t size);
 
-/* zelamiku_open_telling, or zelamiku_upgrade_telling. */
-typedef zelamiku_status zelamiku_opening(zelamiku_handle *heap, const uint8_t *image, size_t size, zelamiku_told *told,
+/* zelamiku_open_telling_rings, or zelamiku_upgrade_telling_rings. */
+typedef zelamiku_status zelamiku_opening(zelamiku_handle *heap, const uint8_t *image, size_t size, uint32_t ring, zelamiku_told *told,
                                          zelamiku_dropped *dropped, size_t count);
 
 #ifdef ZELAMIKU_HAS_SIZE
 ZELAMIKU_HAS_SIZE(zelamiku_heap, 8);
 ZELAMIKU_HAS_SIZE(zelamiku_thread, 8);
-ZELAMIKU_HAS_SIZE(zelamiku_plan, 48);
+ZELAMIKU_HAS_SIZE(zelamiku_plan, 56);
 ZELAMIKU_HAS_SIZE(zelamiku_report, 344);
 ZELAMIKU_HAS_SIZE(zelamiku_stats, 80);
 #endif

@@ -82,7 +82,7 @@ static void measure(const char *path, unsigned rounds, unsigned sections, calls 
     for (unsigned round = 0; round < rounds; round++) {
         for (unsigned i = 0; i < sections; i++, number++) section(&sessions[number % LANES], (uint32_t)(number % LANES), number);
         double begin = processor_time();
-        must(zelamiku_round(&heap, &applied), "round");
+        must(zelamiku_round(&heap, ZELAMIKU_ALL, &applied), "round");
         double then = processor_time();
         make_calls(&heap, file, which);
         calls_time += processor_time() - then;

@@ -187,7 +187,7 @@ static void *help_by_rounds(void *data) {
     uint64_t applied = 0, made = 0;
     for (bool is_on = true; is_on;) {
         is_on = atomic_load(&helping);
-        must(zelamiku_round((zelamiku_handle *)data, &applied), "round");
+        must(zelamiku_round((zelamiku_handle *)data, ZELAMIKU_ALL, &applied), "round");
         throw_calls_away((zelamiku_handle *)data, &made);
         if (applied == 0) sched_yield();
         is_on |= applied > 0;

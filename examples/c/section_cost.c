@@ -58,7 +58,7 @@ static void throw_calls_away(zelamiku_handle *heap) {
 
 static void make_round(zelamiku_handle *heap) {
     uint64_t applied = 0;
-    must(zelamiku_round(heap, &applied), "round");
+    must(zelamiku_round(heap, ZELAMIKU_ALL, &applied), "round");
     throw_calls_away(heap);
 }
 

@@ -1,10 +1,11 @@
-/* What sections cost over zelamiku_threads.h: two monitors and two stores each, by threads that each wait until theirs is durable, or that
- * wait for none, or of which one waits.
+/* What sections cost over zelamiku_threads.h: two monitors and two stores each, by threads that each wait until theirs is durable, that wait
+ * for none, or of which one waits.
  *
- *     threads_cost FILE [THREADS [SECONDS [none | one]]]
+ *     threads_cost FILE [THREADS [SECONDS [SECTIONS | none | one | apart]]]
  * makes a heap in the file, which it replaces, and prints how many sections so many threads (32) do in a second, over so many seconds (2),
- * and the processor time of a section, of all threads and the helper. With `one` the first thread waits and the others don't. It also
- * prints then how long the waits of that thread took: the median, and the worst.
+ * and the processor time of a section, of all threads and the helper. Each waits after so many sections (1), or none does. With `one` the
+ * first thread waits after each section and the others never do; it prints how long the first one waits: the half of the times are shorter,
+ * nine tenths, and all. Its sections depend on the others', since all take one monitor; with `apart` each thread has both of its own.
  *
  *     threads_cost FILE handles | threads GROUPS SECTIONS
  * lets one thread work, in so many groups of so many sections, that are made durable one after the other: by the bare handles the same
@@ -22,13 +23,14 @@
 #include <unistd.h>
 #include "zelamiku_threads.h"
 
-enum { MOST = 32, SHARED = 0, MOST_WAITS = 1 << 20 };
-enum { EACH, NONE, ONE }; /* which threads wait */
+enum { MOST = 32, SHARED = 0, OBJECTS = 2 * MOST + 1, MOST_WAITS = 1 << 20 };
 
 static zelamiku_heap heap;
 static atomic_bool stopping;
-static int waiters = EACH;
-static uint64_t took[MOST_WAITS], waits; /* where ONE waits: how many nanoseconds each of its waits took, and how many there were */
+static uint64_t group = 1; /* sections, after which a thread waits; 0: none does */
+static bool is_one, is_apart;
+static double waited[MOST_WAITS]; /* microseconds, of the one that waits */
+static unsigned waits;
 
 static inline void must(zelamiku_status status, const char *what) {
     if (status == ZELAMIKU_OK) return;
@@ -43,12 +45,12 @@ static inline void add_one(zelamiku_thread own, uint32_t field) {
 }
 
 /* A section over zelamiku_threads.h. */
-__attribute__((noinline)) static void by_threads(zelamiku_thread own, uint32_t object) {
+__attribute__((noinline)) static void by_threads(zelamiku_thread own, uint32_t object, uint32_t other) {
     must(zelamiku_thread_enter(own, object), "enter");
     add_one(own, object);
-    must(zelamiku_thread_enter(own, SHARED), "enter");
-    add_one(own, SHARED);
-    must(zelamiku_thread_exit(own, SHARED), "exit");
+    must(zelamiku_thread_enter(own, other), "enter");
+    add_one(own, other);
+    must(zelamiku_thread_exit(own, other), "exit");
     must(zelamiku_thread_exit(own, object), "exit");
 }
 
@@ -76,23 +78,21 @@ __attribute__((noinline)) static void by_handles(zelamiku_handle *session, uint3
     must(zelamiku_exit(session, object), "exit");
 }
 
-/* Waits, and keeps how long. */
-static void await_timed(zelamiku_thread own) {
-    uint64_t began = zelamiku_now();
+static void await(zelamiku_thread own) {
+    uint64_t begun = zelamiku_now();
     must(zelamiku_thread_await(own), "await");
-    if (waits < MOST_WAITS) took[waits++] = zelamiku_now() - began;
+    if (is_one && waits < MOST_WAITS) waited[waits++] = (double)(zelamiku_now() - begun) / 1e3;
 }
 
 static void *work(void *data) {
     uint32_t object = *(uint32_t *)data;
+    uint64_t own_group = is_one ? object == 1 : group;
     zelamiku_thread own;
     must(zelamiku_thread_begin(&own, heap), "begin");
     uint64_t count = 0;
     while (!atomic_load(&stopping)) {
-        by_threads(own, object);
-        if (waiters == EACH) must(zelamiku_thread_await(own), "await");
-        if (waiters == ONE && object == 1) await_timed(own);
-        count++;
+        by_threads(own, object, is_apart ? object + MOST : SHARED);
+        if (++count % (own_group > 0 ? own_group : UINT64_MAX) == 0) await(own);
     }
     must(zelamiku_thread_end(own), "end");
     uint64_t *answer = (uint64_t *)malloc(sizeof count);
@@ -108,13 +108,13 @@ static double processor_time(void) {
     return 1e6 * (double)(used.ru_utime.tv_sec + used.ru_stime.tv_sec) + (double)(used.ru_utime.tv_usec + used.ru_stime.tv_usec);
 }
 
-static zelamiku_field fields[MOST + 1];
+static zelamiku_field fields[OBJECTS];
 
 /* A new file at the path, for the bare handles. */
 static int make_file(zelamiku_handle *handle, const char *path) {
     uint64_t size = 0;
     int file = open(path, O_RDWR | O_CREAT | O_TRUNC | O_CLOEXEC, 0644);
-    must(zelamiku_format(handle, MOST + 1, fields, MOST + 1, 1, 4096, &size), path);
+    must(zelamiku_format_rings(handle, OBJECTS, fields, OBJECTS, 1, ZELAMIKU_DEFAULT_CAPACITY, ZELAMIKU_DEFAULT_RING, &size), path);
     if (file >= 0 && ftruncate(file, (off_t)size) == 0 && fsync(file) == 0) return file;
     perror(path);
     exit(2);
@@ -122,7 +122,7 @@ static int make_file(zelamiku_handle *handle, const char *path) {
 
 /* A heap of so many lanes in a file that is replaced. */
 static void make(const char *path, uint32_t lanes, uint32_t linger) {
-    zelamiku_plan plan = {.fields = fields, .count = MOST + 1, .objects = MOST + 1, .lanes = lanes, .linger = linger};
+    zelamiku_plan plan = {.fields = fields, .count = OBJECTS, .objects = OBJECTS, .lanes = lanes, .linger = linger};
     (void)unlink(path);
     must(zelamiku_heap_open(&heap, path, &plan, NULL), path);
 }
@@ -135,7 +135,7 @@ static int groups_by_handles(const char *path, unsigned groups, unsigned section
     must(zelamiku_session(&handle, &session), "session");
     for (unsigned group = 1; group <= groups; group++) {
         for (unsigned i = 0; i < sections; i++) by_handles(&session, 1);
-        must(zelamiku_round(&handle, &count), "round");
+        must(zelamiku_round(&handle, ZELAMIKU_ALL, &count), "round");
         must(zelamiku_make_calls(&handle, file, &count), "calls");
         must(zelamiku_acknowledged(&handle, 0, &count), "acknowledged");
         if (count != (uint64_t)group * sections) return 2;
@@ -150,7 +150,7 @@ static int groups_by_threads(const char *path, unsigned groups, unsigned section
     make(path, 1, UINT32_MAX); /* no round but those that are waited for */
     must(zelamiku_thread_begin(&own, heap), "begin");
     for (unsigned group = 1; group <= groups; group++) {
-        for (unsigned i = 0; i < sections; i++) by_threads(own, 1);
+        for (unsigned i = 0; i < sections; i++) by_threads(own, 1, SHARED);
         must(zelamiku_thread_await(own), "await");
     }
     must(zelamiku_thread_end(own), "end");
@@ -158,9 +158,16 @@ static int groups_by_threads(const char *path, unsigned groups, unsigned section
     return 0;
 }
 
-static int compare(const void *one, const void *other) {
-    uint64_t a = *(const uint64_t *)one, b = *(const uint64_t *)other;
-    return (a > b) - (a < b);
+static int by_size(const void *a, const void *b) {
+    double x = *(const double *)a, y = *(const double *)b;
+    return (x > y) - (x < y);
+}
+
+static void tell_waits(void) {
+    qsort(waited, waits, sizeof *waited, by_size);
+    if (waits == 0) return;
+    printf("one waits %.0f us (half), %.0f (nine tenths), %.0f (all); %u times\n", waited[waits / 2], waited[waits * 9ull / 10], waited[waits - 1],
+           waits);
 }
 
 static int rate(const char *path, int threads, int seconds) {
@@ -181,27 +188,26 @@ static int rate(const char *path, int threads, int seconds) {
         free(done);
     }
     double time = processor_time() - before;
-    static const char *const WHO[] = {"that wait for each section", "that wait for none", "of which one waits"};
-    printf("%d threads %s: %.0f sections a second, %.2f us of processor time a section", threads, WHO[waiters], (double)sections / seconds,
-           time / (double)sections);
-    if (waits > 0) {
-        qsort(took, waits, sizeof *took, compare);
-        printf("; a wait took %.3f ms in the median, %.3f at worst", (double)took[waits / 2] / 1e6, (double)took[waits - 1] / 1e6);
-    }
-    printf("\n");
+    char whom[32] = "none";
+    if (group > 0) (void)snprintf(whom, sizeof whom, group > 1 ? "%llu sections" : "each section", (unsigned long long)group);
+    printf("%d threads that wait for %s: %.0f sections a second, %.2f us of processor time a section\n", threads, is_one ? "none, but one" : whom,
+           (double)sections / seconds, time / (double)sections);
+    if (is_one) tell_waits();
     must(zelamiku_heap_close(heap), "close");
     return 0;
 }
 
 int main(int count, char **words) {
     if (count < 2) {
-        fprintf(stderr, "threads_cost FILE [THREADS [SECONDS [none | one]]], or threads_cost FILE handles | threads GROUPS SECTIONS\n");
+        fprintf(stderr, "threads_cost FILE [THREADS [SECONDS [SECTIONS | none | one | apart]]], or "
+                        "threads_cost FILE handles | threads GROUPS SECTIONS\n");
         return 2;
     }
-    for (uint32_t i = 0; i <= MOST; i++) fields[i] = (zelamiku_field){.owner = i, .guard = i};
-    if (count == 5 && strcmp(words[4], "none") == 0) waiters = NONE;
-    if (count == 5 && strcmp(words[4], "one") == 0) waiters = ONE;
-    if (count == 5 && waiters == EACH) {
+    for (uint32_t i = 0; i < OBJECTS; i++) fields[i] = (zelamiku_field){.owner = i, .guard = i};
+    if (count > 4) group = (uint64_t)atoll(words[4]);
+    is_apart = count > 4 && strcmp(words[4], "apart") == 0;
+    is_one = is_apart || (count > 4 && strcmp(words[4], "one") == 0);
+    if (count == 5 && (strcmp(words[2], "handles") == 0 || strcmp(words[2], "threads") == 0)) {
         unsigned groups = (unsigned)atoi(words[3]), sections = (unsigned)atoi(words[4]);
         return strcmp(words[2], "handles") == 0 ? groups_by_handles(words[1], groups, sections) : groups_by_threads(words[1], groups, sections);
     }

@@ -8,8 +8,9 @@
  * What stands for what: a bell is a semaphore of one; a word that is slept on is a flag for each sleeper, which each change sets; a time that
  * is due may come at any moment. What one thread does under the mutex is one step, but for its looks at words that others write without it. The
  * library is its contract: a monitor has an owner and a wait set; a section needs room in its lane's ring; a round takes what a lane has ended
- * and gives its room; it may leave sections unacknowledged while a thread is inside one of its own. Which of several that wait for a monitor is
- * woken is left open, which is more than the code does. */
+ * and gives its room; where it has a bound it may leave what a lane has ended, after it has taken what another has; it may leave sections
+ * unacknowledged while a thread is inside one of its own. Which of several that wait for a monitor is woken is left open, which is more than the
+ * code does. */
 #ifndef SCRIPT
 #define SCRIPT 0
 #endif
@@ -38,7 +39,7 @@ bit urgent, is_led, is_ending, is_left[T];
 /* Without it. */
 byte waiting[M], ended[T], acknowledged[T], awaiting, locks[T];
 bit bell[T], is_behind[T], is_busy[T], is_lent[T]; /* the last: the seat has the handle's number */
-bit has_work, watches, over, is_settled, is_taking, is_rung;
+bit has_work, leaves, watches, over, is_settled, is_taking, is_rung;
 bit told[4];    /* the word has changed since that one looked: a thread, or who ends the heap */
 bit stepped[T]; /* the step has changed since */
 bit has_due; /* of the helper */
@@ -82,17 +83,26 @@ inline want_no_more(i, has_taken) {
     before = 0
 }
 
+inline take(k) { is_full[k] = 0; taken[k] = finished[k] }
+
+/* What the lane has ended stays in its ring, after what another has ended was taken. */
+inline leave_out(k, a, b) { taken[k] = acknowledged[k]; take(a); take(b); leaves = 1 }
+
 /* The one that calls leads; afterwards it doesn't. */
-inline make_round(is_helper) {
+inline make_round(is_helper, has_bound) {
     atomic { !mutex -> urgent = 0 };
 #if MISTAKE != 4 /* all work is taken to be known after the round has taken it */
     atomic { has_work = 0; step_to(1) };
 #else
     step_to(1);
 #endif
-    d_step {
-        is_full[0] = 0; is_full[1] = 0; is_full[2] = 0;
-        taken[0] = finished[0]; taken[1] = finished[1]; taken[2] = finished[2]
+    atomic {
+        if
+        :: take(0); take(1); take(2); leaves = 0
+        :: has_bound && is_full[0] && (is_full[1] || is_full[2]) -> leave_out(0, 1, 2)
+        :: has_bound && is_full[1] && (is_full[0] || is_full[2]) -> leave_out(1, 0, 2)
+        :: has_bound && is_full[2] && (is_full[0] || is_full[1]) -> leave_out(2, 0, 1)
+        fi
     };
 #if MISTAKE == 4
     has_work = 0;
@@ -115,7 +125,11 @@ inline make_round(is_helper) {
 #if MISTAKE == 6 /* the helper isn't rung where another has led */
     atomic { !mutex -> is_led = 0 };
 #else
+#if MISTAKE != 11 /* nor is it rung where that one has left something */
+    atomic { LOCK; is_led = 0; rings = !is_helper && (urgent || leaves || has_work || is_ending) };
+#else
     atomic { LOCK; is_led = 0; rings = !is_helper && (urgent || has_work || is_ending) };
+#endif
     atomic { if :: rings -> is_rung = 1 :: else fi; rings = 0; UNLOCK };
 #endif
 #if MISTAKE == 3 /* one that leads itself tells nobody */
@@ -137,7 +151,11 @@ look:
     atomic {
         if :: is_ending -> UNLOCK; helper_ended = 1; goto ended_now :: else fi;
         if :: is_due -> has_due = 0 :: else fi;
+#if MISTAKE != 12 /* what a round has left waits for the next section's end */
+        has_cause = !is_led && !over && (urgent || leaves || (has_work && (awaiting > 0 || is_due)));
+#else
         has_cause = !is_led && !over && (urgent || (has_work && (awaiting > 0 || is_due)));
+#endif
         if
         :: has_cause -> has_cause = 0; is_due = 0; is_led = 1; watches = 1; UNLOCK
         :: else ->
@@ -150,7 +168,7 @@ look:
             goto sleeps
         fi
     };
-    make_round(1);
+    make_round(1, 1);
     atomic { LOCK; goto rest };
 sleeps:
 #if MISTAKE == 7
@@ -161,7 +179,7 @@ sleeps:
     atomic {
         if
         :: is_rung
-        :: timeout && has_due && !is_rung -> assert(!urgent && (!has_work || awaiting == 0)); is_due = 1
+        :: timeout && has_due && !is_rung -> assert(!urgent && !leaves && (!has_work || awaiting == 0)); is_due = 1
         fi
     };
 #else
@@ -187,7 +205,7 @@ inline sleep_seat(i) { atomic { bell[i] -> bell[i] = 0 } }
 /* Without room: sleeps until the next step. */
 inline await_room(i) {
     atomic { awaiting++; is_behind[i] = 1 };
-    if :: atomic { !was_taking && !stepped[i] -> skip }; demand() :: else fi;
+    if :: atomic { !was_taking && !stepped[i] && !leaves -> skip }; demand() :: else fi;
     do
     :: atomic { over || stepped[i] -> break }
     :: atomic { else -> skip }; sleep_seat(i)
@@ -347,7 +365,7 @@ inline await(i) {
             rings = !is_led && !urgent && !over && awaiting == 1;
             if :: rings -> is_led = 1 :: else fi
         };
-        if :: rings -> rings = 0; make_round(0) :: else -> demand() fi;
+        if :: rings -> rings = 0; make_round(0, 1) :: else -> demand() fi;
         do
 #if MISTAKE == 1 /* it takes the word as it is after it has looked */
         ::  if :: atomic { is_settled -> break } :: else fi;
@@ -454,7 +472,7 @@ proctype Ender() {
     atomic { is_ending = 1; is_rung = 1; UNLOCK };
     helper_ended;
     lead_as_guest();
-    make_round(1);
+    make_round(1, 0);
     is_settled = 1;
     tell_all();
 #else

@@ -222,7 +222,7 @@ static void store(zelamiku_handle *heap, uint64_t value) {
     uint64_t applied = 0;
     MUST(zelamiku_session(heap, &session) == ZELAMIKU_OK && zelamiku_try_enter(&session, 0) == ZELAMIKU_OK);
     MUST(zelamiku_store(&session, 0, value) == ZELAMIKU_OK && zelamiku_exit(&session, 0) == ZELAMIKU_OK);
-    MUST(zelamiku_end(&session) == ZELAMIKU_OK && zelamiku_round(heap, &applied) == ZELAMIKU_OK && applied > 0);
+    MUST(zelamiku_end(&session) == ZELAMIKU_OK && zelamiku_round(heap, ZELAMIKU_ALL, &applied) == ZELAMIKU_OK && applied > 0);
 }
 
 static zelamiku_status make(zelamiku_handle *heap, zelamiku_nbd *host) {
@@ -380,7 +380,7 @@ static void after_loss(zelamiku_handle *heap, zelamiku_nbd *host) {
     uint64_t made = 0;
     MUST(host->nbd == NULL && errno != 0);
     MUST(zelamiku_make_calls_nbd(heap, host, &made) == ZELAMIKU_STOPPED && made == 0);
-    MUST(zelamiku_round(heap, &made) == ZELAMIKU_STOPPED && zelamiku_close(heap) == ZELAMIKU_STOPPED);
+    MUST(zelamiku_round(heap, ZELAMIKU_ALL, &made) == ZELAMIKU_STOPPED && zelamiku_close(heap) == ZELAMIKU_STOPPED);
     end(heap, host);
     uint64_t value = found();
     MUST(value == 7 || value == 8);
@@ -563,7 +563,7 @@ static void store_by_three(zelamiku_handle *heap) {
         MUST(zelamiku_store(&sessions[i], 0, 8 + i) == ZELAMIKU_OK && zelamiku_exit(&sessions[i], 0) == ZELAMIKU_OK);
     }
     for (int i = 0; i < 3; i++) MUST(zelamiku_end(&sessions[i]) == ZELAMIKU_OK);
-    MUST(zelamiku_round(heap, &applied) == ZELAMIKU_OK && applied == 9);
+    MUST(zelamiku_round(heap, ZELAMIKU_ALL, &applied) == ZELAMIKU_OK && applied == 9);
 }
 
 /* What a host leaves that goes on with request `next` over a server which has lost what it answered since request `batch`, which began the
@@ -632,7 +632,7 @@ static void in_flight(void) {
         MUST(zelamiku_try_enter(&sessions[i % 2], 0) == ZELAMIKU_OK);
         MUST(zelamiku_store(&sessions[i % 2], i * 997 % 1000, i + 1) == ZELAMIKU_OK && zelamiku_exit(&sessions[i % 2], 0) == ZELAMIKU_OK);
     }
-    MUST(zelamiku_round(&heap, &applied) == ZELAMIKU_OK && applied == 1200 && zelamiku_make_calls_nbd(&heap, &host, &made) == ZELAMIKU_OK);
+    MUST(zelamiku_round(&heap, ZELAMIKU_ALL, &applied) == ZELAMIKU_OK && applied == 1200 && zelamiku_make_calls_nbd(&heap, &host, &made) == ZELAMIKU_OK);
     MUST(most_unanswered > 1 && most_unanswered <= ZELAMIKU_NBD_IN_FLIGHT);
     for (int i = 0; i < 2; i++) MUST(zelamiku_end(&sessions[i]) == ZELAMIKU_OK);
     end(&heap, &host);

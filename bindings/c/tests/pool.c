@@ -113,7 +113,7 @@ static void make_calls(zelamiku_handle *heap) {
 static void make_rounds(zelamiku_handle *heap) {
     uint64_t count;
     make_calls(heap);
-    OK(zelamiku_round(heap, &count));
+    OK(zelamiku_round(heap, ZELAMIKU_ALL, &count));
     make_calls(heap);
 }
 
@@ -150,11 +150,11 @@ int main(void) {
     OK(zelamiku_end(&session));
     OK(zelamiku_close(&heap));
     uint64_t applied;
-    MUST(zelamiku_round(&heap, &applied) == ZELAMIKU_CLOSED && zelamiku_close(&heap) == ZELAMIKU_CLOSED);
+    MUST(zelamiku_round(&heap, ZELAMIKU_ALL, &applied) == ZELAMIKU_CLOSED && zelamiku_close(&heap) == ZELAMIKU_CLOSED);
     MUST(zelamiku_session(&heap, &session) == ZELAMIKU_CLOSED);
     MUST(zelamiku_acknowledged(&heap, 0, &applied) == ZELAMIKU_CLOSED);
     zelamiku_free(&heap);
-    MUST(zelamiku_round(&heap, &applied) == ZELAMIKU_NOTHING);
+    MUST(zelamiku_round(&heap, ZELAMIKU_ALL, &applied) == ZELAMIKU_NOTHING);
     puts("a pool, by C: as it must be");
     return 0;
 }

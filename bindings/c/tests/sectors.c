@@ -127,7 +127,7 @@ static void begin_one(zelamiku_handle *session, uint32_t worker) {
 
 static void make_round(zelamiku_handle *heap, zelamiku_sectors *host) {
     uint64_t applied = 0, made = 0, sum = 0, number = 0;
-    MUST(zelamiku_round(heap, &applied) == ZELAMIKU_OK && zelamiku_make_calls_sectors(heap, host, &made) == ZELAMIKU_OK);
+    MUST(zelamiku_round(heap, ZELAMIKU_ALL, &applied) == ZELAMIKU_OK && zelamiku_make_calls_sectors(heap, host, &made) == ZELAMIKU_OK);
     for (uint32_t lane = 1; lane <= WORKERS; lane++) {
         MUST(zelamiku_acknowledged(heap, lane, &number) == ZELAMIKU_OK);
         sum += number;
@@ -218,7 +218,7 @@ static bool open_twice(zelamiku_layout layout, int call) {
     make_heap(&heap, &host);
     MUST(zelamiku_session(&heap, &session) == ZELAMIKU_OK);
     begin_one(&session, 1), count_one(&session, 1);
-    MUST(zelamiku_end(&session) == ZELAMIKU_OK && zelamiku_round(&heap, &number) == ZELAMIKU_OK);
+    MUST(zelamiku_end(&session) == ZELAMIKU_OK && zelamiku_round(&heap, ZELAMIKU_ALL, &number) == ZELAMIKU_OK);
     refused_in = call;
     zelamiku_status status = zelamiku_make_calls_sectors(&heap, &host, &made);
     bool was_refused = refused_in == 0;
@@ -250,7 +250,7 @@ static void upgrade(zelamiku_layout layout) {
     make_heap(&heap, &host);
     MUST(zelamiku_session(&heap, &session) == ZELAMIKU_OK);
     begin_one(&session, 2), count_one(&session, 2);
-    MUST(zelamiku_end(&session) == ZELAMIKU_OK && zelamiku_round(&heap, &number) == ZELAMIKU_OK);
+    MUST(zelamiku_end(&session) == ZELAMIKU_OK && zelamiku_round(&heap, ZELAMIKU_ALL, &number) == ZELAMIKU_OK);
     MUST(zelamiku_make_calls_sectors(&heap, &host, &made) == ZELAMIKU_OK);
     zelamiku_free(&heap);
     uint8_t *image = now + zelamiku_sectors_area(&host, host.turn) * sector;

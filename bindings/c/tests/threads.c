@@ -35,18 +35,38 @@ static int flaky_fdatasync(int file) {
     return fdatasync(file);
 }
 
+#include <stdio.h>
+#include <stdlib.h>
 #include "zelamiku.h"
+
+#define MUST(is_so) \
+    do { \
+        if (!(is_so)) { \
+            fprintf(stderr, "line %d: %s\n", __LINE__, #is_so); \
+            exit(1); \
+        } \
+    } while (0)
 
 static void make_haste(void);
 static unsigned round_waits;          /* so many microseconds before the library's call of a round */
 static int round_lasts;               /* and after it until a thread has done more, or for a tenth of a second */
 static unsigned done;                 /* the sections of that thread */
 static unsigned went_on, stood_still; /* how often it had, and hadn't: by who leads */
+static uint64_t few;                  /* records that a round takes at most, where it has a bound; 0: as it is told */
+static unsigned short_rounds;         /* how often that was less */
+static uint64_t last_bound;           /* that of the last round */
 
-static zelamiku_status lasting_round(zelamiku_handle *heap, uint64_t *applied) {
+static zelamiku_status lasting_round(zelamiku_handle *heap, uint64_t most, uint64_t *applied) {
     if (__atomic_load_n(&round_lasts, __ATOMIC_SEQ_CST)) make_haste();
     if (round_waits > 0) usleep(round_waits);
-    zelamiku_status status = zelamiku_round(heap, applied);
+    uint64_t own = most != ZELAMIKU_ALL && few > 0 && few < most ? few : most;
+    __atomic_store_n(&last_bound, most, __ATOMIC_SEQ_CST);
+    zelamiku_status status = zelamiku_round(heap, own, applied);
+    MUST(*applied <= own);
+    if (own < most && *applied == own) {
+        __atomic_add_fetch(&short_rounds, 1, __ATOMIC_SEQ_CST);
+        *applied = most; /* as if it had been the round's own bound */
+    }
     unsigned before = __atomic_load_n(&done, __ATOMIC_SEQ_CST);
     for (unsigned tries = 0; __atomic_load_n(&round_lasts, __ATOMIC_SEQ_CST); tries++) {
         bool has_gone_on = __atomic_load_n(&done, __ATOMIC_SEQ_CST) >= before + 100;
@@ -79,9 +99,11 @@ static long counted_futex(long number, void *word, int what, uint32_t value, con
 #define pwrite flaky_pwrite
 #define fdatasync flaky_fdatasync
 #define syscall counted_futex
+#undef zelamiku_round
 #define zelamiku_round lasting_round
 #include "../zelamiku_threads.c"
 #undef zelamiku_round
+#define zelamiku_round zelamiku_round_most
 #undef syscall
 
 #ifdef INLINE
@@ -97,14 +119,6 @@ static long counted_futex(long number, void *word, int what, uint32_t value, con
 #define zelamiku_thread_store inline_store
 #include "../zelamiku_inline.h"
 #endif
-
-#define MUST(is_so) \
-    do { \
-        if (!(is_so)) { \
-            fprintf(stderr, "line %d: %s\n", __LINE__, #is_so); \
-            exit(1); \
-        } \
-    } while (0)
 
 enum { LANES = 8, TOTAL = 0, LIST = 1, COUNT = 1, TAKEN = 2, ROUNDS = 500 };
 
@@ -123,12 +137,16 @@ static void count_lines(void *of, uint32_t level, const char *text) {
     __atomic_add_fetch(&logged[level], 1, __ATOMIC_SEQ_CST);
 }
 
-static zelamiku_report begin_again(uint32_t capacity) {
-    zelamiku_plan plan = {.fields = FIELDS, .count = 3, .objects = 2, .lanes = LANES, .capacity = capacity, .linger = 1000, .log = count_lines,
-                          .log_of = logged};
+static zelamiku_report begin_by(uint32_t capacity, uint32_t ring, uint32_t linger) {
+    zelamiku_plan plan = {.fields = FIELDS, .count = 3, .objects = 2, .lanes = LANES, .capacity = capacity, .ring = ring, .linger = linger,
+                          .log = count_lines, .log_of = logged};
     zelamiku_report report;
     MUST(zelamiku_heap_open(&all, "threads.heap", &plan, &report) == ZELAMIKU_OK && report.told.found.lanes == LANES);
     return report;
+}
+
+static zelamiku_report begin_again(uint32_t capacity) {
+    return begin_by(capacity, 0, 1000);
 }
 
 static void begin_with(uint32_t capacity) {
@@ -293,6 +311,156 @@ static void room_that_is_not_waited_for(void) {
     __atomic_store_n(&syncs_hang, 0, __ATOMIC_SEQ_CST);
     while ((status = zelamiku_thread_try_enter(own, TOTAL)) == ZELAMIKU_BEHIND) usleep(100);
     MUST(status == ZELAMIKU_OK && zelamiku_thread_exit(own, TOTAL) == ZELAMIKU_OK && zelamiku_heap_close(all) == ZELAMIKU_OK);
+}
+
+/* ---- rings, and bounds ---- */
+
+/* How many sections of three records a thread ends until it has no room, while the calls of a round that has taken the first one last. */
+static unsigned sections_in(uint32_t ring) {
+    MUST(unlink("threads.heap") == 0 || errno == ENOENT);
+    MUST(begin_by(65536, ring, UINT32_MAX).told.found.capacity == 65536);
+    zelamiku_thread own = begin_thread();
+    zelamiku_status status;
+    unsigned sections = 0, before = __atomic_load_n(&syncs, __ATOMIC_SEQ_CST);
+    bool is = true;
+    __atomic_store_n(&syncs_hang, 1, __ATOMIC_SEQ_CST);
+    add(own, TOTAL, 0, 1);
+    MUST(zelamiku_thread_await_until(own, 1, 0, &is) == ZELAMIKU_OK && !is);
+    while (__atomic_load_n(&syncs, __ATOMIC_SEQ_CST) == before) usleep(100);
+    for (; (status = zelamiku_thread_try_enter(own, TOTAL)) == ZELAMIKU_OK; sections++)
+        MUST(zelamiku_thread_store(own, 0, 7) == ZELAMIKU_OK && zelamiku_thread_exit(own, TOTAL) == ZELAMIKU_OK);
+    MUST(status == ZELAMIKU_BEHIND);
+    __atomic_store_n(&syncs_hang, 0, __ATOMIC_SEQ_CST);
+    MUST(zelamiku_thread_await(own) == ZELAMIKU_OK && zelamiku_heap_close(all) == ZELAMIKU_OK);
+    return sections;
+}
+
+/* A section begins where the ring has room for 1,000 records, and the log too. Without a size a log is as its
+ * ring, and a ring that is larger than its log holds no more than that. */
+static void rings(void) {
+    MUST(sections_in(4096) == 1033 && sections_in(0) == 5129 && sections_in(16384) == 5129 && sections_in(65536) == 21513);
+    MUST(unlink("threads.heap") == 0 && begin_by(0, 0, 1000).told.found.capacity == 16384 && zelamiku_heap_close(all) == ZELAMIKU_OK);
+    MUST(unlink("threads.heap") == 0 && begin_by(0, 65536, 1000).told.found.capacity == 65536 && zelamiku_heap_close(all) == ZELAMIKU_OK);
+    MUST(begin_by(0, 4096, 1000).told.found.capacity == 65536 && zelamiku_heap_close(all) == ZELAMIKU_OK);
+}
+
+/* A section's end asks for a round once three quarters of what sections fill are sent, and not durable. */
+static void asks_in_time(void) {
+    MUST(unlink("threads.heap") == 0 && begin_by(65536, 4096, UINT32_MAX).is_made == 1);
+    zelamiku_thread own = begin_thread();
+    for (unsigned i = 0; i < 700; i++) add(own, TOTAL, 0, 1);
+    MUST(zelamiku_thread_await(own) == ZELAMIKU_OK);
+    uint64_t rounds = stats().rounds;
+    for (unsigned i = 0; i < 773; i++) add(own, TOTAL, 0, 1);
+    usleep(20000);
+    MUST(stats().rounds == rounds);
+    add(own, TOTAL, 0, 1);
+    while (zelamiku_thread_durable(own) < 1474) usleep(100);
+    while (stats().rounds == rounds) usleep(100);
+    MUST(stats().last_cause == ZELAMIKU_ROUND_FULL && zelamiku_heap_close(all) == ZELAMIKU_OK);
+}
+
+static void *go_on_and_notify(void *data) {
+    zelamiku_thread own = begin_thread();
+    usleep(20000);
+    __atomic_store_n(&syncs_hang, 0, __ATOMIC_SEQ_CST);
+    for (uint32_t woken = 0; woken == 0;) {
+        MUST(zelamiku_thread_enter(own, TOTAL) == ZELAMIKU_OK && zelamiku_thread_notify(own, TOTAL, &woken) == ZELAMIKU_OK);
+        MUST(zelamiku_thread_exit(own, TOTAL) == ZELAMIKU_OK);
+    }
+    MUST(zelamiku_thread_end(own) == ZELAMIKU_OK);
+    return data;
+}
+
+/* A wait without room isn't refused while rounds leave records, however many it takes. */
+static void waits_for_bounded_rounds(void) {
+    pthread_t other;
+    few = 100;
+    MUST(unlink("threads.heap") == 0);
+    (void)begin_by(65536, 4096, UINT32_MAX);
+    zelamiku_thread own = begin_thread();
+    unsigned before = __atomic_load_n(&syncs, __ATOMIC_SEQ_CST);
+    bool is = true;
+    __atomic_store_n(&syncs_hang, 1, __ATOMIC_SEQ_CST);
+    add(own, TOTAL, 0, 1);
+    MUST(zelamiku_thread_await_until(own, 1, 0, &is) == ZELAMIKU_OK && !is);
+    while (__atomic_load_n(&syncs, __ATOMIC_SEQ_CST) == before) usleep(100);
+    for (unsigned i = 0; i < 1032; i++) add(own, TOTAL, 0, 1);
+    MUST(zelamiku_thread_enter(own, TOTAL) == ZELAMIKU_OK);
+    for (unsigned i = 0; i < 990; i++) MUST(zelamiku_thread_store(own, 0, i) == ZELAMIKU_OK);
+    MUST(pthread_create(&other, NULL, go_on_and_notify, NULL) == 0);
+    MUST(zelamiku_thread_wait(own, TOTAL) == ZELAMIKU_OK && zelamiku_thread_exit(own, TOTAL) == ZELAMIKU_OK);
+    MUST(pthread_join(other, NULL) == 0 && zelamiku_heap_close(all) == ZELAMIKU_OK);
+    few = 0;
+}
+
+static void *await_each(void *data) {
+    zelamiku_thread own = begin_thread();
+    for (unsigned i = 1; i <= 100; i++) {
+        add(own, LIST, TAKEN, 1);
+        MUST(zelamiku_thread_await(own) == ZELAMIKU_OK && zelamiku_thread_durable(own) == i);
+    }
+    MUST(zelamiku_thread_end(own) == ZELAMIKU_OK);
+    return data;
+}
+
+static void *count_on(void *data) {
+    zelamiku_thread own = begin_thread();
+    for (unsigned i = 0; i < 2000; i++) add(own, TOTAL, 0, 1);
+    MUST(zelamiku_thread_end(own) == ZELAMIKU_OK);
+    return data;
+}
+
+static void *count_or_await(void *data) {
+    return (uintptr_t)data == 0 ? await_each(data) : count_on(data);
+}
+
+/* Rounds that leave records are followed by others: also where nobody waits, where one waits alone, where many wait, while threads have no
+ * room, and at a close and a stop. */
+static void bounded_rounds(void) {
+    few = 200;
+    MUST(unlink("threads.heap") == 0 && begin_by(4000, 0, 1000).is_made == 1);
+    short_rounds = 0;
+    run(count_or_await, 4);
+    zelamiku_thread own = begin_thread();
+    for (unsigned i = 0; i < 500; i++) add(own, TOTAL, 0, 1);
+    for (unsigned i = 0; zelamiku_thread_durable(own) < 500; i++) {
+        MUST(i < 60000);
+        usleep(1000);
+    }
+    for (unsigned i = 0; i < 500; i++) add(own, TOTAL, 0, 1);
+    MUST(zelamiku_thread_await(own) == ZELAMIKU_OK && zelamiku_thread_durable(own) == 1000);
+    MUST(__atomic_load_n(&short_rounds, __ATOMIC_SEQ_CST) > 20);
+    for (unsigned i = 0; i < 500; i++) add(own, TOTAL, 0, 1);
+    MUST(zelamiku_heap_close(all) == ZELAMIKU_OK);
+    (void)begin_again(0);
+    MUST(look(TOTAL, 0) == 3 * 2000 + 1500 && look(LIST, TAKEN) == 100);
+    run(count, LANES);
+    run(pass, LANES);
+    own = begin_thread();
+    for (unsigned i = 0; i < 500; i++) add(own, TOTAL, 0, 1);
+    MUST(zelamiku_heap_stop(all) == ZELAMIKU_OK && last_bound == ZELAMIKU_ALL && zelamiku_thread_end(own) == ZELAMIKU_CLOSED);
+    (void)begin_again(0);
+    MUST(look(TOTAL, 0) == 3 * 2000 + 2000 + LANES * ROUNDS && zelamiku_heap_close(all) == ZELAMIKU_OK);
+    few = 0;
+}
+
+/* The bound is as much as the last calls' time pays for, or more: 4,096 records of each lane beside which one waits, and else a ring. */
+static void bounds(void) {
+    heap *of = &heaps[0]; /* no heap is there */
+    of->room = 16384;
+    note_times(of, 1000, 100000 - 1, 50000);
+    MUST(of->paid == 500 && of->last_calls == 50000);
+    MUST(bound(of, 0, 0) == 16384 && bound(of, 4, 0) == 65536 && bound(of, 4, 4) == 65536 && bound(of, 1, 1) == 16384);
+    MUST(bound(of, 4, 1) == 16384 && bound(of, 4, 3) == 16384 && bound(of, 2, 1) == 8192);
+    note_times(of, 0, 1, 70000);
+    MUST(of->paid == 500 && of->last_calls == 70000);
+    note_times(of, 100000, 5000000 - 1, 8000000);
+    MUST(of->paid == 160000 && bound(of, 4, 0) == 160000 && bound(of, 4, 1) == 160000);
+    /* Calls that hung pay for 20 milliseconds. */
+    note_times(of, 100000, 5000000 - 1, 8000000000);
+    MUST(of->paid == 400000 && of->last_calls == 8000000000);
+    of->room = of->paid = of->last_calls = 0;
 }
 
 /* ---- waits, and refusals ---- */
@@ -656,7 +824,7 @@ static void after_a_session(void) {
     MUST(zelamiku_format(&handle, 2, FIELDS, 3, LANES, 2000, &number) == ZELAMIKU_OK);
     MUST(zelamiku_session(&handle, &session) == ZELAMIKU_OK && zelamiku_try_enter(&session, LIST) == ZELAMIKU_OK);
     MUST(zelamiku_store(&session, COUNT, 7) == ZELAMIKU_OK && zelamiku_exit(&session, LIST) == ZELAMIKU_OK);
-    MUST(zelamiku_end(&session) == ZELAMIKU_OK && zelamiku_round(&handle, &number) == ZELAMIKU_OK);
+    MUST(zelamiku_end(&session) == ZELAMIKU_OK && zelamiku_round(&handle, ZELAMIKU_ALL, &number) == ZELAMIKU_OK);
     MUST(no_calls(&handle, NULL, &number) == ZELAMIKU_OK);
     MUST(zelamiku_heap_start(&all, "a device", &handle, no_calls, NULL, NULL) == ZELAMIKU_OK);
     zelamiku_thread own = begin_thread();
@@ -748,6 +916,11 @@ int main(int argc, char **argv) {
     room_while_a_round_takes();
     room_after_a_round();
     room_that_is_not_waited_for();
+    rings();
+    asks_in_time();
+    waits_for_bounded_rounds();
+    bounded_rounds();
+    bounds();
     refusals();
     enters_with_deadlines();
     failing_writes();
@@ -764,7 +937,7 @@ int main(int argc, char **argv) {
     turns(0);
     for (int i = 0; i < 5; i++) turns(20);
     rest_for(argc > 2 ? (unsigned)strtoul(argv[2], NULL, 10) : 200);
-    printf("threads: lives of %d threads, room, refusals, deadlines, writes and syncs that fail, stops, copies, sessions before, turns, and rest\n",
+    printf("threads: lives of %d threads, room, rings, bounds, refusals, deadlines, writes and syncs that fail, stops, copies, sessions before, turns, and rest\n",
            LANES);
     return 0;
 }

@@ -77,6 +77,10 @@ static void bad_plans(void) {
     IS(zelamiku_heap_open(&heap, "a", &bad, &report), BAD_HEADER, "capacity is 1999");
     bad = plan, bad.capacity = 1048577;
     IS(zelamiku_heap_open(&heap, "a", &bad, &report), BAD_HEADER, "1048576");
+    bad = plan, bad.ring = 4095;
+    IS(zelamiku_heap_open(&heap, "a", &bad, &report), RING, "ring is 4095 in the plan; it may be 4096 to 65536");
+    bad = plan, bad.ring = 65537, bad.capacity = 0;
+    IS(zelamiku_heap_open(&heap, "a", &bad, &report), RING, "ring is 65537");
     bad = plan, bad.fields = &one, bad.count = 1, one.owner = OBJECTS;
     IS(zelamiku_heap_open(&heap, "a", &bad, &report), UNKNOWN_OBJECT, "the owner of field 0 is 20");
     one.owner = 0, one.guard = UINT32_MAX;

@@ -99,12 +99,19 @@ class Openings(OnFile):
         with self.open(alice=Account, bob=Account, lanes=3, capacity=2_000) as heap:
             made = heap.report
             self.values(heap)
-        with self.open(alice=Account, bob=Account, lanes=2) as heap:
+        with self.open(alice=Account, bob=Account, lanes=2, ring=65_536) as heap:
             found = heap.report
         self.assertTrue(made.is_made and not found.is_made and not found.is_upgraded)
         self.assertEqual((made.lanes, made.capacity, found.lanes, found.capacity), (3, 2_000, 3, 2_000))
         self.assertEqual(made.size, os.path.getsize(self.path))
         self.assertEqual((found.size, found.kept, found.dropped, found.undone), (made.size, (1, 0, 0), (), 0))
+
+    def test_a_log_holds_as_much_as_its_ring_unless_it_is_said(self):
+        for ring, records in ((None, 16_384), (4_096, 4_096), (65_536, 65_536)):
+            with self.open(alice=Account, bob=Account, lanes=1, **({} if ring is None else {"ring": ring})) as heap:
+                self.assertEqual(heap.report.capacity, records)
+                self.values(heap)
+            os.remove(self.path)
 
     def test_another_opening_is_busy(self):
         with self.open():

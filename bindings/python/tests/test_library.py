@@ -47,7 +47,7 @@ class Sizes(unittest.TestCase):
             library.Told: 312,
             library.DroppedRow: 32,
             library.Sight: 16,
-            library.PlanRow: 48,
+            library.PlanRow: 56,
             library.ReportRow: 344,
             library.StatsRow: 80,
         }

@@ -66,7 +66,7 @@ class Numbers(unittest.TestCase):
         for name in ("close", "objects", "synchronized", "_own", "__init__"):
             with self.assertRaisesRegex(ValueError, "a name of zelamiku.Heap's own"):
                 zelamiku.open("never.heap", **{name: Account})
-        for name, value in (("lanes", 0), ("lanes", 33), ("lanes", -1), ("capacity", 1_999), ("capacity", 2**40), ("linger", 10**6), ("linger", -1)):
+        for name, value in (("lanes", 0), ("lanes", 33), ("lanes", -1), ("capacity", 1_999), ("capacity", 2**40), ("ring", 4_095), ("ring", 65_537), ("linger", 10**6), ("linger", -1)):
             with self.subTest(name=name, value=value), self.assertRaisesRegex(zelamiku.BadPlan, name):
                 zelamiku.open("never.heap", it=Account, **{name: value})
         with self.assertRaises(TypeError):

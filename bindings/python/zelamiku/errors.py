@@ -64,7 +64,7 @@ class OldVersion(OpenError):
 
 
 class BadPlan(OpenError, ValueError):
-    """What is declared can be no heap: too many objects or fields, none, or lanes or a capacity past their limits."""
+    """What is declared can be no heap: too many objects or fields, none, or lanes, a capacity or a ring past their limits."""
 
 
 class BrokenFile(OpenError):
@@ -203,6 +203,7 @@ KINDS = {
     41: Kind(Forked, "the heap is that of the process that has forked this one", "open heaps in the child, after the fork"),
     42: Kind(Abandoned, "an exception has left a section that had stored", _REOPEN),
     43: Kind(OtherHeap, "the file's heap isn't the one that is declared", _MAKE),
+    44: Kind(BadPlan, "a lane's ring is out of its limits", "choose 4,096 to 65,536"),
 }
 
 # What statuses mean of an opening, where it is something else.

@@ -27,7 +27,8 @@ def open(
     /,
     *,
     lanes: int = 8,
-    capacity: int = 4096,
+    capacity: int | None = None,
+    ring: int = 16_384,
     linger: float = 0.005,
     upgrade: bool = False,
     **objects: Declared,
@@ -38,9 +39,10 @@ def open(
     They and their fields are numbered in the order in which they are declared; a file whose heap is another is refused and left as it is.
 
     ``lanes`` is how many threads may use the heap at once, 1 to 32; a heap that is there may have more. ``capacity`` is how many records a
-    lane's log holds, 2,000 to 1,048,576; a heap that is there keeps its own. ``linger`` is how many seconds a section that nobody waits for
-    may lie before a round makes it durable; less makes more syncs. ``upgrade`` opens a heap of an older version too, and makes it one of this
-    version in place.
+    lane's log holds, 2,000 to 1,048,576, and as many as its ring where it isn't said; a heap that is there keeps its own. ``ring`` is how many
+    records a lane's ring holds, 4,096 to 65,536, of 24 bytes of memory each: a thread goes on until its ring or its log is full, while a
+    round's calls are made. ``linger`` is how many seconds a section that nobody waits for may lie before a round makes it durable; less makes
+    more syncs. ``upgrade`` opens a heap of an older version too, and makes it one of this version in place.
 
     The file is locked for this opening, and syncing and reading it may take seconds. Close the heap, or use it as a context manager.
 
@@ -54,7 +56,9 @@ def open(
     text = os.fspath(path)
     wanted = PlanRow(
         lanes=_within(text, "lanes", lanes, 1, MOST_LANES),
-        capacity=_within(text, "capacity", capacity, 2_000, 1_048_576),
+        # To the library 0 is as many as the ring.
+        capacity=0 if capacity is None else _within(text, "capacity", capacity, 2_000, 1_048_576),
+        ring=_within(text, "ring", ring, 4_096, 65_536),
         # To the library 0 would be 5,000.
         linger=_within(text, "linger, in microseconds,", round(linger * 1e6), 0, 2**32 - 1) or 1,
         upgrades=upgrade,
@@ -269,7 +273,7 @@ def _opened(calls: Library, path: str, plan: Plan, wanted: PlanRow) -> tuple[int
     wanted.count = len(fields)
     wanted.objects = len(plan.objects)
     handle, row = c_uint64(), ReportRow()
-    status = calls.heap_open(byref(handle), _encoded(path), byref(wanted), byref(row))
+    status = calls.heap_open_rings(byref(handle), _encoded(path), byref(wanted), byref(row))
     if status == OK:
         return handle.value, row
     if status == OTHER_HEAP:

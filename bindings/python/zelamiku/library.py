@@ -97,6 +97,7 @@ class PlanRow(ctypes.Structure):
         ("objects", c_uint32),
         ("lanes", c_uint32),
         ("capacity", c_uint32),
+        ("ring", c_uint32),
         ("linger", c_uint32),
         ("upgrades", c_uint32),
         ("log", c_void_p),
@@ -141,7 +142,7 @@ _HEAP = _THREAD = c_uint64
 
 # What each call takes and answers; a status where nothing else is said.
 _SLEEPING: dict[str, list[Any]] = {
-    "heap_open": [POINTER(c_uint64), c_char_p, POINTER(PlanRow), POINTER(ReportRow)],
+    "heap_open_rings": [POINTER(c_uint64), c_char_p, POINTER(PlanRow), POINTER(ReportRow)],
     "heap_close": [_HEAP],
     "heap_stop": [_HEAP],
     "heap_abandon": [_HEAP],

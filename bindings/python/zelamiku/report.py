@@ -62,13 +62,15 @@ class Cause(enum.Enum):
     ROOM = 3
     """A thread has no room for a section's records."""
     FULL = 4
-    """A lane has sent a quarter of its ring."""
+    """A lane has sent three quarters of what its ring or its log takes."""
     LINGER = 5
     """The linger has passed."""
     AGAIN = 6
     """A write had failed a second before."""
     CLOSING = 7
     """The heap was being closed."""
+    LEFT = 8
+    """The last one had left records, for its bound."""
 
 
 @dataclass(frozen=True)

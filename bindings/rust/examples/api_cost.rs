@@ -150,7 +150,7 @@ fn row_by_handles(path: &str, threads: u32, waits: bool, time: Duration) -> Cost
     thread::scope(|scope| {
         scope.spawn(move || {
             while !is_over.load(Ordering::SeqCst) {
-                let applied = heap.round().expect("a round");
+                let applied = heap.round(None).expect("a round");
                 heap.make_calls(&mut file).expect("calls");
                 for (lane, durable) in (0..).zip(durable) {
                     durable.store(heap.acknowledged(lane).expect("sections"), Ordering::SeqCst);
@@ -221,7 +221,7 @@ fn groups_by_handles(path: &str, groups: u64, sections: u64) {
     let mut session = heap.session().expect("a session");
     for group in 1..=groups {
         (0..sections).for_each(|_| by_handles(&mut session, 1).expect("a section"));
-        heap.round().expect("a round");
+        heap.round(None).expect("a round");
         heap.make_calls(&mut file).expect("calls");
         assert_eq!(heap.acknowledged(0), Ok(group * sections));
     }

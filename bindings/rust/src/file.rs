@@ -137,16 +137,29 @@ impl Heap {
 
     /// The same, and tells what [`open_file_telling`](Heap::open_file_telling) tells.
     pub fn upgrade_file_telling(file: &File) -> Result<(Heap, Report), FileError> {
-        Heap::of_file(file, Heap::upgrade_telling)
+        Heap::upgrade_file_rings(file, raw::USUAL_RING)
+    }
+
+    /// The same, with rings of so many records, as [`format_rings`](Heap::format_rings).
+    pub fn upgrade_file_rings(file: &File, ring: u32) -> Result<(Heap, Report), FileError> {
+        Heap::of_file(file, |image| Heap::upgrade_rings(image, ring))
     }
 
     /// Opens the heap of a file as [`open_file`](Heap::open_file) does, and tells which sections recovery kept and dropped, and why.
     pub fn open_file_telling(file: &File) -> Result<(Heap, Report), FileError> {
-        Heap::of_file(file, Heap::open_telling)
+        Heap::open_file_rings(file, raw::USUAL_RING)
+    }
+
+    /// The same, with rings of so many records, as [`format_rings`](Heap::format_rings).
+    pub fn open_file_rings(file: &File, ring: u32) -> Result<(Heap, Report), FileError> {
+        Heap::of_file(file, |image| Heap::open_rings(image, ring))
     }
 
     // Locks a file, syncs it, and opens the heap of its bytes so.
-    fn of_file(file: &File, open: fn(&[u8]) -> Result<(Heap, Report), NotOpened>) -> Result<(Heap, Report), FileError> {
+    fn of_file(
+        file: &File,
+        open: impl Fn(&[u8]) -> Result<(Heap, Report), NotOpened>,
+    ) -> Result<(Heap, Report), FileError> {
         lock(file)?;
         // What a process before this one wrote may be in the system's cache alone: it is made durable, and then read from the device.
         file.sync_all()?;
@@ -166,8 +179,20 @@ impl Heap {
     /// the image has, durably. Whatever it had is gone, but after a refusal. The first calls are left to
     /// [`make_calls`](Heap::make_calls) on the same file; the folder of a new file is the caller's to sync.
     pub fn format_file(file: &File, objects: u32, fields: &[Field], lanes: u32, capacity: u32) -> Result<(Heap, u64), FileError> {
+        Heap::format_file_rings(file, objects, fields, lanes, capacity, raw::USUAL_RING)
+    }
+
+    /// The same, with rings of so many records, as [`format_rings`](Heap::format_rings).
+    pub fn format_file_rings(
+        file: &File,
+        objects: u32,
+        fields: &[Field],
+        lanes: u32,
+        capacity: u32,
+        ring: u32,
+    ) -> Result<(Heap, u64), FileError> {
         lock(file)?;
-        let (heap, size) = Heap::format(objects, fields, lanes, capacity)?;
+        let (heap, size) = Heap::format_rings(objects, fields, lanes, capacity, ring)?;
         close_gate(file)?;
         file.set_len(0)?;
         file.set_len(size)?;

@@ -211,10 +211,23 @@ impl Heap {
     /// Makes a heap and opens it, and tells the bytes of its image. The device has to have as many zero bytes, durably, before
     /// [`make_calls`](Heap::make_calls).
     pub fn format(objects: u32, fields: &[Field], lanes: u32, capacity: u32) -> Result<(Heap, u64), Refusal> {
+        Heap::format_rings(objects, fields, lanes, capacity, raw::USUAL_RING)
+    }
+
+    /// The same, where a lane's ring holds so many records, 4,096 to 65,536; 4,096 where it isn't said. A session sends what it does through
+    /// its lane's ring, from which a round takes it: so a larger one lets it go on for longer while a round's calls are made, up to the
+    /// lane's capacity. It takes 24 bytes of memory a record, and is no part of the image. [`Refusal::Ring`] where it is out of these limits.
+    pub fn format_rings(
+        objects: u32,
+        fields: &[Field],
+        lanes: u32,
+        capacity: u32,
+        ring: u32,
+    ) -> Result<(Heap, u64), Refusal> {
         let rows: Vec<raw::Field> = fields.iter().map(|field| (*field).into()).collect();
         let mut handle = Owned::none();
         let mut size = 0;
-        answer(handle.format(objects, &rows, lanes, capacity, &mut size))?;
+        answer(handle.format(objects, &rows, lanes, capacity, ring, &mut size))?;
         Ok((Heap::of(handle), size))
     }
 
@@ -238,13 +251,23 @@ impl Heap {
     /// Recovers the heap of these bytes as [`open`](Heap::open) does, and tells which sections it kept and dropped, and why; or for which
     /// record it refused.
     pub fn open_telling(image: &[u8]) -> Result<(Heap, Report), NotOpened> {
-        let (handle, report) = report::open(image)?;
+        Heap::open_rings(image, raw::USUAL_RING)
+    }
+
+    /// The same, with rings of so many records, as [`format_rings`](Heap::format_rings).
+    pub fn open_rings(image: &[u8], ring: u32) -> Result<(Heap, Report), NotOpened> {
+        let (handle, report) = report::open(image, ring)?;
         Ok((Heap::of(handle), report))
     }
 
     /// Recovers the heap of these bytes as [`upgrade`](Heap::upgrade) does, and tells what [`open_telling`](Heap::open_telling) tells.
     pub fn upgrade_telling(image: &[u8]) -> Result<(Heap, Report), NotOpened> {
-        let (handle, report) = report::upgrade(image)?;
+        Heap::upgrade_rings(image, raw::USUAL_RING)
+    }
+
+    /// The same, with rings of so many records, as [`format_rings`](Heap::format_rings).
+    pub fn upgrade_rings(image: &[u8], ring: u32) -> Result<(Heap, Report), NotOpened> {
+        let (handle, report) = report::upgrade(image, ring)?;
         Ok((Heap::of(handle), report))
     }
 
@@ -256,14 +279,16 @@ impl Heap {
         Ok(Session { handle })
     }
 
-    /// A round of the helper: answers how many records it applied.
+    /// A round of the helper: applies at most so many records, or as many as there are, and answers how many it applied. The lanes have equal
+    /// parts of the bound. One that has applied as many as it might may have left some: make another. So where sessions wait beside others
+    /// that send much, choose a bound that takes about as long as the calls of a round.
     ///
     /// [`Refusal::CallsLeft`]: the calls of so many rounds are left that those of one more might have no room. Nothing was done: make
     /// them, and go on. [`Refusal::Stopped`]: a sync of the device has failed. [`Refusal::Failed`]: an earlier round was refused by
     /// [`Refusal::Fault`].
-    pub fn round(&mut self) -> Result<u64, Refusal> {
+    pub fn round(&mut self, most: Option<u64>) -> Result<u64, Refusal> {
         let mut applied = 0;
-        answer(self.hosted.handle.round(&mut applied))?;
+        answer(self.hosted.handle.round(most.unwrap_or(raw::ALL), &mut applied))?;
         Ok(applied)
     }
 

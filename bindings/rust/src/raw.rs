@@ -13,6 +13,10 @@ pub const WRITE: u32 = 1;
 pub const MOST_BYTES: usize = 4096;
 /// The owner of a monitor that is free.
 pub const NOBODY: u32 = 64;
+/// How many records a lane's ring holds where nothing is said.
+pub const USUAL_RING: u32 = 4096;
+/// No bound on a round.
+pub const ALL: u64 = u64::MAX;
 /// Where no slot was taken.
 pub const NO_SLOT: u32 = u32::MAX;
 
@@ -138,29 +142,30 @@ const _: () = assert!(std::mem::size_of::<Told>() == 312 && std::mem::size_of::<
 const _: () = assert!(std::mem::size_of::<Call>() == 24 && std::mem::size_of::<Sight>() == 16);
 
 extern "C" {
-    // An older name is of a library whose fields are shorter.
-    #[link_name = "zelamiku_format_marked"]
-    fn zelamiku_format(
+    fn zelamiku_format_rings(
         heap: *mut Handle,
         objects: u32,
         fields: *const Field,
         count: usize,
         lanes: u32,
         capacity: u32,
+        ring: u32,
         size: *mut u64,
     ) -> u32;
-    fn zelamiku_open_telling(
+    fn zelamiku_open_telling_rings(
         heap: *mut Handle,
         image: *const u8,
         size: usize,
+        ring: u32,
         told: *mut Told,
         dropped: *mut Dropped,
         count: usize,
     ) -> u32;
-    fn zelamiku_upgrade_telling(
+    fn zelamiku_upgrade_telling_rings(
         heap: *mut Handle,
         image: *const u8,
         size: usize,
+        ring: u32,
         told: *mut Told,
         dropped: *mut Dropped,
         count: usize,
@@ -169,7 +174,9 @@ extern "C" {
     fn zelamiku_next_call(heap: *mut Handle, call: *mut Call, bytes: *mut u8, size: usize) -> u32;
     fn zelamiku_call_done(heap: *mut Handle) -> u32;
     fn zelamiku_call_failed(heap: *mut Handle) -> u32;
-    fn zelamiku_round(heap: *mut Handle, applied: *mut u64) -> u32;
+    // An older name is of a library whose rounds have no bound.
+    #[link_name = "zelamiku_round_most"]
+    fn zelamiku_round(heap: *mut Handle, most: u64, applied: *mut u64) -> u32;
     fn zelamiku_acknowledged(heap: *mut Handle, lane: u32, sections: *mut u64) -> u32;
     fn zelamiku_close(heap: *mut Handle) -> u32;
     fn zelamiku_free(handle: *mut Handle);
@@ -220,7 +227,7 @@ macro_rules! calls {
 calls! {
     call_done() = zelamiku_call_done;
     call_failed() = zelamiku_call_failed;
-    round(applied: &mut u64) = zelamiku_round;
+    round(most: u64, applied: &mut u64) = zelamiku_round;
     acknowledged(lane: u32, sections: &mut u64) = zelamiku_acknowledged;
     close() = zelamiku_close;
     try_enter(object: u32) = zelamiku_try_enter;
@@ -244,18 +251,18 @@ impl Owned {
         Owned(Handle::NONE)
     }
 
-    pub fn format(&mut self, objects: u32, fields: &[Field], lanes: u32, capacity: u32, size: &mut u64) -> u32 {
-        unsafe { zelamiku_format(&mut self.0, objects, fields.as_ptr(), fields.len(), lanes, capacity, size) }
+    pub fn format(&mut self, objects: u32, fields: &[Field], lanes: u32, capacity: u32, ring: u32, size: &mut u64) -> u32 {
+        unsafe { zelamiku_format_rings(&mut self.0, objects, fields.as_ptr(), fields.len(), lanes, capacity, ring, size) }
     }
 
-    pub fn open_telling(&mut self, image: &[u8], told: &mut Told, dropped: &mut [Dropped]) -> u32 {
+    pub fn open_telling(&mut self, image: &[u8], ring: u32, told: &mut Told, dropped: &mut [Dropped]) -> u32 {
         let (at, count) = (dropped.as_mut_ptr(), dropped.len());
-        unsafe { zelamiku_open_telling(&mut self.0, image.as_ptr(), image.len(), told, at, count) }
+        unsafe { zelamiku_open_telling_rings(&mut self.0, image.as_ptr(), image.len(), ring, told, at, count) }
     }
 
-    pub fn upgrade_telling(&mut self, image: &[u8], told: &mut Told, dropped: &mut [Dropped]) -> u32 {
+    pub fn upgrade_telling(&mut self, image: &[u8], ring: u32, told: &mut Told, dropped: &mut [Dropped]) -> u32 {
         let (at, count) = (dropped.as_mut_ptr(), dropped.len());
-        unsafe { zelamiku_upgrade_telling(&mut self.0, image.as_ptr(), image.len(), told, at, count) }
+        unsafe { zelamiku_upgrade_telling_rings(&mut self.0, image.as_ptr(), image.len(), ring, told, at, count) }
     }
 
     pub fn session(&mut self, session: &mut Owned) -> u32 {

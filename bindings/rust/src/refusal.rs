@@ -77,6 +77,7 @@ refusals! {
     41 Forked "the heap is that of the process that has forked this one"
     42 Abandoned "the heap was abandoned"
     43 OtherHeap "the file's heap isn't that of the plan"
+    44 Ring "a lane's ring is out of its limits"
 }
 
 impl Refusal {

@@ -83,23 +83,24 @@ const FEW: usize = 256;
 
 // Each opens the heap of these bytes. Where more sections were dropped than there was room for, it opens it again: nothing was asked of
 // the device by then.
-pub(crate) fn open(image: &[u8]) -> Result<(Owned, Report), NotOpened> {
-    open_by(image, Owned::open_telling)
+pub(crate) fn open(image: &[u8], ring: u32) -> Result<(Owned, Report), NotOpened> {
+    open_by(image, ring, Owned::open_telling)
 }
 
-pub(crate) fn upgrade(image: &[u8]) -> Result<(Owned, Report), NotOpened> {
-    open_by(image, Owned::upgrade_telling)
+pub(crate) fn upgrade(image: &[u8], ring: u32) -> Result<(Owned, Report), NotOpened> {
+    open_by(image, ring, Owned::upgrade_telling)
 }
 
 fn open_by(
     image: &[u8],
-    open: fn(&mut Owned, &[u8], &mut raw::Told, &mut [raw::Dropped]) -> u32,
+    ring: u32,
+    open: fn(&mut Owned, &[u8], u32, &mut raw::Told, &mut [raw::Dropped]) -> u32,
 ) -> Result<(Owned, Report), NotOpened> {
     let mut dropped = vec![raw::Dropped::default(); FEW];
     loop {
         let mut handle = Owned::none();
         let mut told = raw::Told::default();
-        let status = open(&mut handle, image, &mut told, &mut dropped);
+        let status = open(&mut handle, image, ring, &mut told, &mut dropped);
         if status != 0 {
             return Err(NotOpened {
                 refusal: Refusal::from(status),

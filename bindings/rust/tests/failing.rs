@@ -85,7 +85,7 @@ fn store(heap: &mut Heap, value: u64) {
     session.store(0, value).unwrap();
     session.exit(0).unwrap();
     session.end().unwrap();
-    assert!(heap.round().unwrap() > 0);
+    assert!(heap.round(None).unwrap() > 0);
 }
 
 fn found_in(bytes: &[u8]) -> u64 {
@@ -130,7 +130,7 @@ fn a_sync_that_failed_stops_the_heap() {
         }
         assert_eq!(device.syncs, syncs);
         assert_eq!(heap.acknowledged(0), Err(Refusal::Stopped));
-        assert_eq!(heap.round(), Err(Refusal::Stopped));
+        assert_eq!(heap.round(None), Err(Refusal::Stopped));
         let (heap, refusal) = heap.close().unwrap_err();
         assert_eq!((heap.is_none(), refusal), (true, Refusal::Stopped));
         // Nothing was acknowledged, so either is right.
@@ -160,7 +160,7 @@ fn an_acknowledged_section_stays_though_a_later_sync_fails() {
         session.enter(0).unwrap();
         session.store(0, value).unwrap();
         session.exit(0).unwrap();
-        heap.round().unwrap();
+        heap.round(None).unwrap();
         if value == 1 {
             heap.make_calls(&mut device).unwrap();
             assert_eq!(heap.acknowledged(0), Ok(1));
@@ -184,7 +184,7 @@ fn a_round_waits_for_calls_that_are_left() {
         session.enter(0).unwrap();
         session.store(0, rounds).unwrap();
         session.exit(0).unwrap();
-        match heap.round() {
+        match heap.round(None) {
             Ok(_) => rounds += 1,
             Err(refusal) => break refusal,
         }
@@ -194,7 +194,7 @@ fn a_round_waits_for_calls_that_are_left() {
     assert_eq!(heap.acknowledged(0), Err(Refusal::CallsLeft));
     heap.make_calls(&mut device).unwrap();
     assert_eq!(heap.acknowledged(0), Ok(rounds));
-    heap.round().unwrap();
+    heap.round(None).unwrap();
     heap.make_calls(&mut device).unwrap();
     assert_eq!(heap.acknowledged(0), Ok(rounds + 1));
     session.end().unwrap();

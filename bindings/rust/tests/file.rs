@@ -42,7 +42,7 @@ fn what_is_acknowledged_is_found_in_the_file() {
     session.enter(0).unwrap();
     session.store(0, 7).unwrap();
     session.exit(0).unwrap();
-    heap.round().unwrap();
+    heap.round(None).unwrap();
     heap.make_calls(&mut file).unwrap();
     assert_eq!(heap.acknowledged(0), Ok(1));
     drop((heap, session, file));
@@ -100,7 +100,7 @@ fn an_old_heap_is_upgraded_in_place() {
     session.enter(0).unwrap();
     session.store(0, 7).unwrap();
     session.exit(0).unwrap();
-    heap.round().unwrap();
+    heap.round(None).unwrap();
     heap.make_calls(&mut file).unwrap();
     drop((heap, session, file));
     let mut bytes = fs::read(&path).unwrap();

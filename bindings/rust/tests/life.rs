@@ -37,7 +37,7 @@ fn what_is_acknowledged_is_found_again() {
     assert_eq!(session.load(0), Ok(7));
     session.exit(0).unwrap();
     assert_eq!(heap.acknowledged(0), Ok(0));
-    assert!(heap.round().unwrap() > 0);
+    assert!(heap.round(None).unwrap() > 0);
     assert_eq!(heap.acknowledged(0), Err(Refusal::CallsLeft));
     heap.make_calls(&mut device).unwrap();
     assert_eq!(heap.acknowledged(0), Ok(1));
@@ -70,7 +70,7 @@ fn threads_count_and_the_heap_is_closed() {
     });
     for thread in threads {
         while !thread.is_finished() {
-            heap.round().unwrap();
+            heap.round(None).unwrap();
             heap.make_calls(&mut device).unwrap();
         }
         thread.join().unwrap();
@@ -104,7 +104,7 @@ fn sessions_of_a_lane_come_and_go() {
     second.enter(1).unwrap();
     second.end().unwrap();
     assert_eq!(heap.session().err(), Some(Refusal::NoneLeft));
-    heap.round().unwrap();
+    heap.round(None).unwrap();
     heap.make_calls(&mut device).unwrap();
     assert_eq!((heap.acknowledged(0), heap.acknowledged(1)), (Ok(50), Ok(0)));
     drop((heap, first));

@@ -53,11 +53,11 @@ fn cut_after(calls: usize) -> Option<Vec<u8>> {
         session.store(0, place + 7).unwrap();
         session.exit(0).unwrap();
         if place == 0 {
-            heap.round().unwrap();
+            heap.round(None).unwrap();
             heap.make_calls(&mut device).unwrap();
         }
     }
-    heap.round().unwrap();
+    heap.round(None).unwrap();
     device.left = calls;
     heap.make_calls(&mut device).is_err().then_some(device.bytes)
 }
@@ -102,7 +102,7 @@ fn a_section_that_depends_on_an_open_one_is_dropped_for_that_one() {
     second.enter(0).unwrap();
     second.store(0, 8).unwrap();
     second.exit(0).unwrap();
-    heap.round().unwrap();
+    heap.round(None).unwrap();
     heap.make_calls(&mut device).unwrap();
     let report = opened(&device.bytes);
     let dropped: Vec<_> = report.dropped.iter().map(|it| (it.lane, it.section, it.why)).collect();

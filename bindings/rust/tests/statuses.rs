@@ -148,6 +148,8 @@ fn the_header_has_the_limits_and_numbers_of_the_library() {
         ("MOST_FIELDS", "heap_model/src/limits.rt", "MOST_FIELDS"),
         ("LEAST_CAPACITY", "heap_model/src/limits.rt", "LEAST_CAPACITY"),
         ("MOST_CAPACITY", "heap_model/src/limits.rt", "MOST_CAPACITY"),
+        ("LEAST_RING", "heap_model/src/limits.rt", "RING_RECORDS"),
+        ("MOST_RING", "lane_rings/src/ring_records.rt", "MOST_RING_RECORDS"),
         ("MOST_RECORDS", "heap_model/src/limits.rt", "SECTION_RECORDS"),
         ("MOST_HELD", "session/src/limits.rt", "MOST_HELD"),
         ("MOST_LOCKS", "steps/src/limits.rt", "FAT_LOCKS"),
@@ -173,6 +175,7 @@ fn this_crate_has_the_numbers_of_the_headers() {
         ("MOST_BYTES", "src/raw.rs", "MOST_BYTES"),
         ("NO_SLOT", "src/raw.rs", "NO_SLOT"),
         ("MOST_SLOTS", "src/pool.rs", "MOST_SLOTS"),
+        ("LEAST_RING", "src/raw.rs", "USUAL_RING"),
     ];
     for (name, path, constant) in numbers {
         assert_eq!(header_number(name), number_in(path, constant), "{name}");

@@ -90,7 +90,7 @@ fn acknowledged(heap: &mut Heap) -> Result<u64, Refusal> {
 // Until the workers have ended.
 fn help(heap: &mut Heap, file: &mut File, signs: &Signs) -> Result<(), Failure> {
     while !signs.has_failed() && !signs.ended.load(Ordering::SeqCst) {
-        let applied = match heap.round() {
+        let applied = match heap.round(None) {
             Err(Refusal::CallsLeft) => 0,
             other => other?,
         };

@@ -30,6 +30,7 @@ pub struct Plan<'a> {
     pub objects: u32,
     pub lanes: u32,
     pub capacity: u32,
+    pub ring: u32,
     /// In microseconds.
     pub linger: u32,
     pub upgrades: bool,
@@ -44,6 +45,7 @@ struct RawPlan {
     objects: u32,
     lanes: u32,
     capacity: u32,
+    ring: u32,
     linger: u32,
     upgrades: u32,
     log: Option<extern "C" fn(*mut c_void, u32, *const c_char)>,
@@ -83,7 +85,7 @@ pub struct Stats {
 
 // The library was built for these sizes, and zelamiku_threads.h has them.
 const _: () = assert!(std::mem::size_of::<HeapNumber>() == 8 && std::mem::size_of::<ThreadNumber>() == 8);
-const _: () = assert!(std::mem::size_of::<RawPlan>() == 48 && std::mem::size_of::<Report>() == 344);
+const _: () = assert!(std::mem::size_of::<RawPlan>() == 56 && std::mem::size_of::<Report>() == 344);
 const _: () = assert!(std::mem::size_of::<Stats>() == 80);
 
 // What a section's end asks of its heap, and what the thread that has a lane keeps of it: zelamiku_inline.h has them.
@@ -91,6 +93,7 @@ const _: () = assert!(std::mem::size_of::<Stats>() == 80);
 struct News {
     waiting: [AtomicU32; 64],
     has_work: AtomicU32,
+    enough: u32,
 }
 
 #[repr(C)]
@@ -105,13 +108,13 @@ struct Own {
     records: u32,
 }
 
-const ENOUGH: u32 = 1000;
-
 extern "C" {
     static mut zelamiku_seats: [u8; 0];
     fn zelamiku_thread_exited(thread: ThreadNumber, object: u32) -> u32;
     fn zelamiku_heap_message() -> *const c_char;
     fn zelamiku_heap_error() -> i32;
+    // An older name is of a library whose plans are shorter.
+    #[link_name = "zelamiku_heap_open_rings"]
     fn zelamiku_heap_open(heap: *mut HeapNumber, path: *const c_char, plan: *const RawPlan, report: *mut Report) -> u32;
     fn zelamiku_heap_dropped(heap: HeapNumber, from: usize, dropped: *mut Dropped, count: usize, told: *mut usize) -> u32;
     fn zelamiku_heap_close(heap: HeapNumber) -> u32;
@@ -213,7 +216,7 @@ impl ThreadNumber {
         unsafe {
             (*own).open.store(0, Relaxed);
             (*own).ended.store((*own).ended.load(Relaxed) + 1, SeqCst);
-            if (*(*own).news).has_work.load(SeqCst) == 0 || (*own).records >= ENOUGH {
+            if (*(*own).news).has_work.load(SeqCst) == 0 || (*own).records >= (*(*own).news).enough {
                 return false;
             }
             (*own).is_busy.store(0, Release);
@@ -310,6 +313,7 @@ pub fn open(heap: &mut HeapNumber, path: &CStr, plan: &Plan<'_>, report: &mut Re
         objects: plan.objects,
         lanes: plan.lanes,
         capacity: plan.capacity,
+        ring: plan.ring,
         linger: plan.linger,
         upgrades: plan.upgrades.into(),
         log: plan.log.map(|_| tell as extern "C" fn(*mut c_void, u32, *const c_char)),

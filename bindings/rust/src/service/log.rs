@@ -56,7 +56,7 @@ pub enum Cause {
     Awaited,
     /// A session has no room for a section's records.
     Room,
-    /// A lane has sent a part of its ring.
+    /// A lane has sent three quarters of what its ring or its log takes.
     Full,
     /// A section has lain as long as [`Options::linger`](super::Options::linger) says.
     Linger,
@@ -64,6 +64,8 @@ pub enum Cause {
     Again,
     /// The heap is being closed.
     Closing,
+    /// The last round has left records, for its bound.
+    Left,
 }
 
 /// Counts since the heap was opened. Each is exact; together they are of moments close to each other.
@@ -118,6 +120,7 @@ impl From<threads::Stats> for Stats {
                 4 => Cause::Full,
                 5 => Cause::Linger,
                 6 => Cause::Again,
+                8 => Cause::Left,
                 _ => Cause::Closing,
             },
         }

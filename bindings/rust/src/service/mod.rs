@@ -24,7 +24,8 @@
 //!
 //! The helper, a thread of the library, makes rounds while there is work, and makes their calls on the file; without work it sleeps, and no
 //! thread that waits spins but for a moment. A round comes when a thread waits for one ([`Session::durable`], or a lane without room), when
-//! a lane has sent a part of what its ring holds, and else so long after a section's end as [`Options::linger`] says.
+//! a lane has sent three quarters of what its ring or its log takes, and else so long after a section's end as [`Options::linger`] says. Where
+//! one thread waits beside others that don't, a round takes only as much as its calls' time pays for.
 //!
 //! [`ErrorKind`] says of each failure whether the heap goes on.
 use crate::raw::threads::{self, HeapNumber};
@@ -55,7 +56,8 @@ use opening::Opening;
 /// # let _ = std::fs::remove_file(&path);
 /// let heap = Heap::options()
 ///     .lanes(4)
-///     .capacity(8_000)
+///     .capacity(65_536)
+///     .ring(65_536)
 ///     .objects(2)
 ///     .field(0, 0, 100) // field 0, of object 0 and guarded by it
 ///     .field(1, 1, 0)
@@ -72,7 +74,9 @@ pub struct Options {
     objects: u32,
     fields: Vec<Field>,
     lanes: u32,
-    capacity: u32,
+    // Where it isn't said, as the ring's.
+    capacity: Option<u32>,
+    ring: u32,
     // The numbers that `field` was told, with their places.
     misplaced: Option<(u32, usize)>,
     // Of a pool that can't be.
@@ -84,7 +88,8 @@ pub struct Options {
 
 impl Options {
     /// How many sessions may be in use at once, 1 to 32; 8 where it isn't said. Each takes 16 bytes a record of the file, and about
-    /// 40 of memory ([`capacity`](Options::capacity)). A heap that is there keeps its own lanes, and is refused where it has fewer.
+    /// 40 of memory ([`capacity`](Options::capacity)), and its [`ring`](Options::ring). A heap that is there keeps its own lanes, and is
+    /// refused where it has fewer.
     ///
     /// ```
     /// let options = zelamiku::service::Heap::options().lanes(32);
@@ -94,15 +99,28 @@ impl Options {
         self
     }
 
-    /// How many records a lane's log holds, 2,000 to 1,048,576; 4,096 where it isn't said. More is of use where threads wait for
-    /// none of their sections, since a round then takes more at once, and while a section that others depend on stays open for
-    /// long. A heap that is there keeps its own.
+    /// How many records a lane's log holds, 2,000 to 1,048,576; as many as its [`ring`](Options::ring) where it isn't said. More is of use
+    /// where threads wait for none of their sections, since a round then takes more at once, and while a section that others depend on stays
+    /// open for long. A heap that is there keeps its own.
     ///
     /// ```
     /// let options = zelamiku::service::Heap::options().capacity(65_536);
     /// ```
     pub fn capacity(mut self, records: u32) -> Options {
-        self.capacity = records;
+        self.capacity = Some(records);
+        self
+    }
+
+    /// How many records a lane's ring holds, 4,096 to 65,536; 16,384 where it isn't said. Each takes 24 bytes of memory. A session goes on
+    /// until its ring or its log is full, while a round's calls are made: so a larger one is of use where syncs are slow and few threads
+    /// wait for their sections. Each opening chooses it anew; one larger than the log is made as large as that. [`ErrorKind::Opening`] by
+    /// [`Refusal::Ring`](crate::Refusal::Ring) where it is out of these limits.
+    ///
+    /// ```
+    /// let options = zelamiku::service::Heap::options().ring(65_536);
+    /// ```
+    pub fn ring(mut self, records: u32) -> Options {
+        self.ring = records;
         self
     }
 
@@ -256,8 +274,9 @@ impl Options {
             return Err(Error::told(ErrorKind::Opening, &path, text));
         }
         // To the library 0 is as good as nothing said.
-        let is_none = self.lanes == 0 || self.capacity == 0;
-        if let Some(refusal) = self.refused.or(is_none.then_some(Refusal::BadHeader)) {
+        let is_none = self.lanes == 0 || self.capacity == Some(0);
+        let no_ring = (self.ring == 0).then_some(Refusal::Ring);
+        if let Some(refusal) = self.refused.or(no_ring).or(is_none.then_some(Refusal::BadHeader)) {
             return Err(Error::refused(ErrorKind::Opening, &path, refusal));
         }
         Heap::open(path, self)
@@ -285,7 +304,7 @@ impl fmt::Debug for Heap {
 }
 
 impl Heap {
-    /// A heap's options: 8 lanes of 4,096 records, no object and no field yet.
+    /// A heap's options: 8 lanes of 16,384 records, no object and no field yet.
     ///
     /// ```
     /// use zelamiku::service::Heap;
@@ -301,7 +320,8 @@ impl Heap {
             objects: 0,
             fields: Vec::new(),
             lanes: 8,
-            capacity: 4_096,
+            capacity: None,
+            ring: 16_384,
             misplaced: None,
             refused: None,
             linger: Duration::from_millis(5),
@@ -324,8 +344,9 @@ impl Heap {
             fields: &fields,
             objects: options.objects,
             lanes: options.lanes,
-            capacity: options.capacity,
             // To the library 0 is as good as nothing said.
+            capacity: options.capacity.unwrap_or(0),
+            ring: options.ring,
             linger: u32::try_from(options.linger.as_micros()).unwrap_or(u32::MAX).max(1),
             upgrades: options.upgrades,
             log: opening.hook.as_deref().map(Hook::log),
