@@ -47,7 +47,7 @@ enum {
     PART = 8,             /* of the time that a round's calls take: so long those without room look while the next takes records */
     GATHER = 16,          /* of that time: so long a round waits at most for those that the last one has told */
     MOST_PART = 20000000, /* nanoseconds, of such a part, also after calls that hung */
-    FEWEST = 4096,        /* records of each lane that a bounded round has room for */
+    FEWEST = 4096,        /* records for each lane, which a round may take at least */
     NAP = 20000,          /* nanoseconds between two looks, for each thread that waits for a round, where many do */
     SECOND = 1000000000
 };
@@ -380,8 +380,8 @@ COLD void hand_on(seat *own, uint32_t object) {
     if (own->locks == 0 || locks_of(own, object) == 0) wake_first(own->of, object);
 }
 
-/* Whether the lane has sent enough for a round that isn't durable by now. Of the records that it has counted, as large a part is durable as of
- * the sections: about, since sections differ. */
+/* Whether what the lane has sent and isn't durable is enough for a round. It counts records, and is told of sections: as large a part of the
+ * records is taken to be durable as of the sections, which is about right. */
 static bool has_enough(const heap *of, seat *own) {
     uint64_t ended = own->ended, durable = own->acknowledged;
     if (durable > own->counted) {
@@ -490,10 +490,10 @@ static void let_come(heap *of, uint64_t end) {
         while (seat_at(of, lane)->is_behind && zelamiku_now() < end) nap(NAP);
 }
 
-/* How many records a round takes at most, where so many lanes have sections for it, and so many threads wait for theirs. As many as the last
- * round would have taken while its calls were made: so one that waits isn't kept for long by what others do, and no more time goes into calls
- * than into the rest. But no fewer than FEWEST of each lane. Where nobody waits, or somebody for each lane, nobody is kept for another's sake:
- * as many as the rings hold then. */
+/* How many records a round takes at most, where so many lanes have sections for it, and so many threads wait for theirs. The rule: as many as
+ * the last round would have taken in the time of its calls. So one that waits isn't kept for long by what other lanes send, and no more time goes
+ * into calls than into the rest. At least FEWEST for each lane: so a thousand sections of four records are one round. Where nobody waits, or as
+ * many as there are lanes, nobody is kept by others: a ring's fill for each lane then. */
 static uint64_t bound(const heap *of, uint32_t lanes, uint32_t waiting) {
     uint64_t least = waiting == 0 || waiting >= lanes ? of->room : FEWEST;
     least *= lanes > 0 ? lanes : 1;
@@ -847,8 +847,8 @@ static void clear_place(heap *of, const zelamiku_plan *plan) {
     (void)pthread_mutex_init(&of->mutex, NULL);
 }
 
-/* How much comes into a lane, whose ring and whose log take so many records, and when that is enough for a round: at three quarters of what
- * sections fill before the next one has no room. */
+/* Sets how many records a lane takes, by its ring and its log, and after how many a section's end asks for a round: three quarters of what is
+ * filled when the next section finds no room. */
 static void set_room(heap *of, uint32_t ring, uint32_t capacity) {
     if (capacity < ring) ring = capacity;
     of->room = ring > ZELAMIKU_LEAST_CAPACITY ? ring : ZELAMIKU_LEAST_CAPACITY;

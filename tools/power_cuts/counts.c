@@ -110,7 +110,7 @@ static void open_device(const char *path, uint32_t sector, bool is_look) {
         exit(NO_HEAP);
     }
     if (status == ZELAMIKU_NOT_FORMATTED)
-        status = zelamiku_format_sectors(&handle, &host, OBJECTS, fields, FIELDS, WORKERS + 1, ZELAMIKU_DEFAULT_CAPACITY);
+        status = zelamiku_format_sectors(&handle, &host, OBJECTS, fields, FIELDS, WORKERS + 1, 4096);
     must(status);
     uint64_t made;
     must(zelamiku_make_calls_sectors(&handle, &host, &made));

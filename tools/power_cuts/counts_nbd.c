@@ -35,7 +35,7 @@ static void open_heap(bool is_look) {
         exit(NO_HEAP);
     }
     if (status == ZELAMIKU_NOT_FORMATTED)
-        status = zelamiku_format_nbd(&handle, &host, OBJECTS, fields, FIELDS, WORKERS + 1, ZELAMIKU_DEFAULT_CAPACITY);
+        status = zelamiku_format_nbd(&handle, &host, OBJECTS, fields, FIELDS, WORKERS + 1, 4096);
     must(status);
     must(zelamiku_make_calls_nbd(&handle, &host, &made));
     must(zelamiku_heap_start(&heap, "the export", &handle, zelamiku_make_calls_of_nbd, &host, NULL));

@@ -937,7 +937,7 @@ int main(int argc, char **argv) {
     turns(0);
     for (int i = 0; i < 5; i++) turns(20);
     rest_for(argc > 2 ? (unsigned)strtoul(argv[2], NULL, 10) : 200);
-    printf("threads: lives of %d threads, room, rings, bounds, refusals, deadlines, writes and syncs that fail, stops, copies, sessions before, turns, and rest\n",
+    printf("threads: lives of %d threads, room, rings, bounds, refusals, deadlines, failing writes and syncs, stops, copies, sessions before, turns, rest\n",
            LANES);
     return 0;
 }
