@@ -61,6 +61,8 @@ pub fn open<D: Disk>(
     ensures refused { IfErr result (λ back. back.0 ≡ recovered.disk) }
 {
     let layout = recovered.layout();
+    // Its limits are known from here on.
+    let _records = ring.get();
     let opened = match open_heap(alloc, schema, recovered, last) {
         Ok(opened) => opened,
         Err((recovered, error)) => return Err((recovered.into_disk(), error)),
