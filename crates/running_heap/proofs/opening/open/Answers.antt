@@ -22,7 +22,7 @@ pub new-helper-requires-clause-rooms : goal.new-helper-requires-clause-rooms
 new-helper-requires-clause-rooms g c =
     let made = c.in-Ok-open_sessions.made in
     let most = room_most (rooms c.args.ring c.layout-layout.result.capacity) c.in-Ok.opened.shared.plan c.in-Ok.opened.seats.items made.0.items made.1.items c.in-Ok-open_sessions.ensures.opened in
-    omega (arith, most, c.get.ensures.number, c.get.ensures.within.1)
+    omega (arith, most, c.get-records.ensures.number, c.get-records.ensures.within.1)
 
 pub new-helper-requires-clause-untaken : goal.new-helper-requires-clause-untaken
 new-helper-requires-clause-untaken g c =
