@@ -45,7 +45,7 @@ enum {
     TRIES = 40,           /* before a thread sleeps for a monitor */
     DEMANDS = 3,          /* rounds that one without room asks for; a later one follows the end of another section */
     PART = 8,             /* of the time that a round's calls take: so long those without room look while the next takes records */
-    GATHER = 16,          /* of that time: so long a round waits at most for those that the last one has told */
+    GATHER = 8,           /* of that time: so long a round waits at most for those that the last one has told */
     MOST_PART = 20000000, /* nanoseconds, of such a part, also after calls that hung */
     FEWEST = 4096,        /* records for each lane, which a round may take at least */
     NAP = 20000,          /* nanoseconds between two looks, for each thread that waits for a round, where many do */
