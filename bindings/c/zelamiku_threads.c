@@ -5,8 +5,8 @@
  *  - one that wants a monitor, was notified, or has no room sleeps on the bell of its seat: a wake wakes one thread;
  *  - all that wait for a round sleep on `told` of the heap, a word that changes after each round;
  *  - the helper sleeps on `bell` of the heap, until its next look is due.
- * One thread at a time makes a round: mostly the helper, or a thread that waits alone for one. It leads (`is_led`), and after it has ended
- * it looks whether the helper has something to do.
+ * One thread at a time makes a round: the first that waits for one, for all that come, or the helper. It leads (`is_led`), and after it has
+ * ended it looks whether the helper has something to do.
  *
  * Members that are _Atomic are read and written in one order that all threads see, as the library's steps on a monitor are. Other members
  * say whose they are: "mutex" of who has the heap's mutex, "leads" of who leads, "own" of the thread that has the lane. */
@@ -48,6 +48,7 @@ enum {
     GATHER = 8,           /* of that time: so long a round waits at most for those that the last one has told */
     MOST_PART = 20000000, /* nanoseconds, of such a part, also after calls that hung */
     FEWEST = 4096,        /* records for each lane, which a round may take at least */
+    LOOKS = 250000,       /* nanoseconds: where a round takes less, one that waits for it looks for its end so long before it sleeps */
     NAP = 20000,          /* nanoseconds between two looks, for each thread that waits for a round, where many do */
     SECOND = 1000000000
 };
@@ -105,6 +106,8 @@ struct heap {
     uint32_t guests;         /* mutex: how many wait to lead for something else than a round */
     bool is_led, is_ending, is_troubled, is_taken; /* mutex: a thread leads; the helper is to end; a write has failed; a thread ends the heap */
     uint32_t left;           /* mutex: how many threads are to free their sessions */
+    uint32_t sleepers;       /* mutex: how many of those that wait are told by the next round's end */
+    bool is_own;             /* mutex: who leads waits for that round itself */
     uint64_t turns;          /* mutex: how many were given */
     zelamiku_stats stats;    /* mutex */
     _Alignas(64) _Atomic uint32_t waiting[BUCKETS]; /* how many wait for monitors, by the object modulo the buckets */
@@ -113,11 +116,12 @@ struct heap {
     _Alignas(64) _Atomic uint32_t over;     /* the status that all calls answer; 0 while the heap goes on */
     _Atomic uint32_t is_settled;            /* nothing more will be acknowledged */
     _Atomic uint32_t told, bell, watches;   /* see above; the helper's next look is due */
-    _Atomic uint32_t awaiting;              /* how many threads wait for a round */
+    _Atomic uint32_t awaiting;              /* how many threads wait for a round; whom it was told has yet to look, and doesn't count */
     _Atomic uint32_t arrivals, expected;    /* how many came for their sections since the last round began; were told by it */
     _Atomic uint32_t leaves;                /* the last round has taken as much as it might: the next one comes at once */
     _Atomic uint64_t steps;                 /* odd while who leads takes records from the lanes' rings, each of which gives room */
     _Atomic uint64_t haste;                 /* until when those without room look again, by zelamiku_now */
+    _Atomic uint64_t looks;                 /* how many nanoseconds one that waits for a round looks for its end before it sleeps */
     _Atomic uint64_t rounds, troubles;      /* that have ended; of which a write has failed */
     _Atomic int error;                      /* errno of the last of these, or of what the heap has ended with */
 };
@@ -321,11 +325,15 @@ static void tell_all(heap *of) {
     wake(&of->told, INT_MAX);
 }
 
-/* Asks for a round, now. Where one was asked for that hasn't begun, it will be that one. */
+/* Under the mutex: asks for a round, now. Where one was asked for that hasn't begun, it will be that one. Who leads looks at its end. */
+static void ask(heap *of, uint32_t cause) {
+    if (of->urgent == 0 && !of->is_led) ring_helper(of);
+    of->urgent = cause;
+}
+
 static void demand(heap *of, uint32_t cause) {
     pthread_mutex_lock(&of->mutex);
-    if (of->urgent == 0) ring_helper(of);
-    of->urgent = cause;
+    ask(of, cause);
     pthread_mutex_unlock(&of->mutex);
 }
 
@@ -570,8 +578,9 @@ static void end(heap *of, zelamiku_status status) {
 
 /* Under the mutex: who leads does no more. */
 static void lead_no_more(heap *of, bool is_helper) {
-    of->is_led = false;
-    if (!is_helper && (of->urgent != 0 || of->leaves || of->has_work || of->is_troubled || of->is_ending || of->guests > 0)) ring_helper(of);
+    of->is_led = of->is_own = false;
+    bool has_news = of->has_work && (of->awaiting > 0 || !of->watches);
+    if (!is_helper && (of->urgent != 0 || of->leaves || has_news || of->is_troubled || of->is_ending)) ring_helper(of);
 }
 
 static void add_up(zelamiku_stats *all, const zelamiku_stats *round) {
@@ -600,6 +609,8 @@ static void finish(heap *of, zelamiku_status status, int error, const zelamiku_s
         of->is_settled = 1;
     }
     of->rounds++;
+    of->awaiting -= of->sleepers;
+    of->sleepers = 0;
     lead_no_more(of, is_helper);
     pthread_mutex_unlock(&of->mutex);
     tell_all(of);
@@ -628,17 +639,39 @@ static zelamiku_status lead(heap *of, uint32_t cause, bool is_helper) {
     int error = errno;
     of->expected = come + of->arrivals;
     round.longest_round = zelamiku_now() - begun;
+    of->looks = round.longest_round < LOOKS ? LOOKS : 0;
     finish(of, status, error, &round, is_helper);
     return status;
 }
 
-/* One that waits alone for a round makes it, and needn't wake the helper, nor be woken by it. Whether it leads now. */
-static bool leads_alone(heap *of) {
+/* The first that waits for a round makes it, for all that come: it needn't wake the helper, nor be woken by it. Whether it leads now; else it
+ * waits from now on until a round has ended, if it doesn't yet since the round `counted`. One with a deadline leaves the round to the helper,
+ * and so does each after a failed write. */
+static bool leads_or_counts(heap *of, bool has_deadline, uint64_t *counted) {
     pthread_mutex_lock(&of->mutex);
-    bool leads = !of->is_led && of->urgent == 0 && of->guests == 0 && !of->is_troubled && of->over == 0 && of->awaiting == 1 && of->expected <= 1;
-    if (leads) of->is_led = true;
+    bool has_news = of->has_work || of->leaves, is_free = !of->is_led && of->guests == 0 && of->over == 0;
+    bool leads = is_free && has_news && !has_deadline && !of->is_troubled;
+    if (leads) {
+        of->is_led = of->is_own = true;
+    } else if (*counted != of->rounds) {
+        *counted = of->rounds;
+        of->awaiting++;
+        of->sleepers++;
+        if (of->is_troubled || (has_deadline && has_news)) ask(of, ZELAMIKU_ROUND_AWAITED);
+    }
     pthread_mutex_unlock(&of->mutex);
     return leads;
+}
+
+/* The thread waits no more; whom no round has told since it was counted is counted still. */
+static void count_no_more(heap *of, uint64_t counted) {
+    if (of->rounds != counted) return;
+    pthread_mutex_lock(&of->mutex);
+    if (of->rounds == counted) {
+        of->awaiting--;
+        of->sleepers--;
+    }
+    pthread_mutex_unlock(&of->mutex);
 }
 
 /* Under the mutex, which it gives back while it sleeps: leads, for something else than a round. */
@@ -837,9 +870,9 @@ static void clear_place(heap *of, const zelamiku_plan *plan) {
     of->linger = (uint64_t)(plan->linger != 0 ? plan->linger : ZELAMIKU_DEFAULT_LINGER) * 1000;
     of->log = plan->log;
     of->log_of = plan->log_of;
-    of->last_calls = of->paid = of->syncs_made = of->turns = 0;
-    of->urgent = of->guests = of->left = 0;
-    of->is_led = of->is_ending = of->is_troubled = of->is_taken = false;
+    of->last_calls = of->paid = of->syncs_made = of->turns = of->looks = 0;
+    of->urgent = of->guests = of->left = of->sleepers = 0;
+    of->is_led = of->is_own = of->is_ending = of->is_troubled = of->is_taken = false;
     memset(&of->stats, 0, sizeof of->stats);
     for (unsigned i = 0; i < BUCKETS; i++) of->waiting[i] = 0;
     of->has_work = of->is_settled = of->awaiting = of->arrivals = of->expected = of->leaves = of->watches = 0;
@@ -1530,7 +1563,7 @@ zelamiku_status zelamiku_heap_stats(zelamiku_heap heap_, zelamiku_stats *stats) 
     pthread_mutex_lock(&of->mutex);
     *stats = of->stats;
     stats->troubles = of->troubles;
-    stats->awaiting = of->awaiting;
+    stats->awaiting = of->awaiting + of->is_own;
     for (uint32_t lane = 0; lane < of->lanes; lane++) {
         seat *other = seat_at(of, lane);
         stats->sections += other->acknowledged;
@@ -1937,16 +1970,20 @@ uint64_t zelamiku_thread_durable(zelamiku_thread thread) {
     return own != NULL && acknowledged > own->before ? acknowledged - own->before : 0;
 }
 
+/* Sleeps until a round has ended since that word was seen. Where rounds are short, and fewer wait than there are processors, it looks again and
+ * again for a while before: to be woken takes as long as a sync of a quick disk. */
+static bool sleep_for_round(heap *of, uint32_t seen, uint64_t deadline) {
+    uint64_t looks = of->looks, end = looks > 0 ? zelamiku_now() + looks : 0;
+    if (end > deadline) end = deadline;
+    while (of->told == seen && of->awaiting < of->processors && zelamiku_now() < end) (void)sched_yield();
+    return of->told != seen || sleep_on(&of->told, seen, deadline);
+}
+
 /* Sleeps until so many sections of the lane are durable. */
 static zelamiku_status await_sections(heap *of, seat *own, uint64_t sections, uint64_t deadline, bool *is_all) {
     zelamiku_status status = ZELAMIKU_OK;
-    uint64_t troubles = of->troubles;
-    of->awaiting++;
+    uint64_t troubles = of->troubles, counted = UINT64_MAX;
     of->arrivals++;
-    if (deadline == ZELAMIKU_NO_DEADLINE && leads_alone(of))
-        (void)lead(of, ZELAMIKU_ROUND_AWAITED, false);
-    else
-        demand(of, ZELAMIKU_ROUND_AWAITED);
     for (bool is_early = true;;) {
         uint32_t seen = of->told;
         /* Before the sections are looked at, since what a last round acknowledges comes before it says so. */
@@ -1955,9 +1992,12 @@ static zelamiku_status await_sections(heap *of, seat *own, uint64_t sections, ui
         if (*is_all) status = ZELAMIKU_OK;
         if (!*is_all && status == ZELAMIKU_OK) status = trouble_since(of, troubles);
         if (*is_all || status != ZELAMIKU_OK || !is_early) break;
-        is_early = sleep_on(&of->told, seen, deadline);
+        if (leads_or_counts(of, deadline != ZELAMIKU_NO_DEADLINE, &counted))
+            (void)lead(of, ZELAMIKU_ROUND_AWAITED, false);
+        else
+            is_early = sleep_for_round(of, seen, deadline);
     }
-    of->awaiting--;
+    count_no_more(of, counted);
     return status;
 }
 

@@ -36,6 +36,7 @@ byte taken[T];
 bit mutex;
 byte wanted[T]; /* the monitor, plus one */
 bit urgent, is_led, is_ending, is_left[T];
+bit is_counted[T]; /* by awaiting, since the last round's end */
 /* Without it. */
 byte waiting[M], ended[T], acknowledged[T], awaiting, locks[T];
 bit bell[T], is_behind[T], is_busy[T], is_lent[T]; /* the last: the seat has the handle's number */
@@ -51,7 +52,9 @@ bit helper_ended, is_done[T], end_is_done, is_said;
 inline tell_all() { d_step { told[0] = 1; told[1] = 1; told[2] = 1; told[3] = 1 } }
 inline step_to(is) { d_step { is_taking = is; stepped[0] = 1; stepped[1] = 1; stepped[2] = 1 } }
 
-inline demand() { atomic { !mutex -> if :: !urgent -> is_rung = 1 :: else fi; urgent = 1 } }
+inline ask() { if :: !urgent && !is_led -> is_rung = 1 :: else fi; urgent = 1 }
+inline demand() { atomic { !mutex -> ask() } }
+inline count_anew() { awaiting = awaiting - is_counted[0] - is_counted[1] - is_counted[2]; is_counted[0] = 0; is_counted[1] = 0; is_counted[2] = 0 }
 
 inline wake_first(m) {
     atomic {
@@ -123,13 +126,13 @@ inline make_round(is_helper, has_bound) {
         taken[0] = 0; taken[1] = 0; taken[2] = 0
     };
 #if MISTAKE == 6 /* the helper isn't rung where another has led */
-    atomic { !mutex -> is_led = 0 };
+    atomic { !mutex -> count_anew(); is_led = 0 };
 #else
+    atomic { LOCK; count_anew(); is_led = 0; rings = !is_helper && (urgent || is_ending) };
 #if MISTAKE != 11 /* nor is it rung where that one has left something */
-    atomic { LOCK; is_led = 0; rings = !is_helper && (urgent || leaves || has_work || is_ending) };
-#else
-    atomic { LOCK; is_led = 0; rings = !is_helper && (urgent || has_work || is_ending) };
+    atomic { if :: leaves -> rings = !is_helper :: else fi };
 #endif
+    atomic { if :: has_work && (awaiting > 0 || !watches) -> rings = !is_helper :: else fi };
     atomic { if :: rings -> is_rung = 1 :: else fi; rings = 0; UNLOCK };
 #endif
 #if MISTAKE == 3 /* one that leads itself tells nobody */
@@ -356,16 +359,31 @@ inline notify_all(i, m) {
     atomic { is_new = 0; notified = 0 }
 }
 
-inline await(i) {
+/* One that has a deadline leaves the round to the helper. */
+inline lead_or_count(i, has_deadline) {
+    atomic {
+        !mutex ->
+#if MISTAKE != 13 /* whom a round has told, but not of its section, leaves the next one to others */
+        rings = !is_led && !over && !has_deadline && (has_work || leaves);
+#else
+        rings = !is_led && !over && !has_deadline && (has_work || leaves) && !is_late;
+        is_late = 1;
+#endif
+        if
+        :: rings -> is_led = 1
+        :: !rings && !is_counted[i] ->
+            is_counted[i] = 1;
+            awaiting++;
+            if :: has_deadline && (has_work || leaves) -> ask() :: else fi
+        :: else
+        fi
+    };
+    if :: rings -> rings = 0; make_round(0, 1) :: else -> told[i] fi
+}
+
+inline await(i, has_deadline) {
     if
     :: acknowledged[i] < ended[i] ->
-        atomic {
-            !mutex ->
-            awaiting++;
-            rings = !is_led && !urgent && !over && awaiting == 1;
-            if :: rings -> is_led = 1 :: else fi
-        };
-        if :: rings -> rings = 0; make_round(0, 1) :: else -> demand() fi;
         do
 #if MISTAKE == 1 /* it takes the word as it is after it has looked */
         ::  if :: atomic { is_settled -> break } :: else fi;
@@ -376,9 +394,9 @@ inline await(i) {
             if :: atomic { is_settled -> break } :: else fi;
             if :: atomic { acknowledged[i] >= ended[i] -> break } :: else fi;
 #endif
-            told[i]
+            lead_or_count(i, has_deadline)
         od;
-        atomic { awaiting--; told[i] = 1 }
+        atomic { !mutex -> if :: is_counted[i] -> awaiting--; is_counted[i] = 0 :: else fi; told[i] = 1 }
     :: else
     fi
 }
@@ -388,6 +406,9 @@ inline await(i) {
 proctype Thread(byte i) {
     byte before, answer, notified, who, own = i % 2;
     bit is_new, was_taking, rings;
+#if MISTAKE == 13
+    bit is_late;
+#endif
 #if SCRIPT == 0 /* all want one monitor */
     SECTION(0)
 #elif SCRIPT == 1 /* two monitors, one inside of the other; a ring that is full */
@@ -409,12 +430,12 @@ proctype Thread(byte i) {
     fi
 #elif SCRIPT == 4 /* each of two waits for its section, which may depend on what the other one has open */
     if
-    :: i < 2 -> SECTION(own); await(i)
+    :: i < 2 -> SECTION(own); await(i, 0)
     :: else -> skip
     fi
 #elif SCRIPT == 5 /* one waits for its section, and two others end theirs meanwhile */
     SECTION(own);
-    if :: i == 0 -> await(i) :: else fi
+    if :: i == 0 -> await(i, 0) :: else fi
 #elif SCRIPT == 7 /* all want one monitor, and one of them gives up */
     SECTION(0)
 #elif SCRIPT == 8 /* one waits in the set, and one notifies it */
@@ -426,7 +447,7 @@ proctype Thread(byte i) {
 #elif SCRIPT == 9 /* a ring that is full, beside one that waits for its section */
     if
     :: i == 0 -> SECTION(0); SECTION(0)
-    :: i == 1 -> SECTION(1); await(i)
+    :: i == 1 -> SECTION(1); await(i, 0)
     :: i == 2 -> skip
     fi
 #elif SCRIPT == 10 /* a ring that is full, and nobody else */
@@ -439,9 +460,14 @@ proctype Thread(byte i) {
     :: i == 0 -> enter(i, 0); wait(i, 0); exit(i, 0)
     :: else -> skip
     fi
+#elif SCRIPT == 12 /* of two that wait for their sections one leaves the round to the helper */
+    if
+    :: i < 2 -> SECTION(own); await(i, i == 1)
+    :: else -> skip
+    fi
 #else /* one waits for one section after the other, beside one that doesn't wait */
     if
-    :: i == 0 -> SECTION(0); await(i); SECTION(0); await(i)
+    :: i == 0 -> SECTION(0); await(i, 0); SECTION(0); await(i, 0)
     :: i == 1 -> SECTION(1)
     :: i == 2 -> skip
     fi
