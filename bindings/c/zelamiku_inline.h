@@ -34,11 +34,16 @@ typedef struct {
     zelamiku_handle session;
     zelamiku_news *news;
     uint32_t records;
+    uint32_t has_stored;  /* 1: the section that is open has */
+    uint64_t last_stored; /* the last section that has and has ended, by how many had ended with it */
+    uint32_t is_plain;    /* 1: nothing is kept of what a section changes. Else the library's own functions store, and take further monitors */
 } ZELAMIKU_SHARED zelamiku_own;
 
-/* Every number, also one that is no handle, names a place here. */
-extern char zelamiku_seats[];
-#define ZELAMIKU_OWN_OF(thread) ((zelamiku_own *)(void *)(zelamiku_seats + 128 + ((thread).number & 2096896)))
+/* The table of all lanes. Every number, also one that is no handle, names a place in it. The number in its name is that of the layout of the
+ * two structures above: raise it with each change of them, so that a program of another layout doesn't link. */
+#define ZELAMIKU_SEATS zelamiku_seats_3
+extern char ZELAMIKU_SEATS[];
+#define ZELAMIKU_OWN_OF(thread) ((zelamiku_own *)(void *)(ZELAMIKU_SEATS + 128 + ((thread).number & 2096896)))
 
 /* What is left of an exit that the proved library has made, where there is somebody to be told. */
 ZELAMIKU_MUST_USE zelamiku_status zelamiku_thread_exited(zelamiku_thread thread, uint32_t object);
@@ -76,10 +81,18 @@ ZELAMIKU_INLINE __attribute__((__always_inline__)) bool zelamiku_begins(zelamiku
     return ZELAMIKU_OFTEN(__atomic_load_n(&own->number, __ATOMIC_SEQ_CST) == thread.number);
 }
 
+/* Before a section's end is counted: whoever sees its count sees whether it has stored. */
+ZELAMIKU_INLINE __attribute__((__always_inline__)) void zelamiku_notes_stores(zelamiku_own *own) {
+    if (own->has_stored == 0) return;
+    __atomic_store_n(&own->last_stored, own->ended + 1, __ATOMIC_RELAXED);
+    own->has_stored = 0;
+}
+
 /* Whether a section has ended of whose end nobody has to be told. What is looked at after `ended` is written stands with it in the one order of
  * all: whoever begins a round reads `ended` after it has set `has_work` to 0. */
 ZELAMIKU_INLINE __attribute__((__always_inline__)) bool zelamiku_ends(zelamiku_own *own, zelamiku_thread thread) {
     __atomic_store_n(&own->open, 0, __ATOMIC_RELAXED);
+    zelamiku_notes_stores(own);
     __atomic_store_n(&own->ended, own->ended + 1, __ATOMIC_SEQ_CST);
     if (!ZELAMIKU_OFTEN(__atomic_load_n(&own->news->has_work, __ATOMIC_SEQ_CST) != 0)) return false;
     if (!ZELAMIKU_OFTEN(own->records < own->news->enough)) return false;
@@ -89,7 +102,9 @@ ZELAMIKU_INLINE __attribute__((__always_inline__)) bool zelamiku_ends(zelamiku_o
 
 ZELAMIKU_INLINE zelamiku_status zelamiku_thread_enter(zelamiku_thread thread, uint32_t object) {
     zelamiku_own *own = ZELAMIKU_OWN_OF(thread);
-    if (__atomic_load_n(&own->open, __ATOMIC_RELAXED) != thread.number && !zelamiku_begins(own, thread))
+    if (__atomic_load_n(&own->open, __ATOMIC_RELAXED) == thread.number) {
+        if (!ZELAMIKU_OFTEN(own->is_plain == 1)) return zelamiku_whole_enter(thread, object);
+    } else if (!zelamiku_begins(own, thread))
         return zelamiku_whole_enter(thread, object);
     if (!ZELAMIKU_OFTEN(zelamiku_try_enter(&own->session, object) == ZELAMIKU_OK)) return zelamiku_whole_enter(thread, object);
     own->locks++;
@@ -116,9 +131,11 @@ ZELAMIKU_INLINE zelamiku_status zelamiku_thread_load(zelamiku_thread thread, uin
 
 ZELAMIKU_INLINE zelamiku_status zelamiku_thread_store(zelamiku_thread thread, uint32_t field, uint64_t value) {
     zelamiku_own *own = ZELAMIKU_OWN_OF(thread);
-    if (!zelamiku_is_open(own, thread) || !ZELAMIKU_OFTEN(zelamiku_store(&own->session, field, value) == ZELAMIKU_OK))
+    if (!zelamiku_is_open(own, thread) || !ZELAMIKU_OFTEN(own->is_plain == 1) ||
+        !ZELAMIKU_OFTEN(zelamiku_store(&own->session, field, value) == ZELAMIKU_OK))
         return zelamiku_whole_store(thread, field, value);
     own->records++;
+    own->has_stored = 1;
     return ZELAMIKU_OK;
 }
 

@@ -7,9 +7,9 @@
  * first thread waits after each section and the others never do; it prints how long the first one waits: the half of the times are shorter,
  * nine tenths, and all. Its sections depend on the others', since all take one monitor; with `apart` each thread has both of its own.
  *
- *     threads_cost FILE handles | threads GROUPS SECTIONS
+ *     threads_cost FILE handles | threads | reverts GROUPS SECTIONS
  * lets one thread work, in so many groups of so many sections, that are made durable one after the other: by the bare handles the same
- * thread makes the round and its calls. Under valgrind --tool=callgrind --toggle-collect='by_handles*', or 'by_threads*', it counts the
+ * thread makes the round and its calls; with `reverts` the heap keeps what each section changes (zelamiku_thread_revert). Under valgrind --tool=callgrind --toggle-collect='by_handles*', or 'by_threads*', it counts the
  * instructions of the sections alone. */
 #define _GNU_SOURCE
 #include <fcntl.h>
@@ -28,7 +28,7 @@ enum { MOST = 32, SHARED = 0, OBJECTS = 2 * MOST + 1, MOST_WAITS = 1 << 20 };
 static zelamiku_heap heap;
 static atomic_bool stopping;
 static uint64_t group = 1; /* sections, after which a thread waits; 0: none does */
-static bool is_one, is_apart;
+static bool is_one, is_apart, reverts;
 static double waited[MOST_WAITS]; /* microseconds, of the one that waits */
 static unsigned waits;
 
@@ -122,7 +122,8 @@ static int make_file(zelamiku_handle *handle, const char *path) {
 
 /* A heap of so many lanes in a file that is replaced. */
 static void make(const char *path, uint32_t lanes, uint32_t linger) {
-    zelamiku_plan plan = {.fields = fields, .count = OBJECTS, .objects = OBJECTS, .lanes = lanes, .linger = linger};
+    zelamiku_plan plan = {.fields = fields, .count = OBJECTS, .objects = OBJECTS, .lanes = lanes, .linger = linger,
+                          .reverts = reverts};
     (void)unlink(path);
     must(zelamiku_heap_open(&heap, path, &plan, NULL), path);
 }
@@ -200,14 +201,15 @@ static int rate(const char *path, int threads, int seconds) {
 int main(int count, char **words) {
     if (count < 2) {
         fprintf(stderr, "threads_cost FILE [THREADS [SECONDS [SECTIONS | none | one | apart]]], or "
-                        "threads_cost FILE handles | threads GROUPS SECTIONS\n");
+                        "threads_cost FILE handles | threads | reverts GROUPS SECTIONS\n");
         return 2;
     }
     for (uint32_t i = 0; i < OBJECTS; i++) fields[i] = (zelamiku_field){.owner = i, .guard = i};
     if (count > 4) group = (uint64_t)atoll(words[4]);
     is_apart = count > 4 && strcmp(words[4], "apart") == 0;
     is_one = is_apart || (count > 4 && strcmp(words[4], "one") == 0);
-    if (count == 5 && (strcmp(words[2], "handles") == 0 || strcmp(words[2], "threads") == 0)) {
+    reverts = count == 5 && strcmp(words[2], "reverts") == 0;
+    if (count == 5 && (reverts || strcmp(words[2], "handles") == 0 || strcmp(words[2], "threads") == 0)) {
         unsigned groups = (unsigned)atoi(words[3]), sections = (unsigned)atoi(words[4]);
         return strcmp(words[2], "handles") == 0 ? groups_by_handles(words[1], groups, sections) : groups_by_threads(words[1], groups, sections);
     }

@@ -1,10 +1,12 @@
-/* Tests of the heap's file (zelamiku_heap_open, zelamiku_make_calls): a file that moves a byte at a time, is interrupted, fails at each call in
- * turn, is cut off at each call of its making, has an old image, and is replaced while it is opened.
+/* Tests of the heap's file (zelamiku_heap_open, zelamiku_heap_copy, zelamiku_make_calls): a file that moves a byte at a time, is interrupted,
+ * fails at each call in turn, is cut off or killed at each call of its making, has an old image, is made by several at once, and is replaced
+ * while it is opened or copied to.
  *
  *     file FOLDER      prints nothing but a last line, and answers 0, where all is as it must be */
 #define _GNU_SOURCE
 #include <errno.h>
 #include <fcntl.h>
+#include <stdarg.h>
 #include <stdint.h>
 #include <stdio.h>
 #include <stdlib.h>
@@ -12,9 +14,10 @@
 #include <sys/file.h>
 #include <sys/stat.h>
 #include <sys/types.h>
+#include <sys/wait.h>
 #include <unistd.h>
 
-static int fails_in;       /* which write, cut or sync from now on fails; 0: none */
+static int fails_in;       /* which write, sync or rename from now on fails; 0: none */
 static int moves_one_byte; /* and each second call is interrupted */
 static int turn;
 static int replaces;       /* the path leads to another file as soon as this one is locked */
@@ -26,7 +29,7 @@ static int is_interrupted(void) {
 }
 
 /* What was done to the file while `records` is set, in order. */
-enum { WRITTEN, CUT, SYNCED };
+enum { WRITTEN, SYNCED, RENAMED };
 static struct {
     int kind;
     off_t at;
@@ -66,23 +69,35 @@ static ssize_t flaky_pread(int file, void *bytes, size_t size, off_t at) {
 static int flaky_sync(int file) {
     if (is_interrupted() || is_due()) return -1;
     note(SYNCED, NULL, 0, 0);
-    return fdatasync(file);
+    return fcntl(file, F_GETFD) < 0 ? -1 : 0; /* no power fails here */
 }
 
 static int flaky_fsync(int file) {
-    if (is_due()) return -1;
+    if (is_interrupted() || is_due()) return -1;
     note(SYNCED, NULL, 0, 0);
-    return fsync(file);
+    return fcntl(file, F_GETFD) < 0 ? -1 : 0;
 }
 
-static int flaky_ftruncate(int file, off_t size) {
+static void (*before_rename)(void); /* what another does then */
+
+static int flaky_rename(const char *from, const char *to) {
     if (is_due()) return -1;
-    note(CUT, NULL, 0, size);
-    return ftruncate(file, size);
+    note(RENAMED, NULL, 0, 0);
+    if (before_rename != NULL) before_rename();
+    return rename(from, to);
+}
+
+static int flaky_open(const char *path, int flags, ...) {
+    va_list more;
+    va_start(more, flags);
+    mode_t mode = (flags & O_CREAT) != 0 ? va_arg(more, mode_t) : 0;
+    va_end(more);
+    return is_interrupted() ? -1 : open(path, flags, mode);
 }
 
 static int replacing_flock(int file, int how) {
-    if (replaces && (rename("heap", "moved") != 0 || link("spare", "heap") != 0)) abort();
+    if (is_interrupted()) return -1;
+    if (replaces && (how & LOCK_EX) != 0 && (rename("heap", "moved") != 0 || link("spare", "heap") != 0)) abort();
     return flock(file, how);
 }
 
@@ -97,13 +112,16 @@ static void *watched_malloc(size_t size) {
 #define pread flaky_pread
 #define fdatasync flaky_sync
 #define fsync flaky_fsync
-#define ftruncate flaky_ftruncate
+#define rename flaky_rename
+#define open flaky_open
 #define flock(file, how) replacing_flock(file, how)
 #define malloc watched_malloc
 #include "../zelamiku_threads.c"
 #undef pwrite
 #undef pread
-#undef ftruncate
+#undef rename
+#undef open
+#undef flock
 #undef malloc
 
 #define MUST(is_so) \
@@ -141,8 +159,26 @@ static uint64_t found(void) {
     return value;
 }
 
+static const char BESIDE_IT[] = "heap.heapctl-new";
+
 static void remove_file(void) {
-    MUST(unlink("heap") == 0 || errno == ENOENT);
+    MUST((unlink("heap") == 0 || errno == ENOENT) && (unlink(BESIDE_IT) == 0 || errno == ENOENT));
+}
+
+static void make_file_of(const char *path, const void *bytes, size_t size, mode_t mode) {
+    int file = open(path, O_RDWR | O_CREAT | O_TRUNC | O_CLOEXEC, 0600);
+    MUST(file >= 0 && pwrite(file, bytes, size, 0) == (ssize_t)size && fchmod(file, mode) == 0 && close(file) == 0);
+}
+
+static bool is_missing(const char *path) {
+    struct stat info;
+    return stat(path, &info) != 0 && errno == ENOENT;
+}
+
+static mode_t mode_of(const char *path) {
+    struct stat info;
+    MUST(stat(path, &info) == 0);
+    return info.st_mode & 0777;
 }
 
 static void life(void) {
@@ -205,25 +241,60 @@ static void sizes(void) {
     MUST(pwrite(file, "x", 1, 0) == 1 && open_heap(&heap) == ZELAMIKU_NOT_FORMATTED && most <= 64 && close(file) == 0);
 }
 
-/* Each write, cut and sync of a making fails in turn: no file is left, or an empty one that was there stays so. Answers how many there are. */
+static void read_head(uint8_t *head) {
+    int file = open("heap", O_RDONLY | O_CLOEXEC);
+    MUST(file >= 0 && pread(file, head, ROWS_AT, 0) == ROWS_AT && close(file) == 0);
+}
+
+/* An opening syncs, writes back what it has read of the header and the control, and syncs, before any other write. Where one of these fails,
+ * there is no heap, and the file is as it was. */
+static void openings(void) {
+    uint8_t before[ROWS_AT], after[ROWS_AT];
+    zelamiku_heap heap;
+    life();
+    read_head(before);
+    records = 1;
+    MUST(open_heap(&heap) == ZELAMIKU_OK);
+    records = 0;
+    MUST(step_count > 4 && steps[0].kind == SYNCED && steps[1].kind == WRITTEN && steps[2].kind == SYNCED);
+    MUST(steps[3].kind == SYNCED && steps[4].kind == SYNCED); /* the recovery's own first two */
+    MUST(steps[1].at == 0 && steps[1].size == ROWS_AT && memcmp(steps[1].bytes, before, ROWS_AT) == 0);
+    while (step_count > 0) free(steps[--step_count].bytes);
+    MUST(zelamiku_heap_close(heap) == ZELAMIKU_OK);
+    read_head(before);
+    for (int call = 1; call <= 3; call++) {
+        fails_in = call;
+        MUST(open_heap(&heap) == ZELAMIKU_DEVICE && fails_in == 0 && strstr(zelamiku_heap_message(), "No space left") != NULL);
+        read_head(after);
+        MUST(memcmp(before, after, ROWS_AT) == 0);
+    }
+    MUST(found() == 8);
+}
+
+/* Each write, sync and rename of a making fails in turn: no file is left, or an empty one that was there stays so; where the folder's last sync
+ * fails that one may be a heap by now. Nothing is left beside. Answers how many there are. */
 static int failing_makings(void) {
     zelamiku_heap heap;
     struct stat info;
     for (int call = 1;; call++) {
         bool was_there = call % 2 == 0;
         remove_file();
-        if (was_there) MUST(close(open("heap", O_RDWR | O_CREAT | O_CLOEXEC, 0600)) == 0);
+        if (was_there) make_file_of("heap", "", 0, 0640);
         fails_in = call;
         zelamiku_status status = open_heap(&heap);
         int left = fails_in;
         fails_in = 0;
+        MUST(is_missing(BESIDE_IT));
         if (status == ZELAMIKU_OK) {
             MUST(left > 0 && add(heap, 1) == 6 && zelamiku_heap_close(heap) == ZELAMIKU_OK);
             return call - 1;
         }
-        MUST(status == ZELAMIKU_DEVICE && zelamiku_heap_error() == ENOSPC);
-        MUST(was_there || (stat("heap", &info) != 0 && errno == ENOENT));
-        MUST(found() == 5);
+        MUST(status == ZELAMIKU_DEVICE && zelamiku_heap_error() == ENOSPC && report.is_made == 0);
+        if (was_there)
+            MUST(stat("heap", &info) == 0 && (info.st_size == 0 || strstr(zelamiku_heap_message(), "its folder can't be synced") != NULL));
+        else
+            MUST(is_missing("heap"));
+        MUST(found() == 5 && (!was_there || mode_of("heap") == 0640));
     }
 }
 
@@ -260,10 +331,9 @@ static int failing_rounds(void) {
 
 enum { PIECE = 512, CRASHES = 24 };
 
-/* Lays a step over an image, or where it was still pending some parts of it, by the bits of `which`. A cut is all or nothing. */
+/* Lays a step over an image, or where it was still pending some parts of it, by the bits of `which`. */
 static size_t lay(uint8_t *image, size_t size, int step, uint32_t which) {
     size_t from = (size_t)steps[step].at, end = from + steps[step].size;
-    if (steps[step].kind == CUT && (which & 1) != 0) return (size_t)steps[step].at;
     if (steps[step].kind != WRITTEN) return size;
     for (size_t part = from / PIECE; part * PIECE < end; part++) {
         size_t at = part * PIECE > from ? part * PIECE : from, stop = (part + 1) * PIECE < end ? (part + 1) * PIECE : end;
@@ -275,26 +345,301 @@ static size_t lay(uint8_t *image, size_t size, int step, uint32_t which) {
     return size;
 }
 
-/* A crash at each call of a making, that keeps all of what is pending, none, or any part, leaves a file that the next open makes or recovers. */
+static uint32_t parts_of(uint32_t crash, int done) {
+    return crash == 0 ? UINT32_MAX : crash == 1 ? 0 : crash * 2654435761u ^ (uint32_t)done * 40503u;
+}
+
+/* A crash at each call of a making, that keeps all of what is pending, none, or any part, leaves the file beside, and nothing at the path; or
+ * the heap there: all that was written was synced before. The next open makes or recovers it. */
 static int cut_off_makings(void) {
     static uint8_t image[1 << 20];
-    int count = 0;
+    int count = 0, renamed = 0;
     remove_file();
     records = 1;
     MUST(found() == 5);
     records = 0;
+    while (renamed < step_count && steps[renamed].kind != RENAMED) renamed++;
+    MUST(renamed < step_count && steps[renamed - 1].kind == SYNCED && steps[renamed + 1].kind == SYNCED);
     for (int done = 0; done <= step_count; done++)
         for (uint32_t crash = 0; crash < CRASHES; crash++, count++) {
-            uint32_t which = crash == 0 ? UINT32_MAX : crash == 1 ? 0 : crash * 2654435761u ^ (uint32_t)done * 40503u;
             int durable = done;
             size_t size = 0;
             while (durable > 0 && steps[durable - 1].kind != SYNCED) durable--;
-            for (int i = 0; i < done; i++) size = lay(image, size, i, i < durable ? UINT32_MAX : which);
-            int file = open("heap", O_RDWR | O_CREAT | O_TRUNC | O_CLOEXEC, 0600);
-            MUST(file >= 0 && pwrite(file, image, size, 0) == (ssize_t)size && close(file) == 0);
-            MUST(found() == 5);
+            for (int i = 0; i < done; i++) size = lay(image, size, i, i < durable ? UINT32_MAX : parts_of(crash, done));
+            remove_file();
+            make_file_of(done > renamed ? "heap" : BESIDE_IT, image, size, 0600);
+            MUST(found() == 5 && is_missing(BESIDE_IT));
         }
     return count;
+}
+
+/* Whether what a making in place has left is free, by docs/FORMAT.md: no slot of the control is open and has a sequence, and after the row and
+ * the cell of the one field there are zeros; where the header isn't there yet, before these too. */
+static bool is_left_free(const uint8_t *image, size_t size) {
+    static const uint8_t NONE[8];
+    bool has_slot = (image[64] == 0xa5 && memcmp(image + 72, NONE, 8) != 0) || (image[1112] == 0xa5 && memcmp(image + 1120, NONE, 8) != 0);
+    size_t end = 2160 + 24 * (size_t)image[19];
+    while (end < size && image[end] == 0) end++;
+    return !has_slot && end == size;
+}
+
+/* What makings in place have left that were cut off: zeros, the name, and then some of the heap's calls. A free one is made; any other is refused,
+ * and left as it is. */
+static int old_makings(void) {
+    static uint8_t image[1 << 20], after[1 << 20];
+    zelamiku_heap heap;
+    int count = 0, made = 0, first = 0;
+    size_t size = 0;
+    while (steps[first].kind == WRITTEN) size = lay(image, size, first++, UINT32_MAX);
+    for (int done = first; done < step_count && steps[done].kind != RENAMED; done++)
+        for (uint32_t crash = 0; crash < CRASHES; crash++) {
+            memset(image, 0, size);
+            memcpy(image, "MONIHEAP", 8);
+            for (int i = first; i < done; i++) (void)lay(image, size, i, parts_of(crash, done));
+            if (image[8] == 0xa5) continue; /* it is a heap */
+            bool is_free = is_left_free(image, size);
+            make_file_of("heap", image, size, 0640);
+            zelamiku_status status = open_heap(&heap);
+            MUST(status == (is_free ? ZELAMIKU_OK : ZELAMIKU_NOT_FORMATTED) && report.is_made == is_free);
+            count++, made += is_free;
+            if (is_free) {
+                MUST(add(heap, 0) == 5 && mode_of("heap") == 0640 && zelamiku_heap_close(heap) == ZELAMIKU_OK);
+            } else {
+                int file = open("heap", O_RDONLY | O_CLOEXEC);
+                MUST(read(file, after, sizeof after) == (ssize_t)size && memcmp(image, after, size) == 0 && close(file) == 0);
+                MUST(strstr(zelamiku_heap_message(), "its first bytes are damaged") != NULL);
+            }
+        }
+    MUST(made > 0 && made < count);
+    return count;
+}
+
+/* ---- processes ---- */
+
+/* A process that makes a heap is killed: the path has nothing, or the empty file that it had, or the heap. The next one takes the file beside
+ * up. Answers how many were killed before the heap was there. */
+static int killed_makings(void) {
+    struct stat info;
+    zelamiku_heap heap;
+    int early = 0;
+    zelamiku_plan large = plan;
+    large.lanes = 8, large.capacity = 20000;
+    remove_file();
+    uint64_t begun = zelamiku_now();
+    MUST(zelamiku_heap_open(&heap, "heap", &large, NULL) == ZELAMIKU_OK);
+    uint64_t usual = (zelamiku_now() - begun) / 1000;
+    MUST(zelamiku_heap_close(heap) == ZELAMIKU_OK);
+    for (uint64_t kill_ = 0; kill_ < 40; kill_++) {
+        bool was_there = kill_ % 2 == 1;
+        remove_file();
+        if (was_there) make_file_of("heap", "", 0, 0640);
+        pid_t child = fork();
+        MUST(child >= 0);
+        if (child == 0) _exit(zelamiku_heap_open(&heap, "heap", &large, NULL) == ZELAMIKU_OK && pause() == 0);
+        (void)usleep((useconds_t)(usual * kill_ / 20));
+        MUST(kill(child, SIGKILL) == 0 && waitpid(child, NULL, 0) == child);
+        bool is_there = stat("heap", &info) == 0;
+        MUST(is_there || !was_there);
+        early += !is_there || info.st_size == 0;
+        MUST(zelamiku_heap_open(&heap, "heap", &large, &report) == ZELAMIKU_OK && report.is_made == (!is_there || info.st_size == 0));
+        MUST(add(heap, 0) == 5 && zelamiku_heap_close(heap) == ZELAMIKU_OK && is_missing(BESIDE_IT));
+    }
+    return early;
+}
+
+/* What a process that opened the heap at once with others has: 0: it was BUSY; 1: it opened it; 2: it made it; 3: something else. */
+static int opened_at_once(int start, int tried, int end) {
+    zelamiku_heap heap;
+    char go = 0;
+    if (read(start, &go, 1) != 0) return 3;
+    zelamiku_status status = open_heap(&heap);
+    int answer = status == ZELAMIKU_BUSY ? 0 : status == ZELAMIKU_OK ? 1 + (int)report.is_made : 3;
+    if (answer == 3) fprintf(stderr, "%s\n", zelamiku_heap_message());
+    return write(tried, &go, 1) == 1 && read(end, &go, 1) == 0 ? answer : 3;
+}
+
+/* Processes that open one path at once: one makes the heap and has it alone, and the others are BUSY. */
+static void at_once(void) {
+    enum { PROCESSES = 4 };
+    for (int turn_ = 0; turn_ < 40; turn_++) {
+        pid_t children[PROCESSES];
+        int start[2], tried[2], end[2], counts[4] = {0};
+        char byte;
+        remove_file();
+        if (turn_ % 2 == 1) make_file_of("heap", "", 0, 0600);
+        MUST(pipe(start) == 0 && pipe(tried) == 0 && pipe(end) == 0);
+        for (int i = 0; i < PROCESSES; i++) {
+            children[i] = fork();
+            MUST(children[i] >= 0);
+            if (children[i] > 0) continue;
+            (void)close(start[1]);
+            (void)close(end[1]);
+            _exit(opened_at_once(start[0], tried[1], end[0]));
+        }
+        MUST(close(start[1]) == 0);
+        for (int i = 0; i < PROCESSES; i++) MUST(read(tried[0], &byte, 1) == 1);
+        MUST(close(end[1]) == 0 && close(start[0]) == 0 && close(tried[0]) == 0 && close(tried[1]) == 0 && close(end[0]) == 0);
+        for (int i = 0; i < PROCESSES; i++) {
+            int status = 0;
+            MUST(waitpid(children[i], &status, 0) == children[i] && WIFEXITED(status));
+            counts[WEXITSTATUS(status)]++;
+        }
+        MUST(counts[2] == 1 && counts[1] == 0 && counts[3] == 0 && is_missing(BESIDE_IT));
+    }
+}
+
+/* ---- names ---- */
+
+/* A link stays, and what it leads to gets the heap, also where that is no file yet. */
+static void links(void) {
+    zelamiku_heap heap;
+    struct stat info;
+    MUST(mkdir("real", 0700) == 0 && symlink("real/heap", "link") == 0 && symlink("link", "link to it") == 0);
+    for (int was_there = 0; was_there < 2; was_there++) {
+        if (was_there) make_file_of("real/heap", "", 0, 0604);
+        MUST(zelamiku_heap_open(&heap, "link to it", &plan, &report) == ZELAMIKU_OK && report.is_made == 1 && add(heap, 1) == 6);
+        MUST(zelamiku_heap_copy(heap, "link") == ZELAMIKU_BUSY && zelamiku_heap_close(heap) == ZELAMIKU_OK);
+        MUST(lstat("link to it", &info) == 0 && S_ISLNK(info.st_mode) && lstat("link", &info) == 0 && S_ISLNK(info.st_mode));
+        MUST(lstat("real/heap", &info) == 0 && S_ISREG(info.st_mode) && (!was_there || (info.st_mode & 0777) == 0604));
+        MUST(zelamiku_heap_open(&heap, "real/heap", &plan, NULL) == ZELAMIKU_OK && add(heap, 0) == 6 && zelamiku_heap_close(heap) == ZELAMIKU_OK);
+        MUST(unlink("real/heap") == 0);
+    }
+    MUST(symlink("../circle", "real/circle") == 0 && symlink("real/circle", "circle") == 0);
+    MUST(zelamiku_heap_open(&heap, "circle", &plan, NULL) == ZELAMIKU_DEVICE && zelamiku_heap_error() == ELOOP);
+}
+
+/* ---- copies ---- */
+
+static uint8_t *bytes_of(const char *path, size_t *size) {
+    struct stat info;
+    int file = open(path, O_RDONLY | O_CLOEXEC);
+    MUST(file >= 0 && fstat(file, &info) == 0);
+    uint8_t *bytes = (uint8_t *)malloc((size_t)info.st_size + 1);
+    MUST(bytes != NULL && read(file, bytes, (size_t)info.st_size) == info.st_size && close(file) == 0);
+    *size = (size_t)info.st_size;
+    return bytes;
+}
+
+/* What the heap at the path has. */
+static uint64_t value_at(const char *path) {
+    zelamiku_heap heap;
+    MUST(zelamiku_heap_open(&heap, path, &plan, NULL) == ZELAMIKU_OK);
+    uint64_t value = add(heap, 0);
+    MUST(zelamiku_heap_close(heap) == ZELAMIKU_OK);
+    return value;
+}
+
+static zelamiku_status opened_meanwhile;
+
+static void open_copy(void) {
+    zelamiku_heap other;
+    opened_meanwhile = zelamiku_heap_open(&other, "copy", &plan, NULL);
+}
+
+static void remove_copy(void) {
+    MUST(unlink("copy") == 0);
+}
+
+static pid_t lasting;
+
+/* A child that lives on keeps no lock, whether it has run yet or not. */
+static void leave_child(void) {
+    lasting = fork();
+    MUST(lasting >= 0);
+    if (lasting == 0) _exit(pause());
+}
+
+/* Each write, sync and rename of a copy fails in turn: what was there stays, but where the folder's sync fails after the rename. Nothing is left
+ * beside. Answers how many there are. */
+static int failing_copies(zelamiku_heap heap) {
+    for (int call = 1;; call++) {
+        size_t size, size_after;
+        uint8_t *before = bytes_of("copy", &size);
+        uint64_t value = add(heap, 1);
+        fails_in = call;
+        zelamiku_status status = zelamiku_heap_copy(heap, "copy");
+        int left = fails_in;
+        fails_in = 0;
+        MUST(is_missing("copy.heapctl-new"));
+        uint8_t *after_ = bytes_of("copy", &size_after);
+        bool is_old = size == size_after && memcmp(before, after_, size) == 0;
+        free(before);
+        free(after_);
+        if (status == ZELAMIKU_OK) {
+            MUST(left > 0 && !is_old && value_at("copy") == value);
+            return call - 1;
+        }
+        MUST(status == ZELAMIKU_DEVICE && zelamiku_heap_error() == ENOSPC);
+        bool is_new = strstr(zelamiku_heap_message(), "copy: copy: the new copy is at the path, but its folder can't be synced: No space") != NULL;
+        MUST(is_new || strstr(zelamiku_heap_message(), "the copy can't be written: No space left on device; what was at the path is there still"));
+        MUST(is_old != is_new && (is_old || value_at("copy") == value));
+    }
+}
+
+/* A copy and an open of its path keep each other out, and so do two copies, from when the copy begins until it is in its place. */
+static int copies(void) {
+    zelamiku_heap heap, other;
+    life();
+    MUST(open_heap(&heap) == ZELAMIKU_OK && zelamiku_heap_copy(heap, "copy") == ZELAMIKU_OK && value_at("copy") == 8);
+    MUST(chmod("heap", 0640) == 0 && zelamiku_heap_open(&other, "copy", &plan, NULL) == ZELAMIKU_OK && add(other, 1) == 9);
+    MUST(zelamiku_heap_copy(heap, "copy") == ZELAMIKU_BUSY && zelamiku_heap_close(other) == ZELAMIKU_OK && value_at("copy") == 9);
+    before_rename = open_copy;
+    MUST(zelamiku_heap_copy(heap, "copy") == ZELAMIKU_OK && opened_meanwhile == ZELAMIKU_BUSY && value_at("copy") == 8);
+    MUST(mode_of("copy") == 0640 && unlink("copy") == 0);
+    before_rename = NULL;
+    /* What a copy that was cut off has left is taken up, and not while another one has it. */
+    make_file_of("copy.heapctl-new", "left", 4, 0400);
+    MUST(zelamiku_heap_copy(heap, "copy") == ZELAMIKU_OK && is_missing("copy.heapctl-new") && value_at("copy") == 8);
+    make_file_of("copy.heapctl-new", "left", 4, 0600);
+    int file = open("copy.heapctl-new", O_RDWR | O_CLOEXEC);
+    MUST(file >= 0 && flock(file, LOCK_EX | LOCK_NB) == 0 && zelamiku_heap_copy(heap, "copy") == ZELAMIKU_BUSY);
+    MUST(strstr(zelamiku_heap_message(), "copy: copy: a heap, a copy or an image is being made there") != NULL);
+    MUST(zelamiku_heap_open(&other, "copy", &plan, NULL) == ZELAMIKU_OK && zelamiku_heap_close(other) == ZELAMIKU_OK && unlink("copy") == 0);
+    MUST(zelamiku_heap_open(&other, "copy", &plan, NULL) == ZELAMIKU_BUSY && is_missing("copy") && close(file) == 0);
+    MUST(zelamiku_heap_copy(heap, "copy") == ZELAMIKU_OK && is_missing("copy.heapctl-new"));
+    before_rename = remove_copy;
+    MUST(zelamiku_heap_copy(heap, "copy") == ZELAMIKU_OK && value_at("copy") == 8);
+    before_rename = leave_child;
+    MUST(zelamiku_heap_copy(heap, "copy") == ZELAMIKU_OK && value_at("copy") == 8);
+    MUST(kill(lasting, SIGKILL) == 0 && waitpid(lasting, NULL, 0) == lasting);
+    before_rename = NULL;
+    int calls = failing_copies(heap);
+    MUST(zelamiku_heap_close(heap) == ZELAMIKU_OK && chmod("heap", 0600) == 0);
+    return calls;
+}
+
+/* ---- a file that goes ---- */
+
+static _Atomic unsigned warnings;
+
+static void count_warnings(void *of, uint32_t level, const char *text) {
+    (void)of;
+    warnings += level == ZELAMIKU_LOG_WARNING && strstr(text, "the path doesn't lead to the heap's file any more") != NULL;
+}
+
+/* The heap's marks after a second of rounds. */
+static uint32_t astray_after(zelamiku_heap heap) {
+    zelamiku_stats stats;
+    uint64_t end = zelamiku_now() + 1100000000;
+    while (zelamiku_now() < end) (void)add(heap, 0);
+    MUST(zelamiku_heap_stats(heap, &stats) == ZELAMIKU_OK);
+    return stats.is_astray;
+}
+
+/* A file that is removed, or replaced, while its heap is open, by a path from the folder that the process was in: it is told once, and the heap
+ * goes on. */
+static void astray(void) {
+    zelamiku_heap heap;
+    zelamiku_plan told = plan;
+    told.log = count_warnings;
+    remove_file();
+    MUST(zelamiku_heap_open(&heap, "heap", &told, NULL) == ZELAMIKU_OK && chdir("real") == 0);
+    MUST(astray_after(heap) == 0 && warnings == 0);
+    MUST(rename("../heap", "../moved") == 0 && astray_after(heap) == 1 && astray_after(heap) == 1 && warnings == 1);
+    MUST(rename("../moved", "../heap") == 0 && astray_after(heap) == 0 && warnings == 1);
+    make_file_of("../other", "", 0, 0600);
+    MUST(rename("../other", "../heap") == 0 && astray_after(heap) == 1 && warnings == 2);
+    MUST(zelamiku_heap_close(heap) == ZELAMIKU_OK && chdir("..") == 0);
 }
 
 int main(int argc, char **argv) {
@@ -303,13 +648,20 @@ int main(int argc, char **argv) {
     old();
     others();
     sizes();
-    int makings = failing_makings(), calls = failing_rounds(), crashes = cut_off_makings();
-    MUST(makings > 5 && calls > 5);
+    openings();
+    int makings = failing_makings(), calls = failing_rounds(), crashes = cut_off_makings(), old_crashes = old_makings();
+    int killed = killed_makings(), copy_calls = copies();
+    MUST(makings > 5 && calls > 5 && copy_calls > 3 && killed > 0);
+    at_once();
+    links();
+    astray();
     moves_one_byte = 1;
+    remove_file();
     life();
     old();
-    printf("file: lives, an old image, other opens, large files, a fault at each of %d calls of a making and %d of a round, %d crashes of a "
-           "making, and calls that are short and interrupted\n",
-           makings, calls, crashes);
+    MUST(copies() > copy_calls);
+    printf("file: lives, an old image, other opens, large files, links, a file that goes, a fault at each of %d calls of a making, %d of a round and %d of a copy, "
+           "%d crashes of a making, %d of one in place, 40 kills (%d before the heap was there), and calls that are short and interrupted\n",
+           makings, calls, copy_calls, crashes, old_crashes, killed);
     return 0;
 }

@@ -7,8 +7,11 @@
 #define _GNU_SOURCE
 #include <errno.h>
 #include <fcntl.h>
+#include <sys/prctl.h>
 #include <sys/resource.h>
+#include <sys/syscall.h>
 #include <sys/types.h>
+#include <time.h>
 #include <unistd.h>
 
 static int writes_fail, syncs_fail; /* by who leads, and set while nobody does */
@@ -82,29 +85,72 @@ static zelamiku_status lasting_round(zelamiku_handle *heap, uint64_t most, uint6
 /* How many threads sleep on a word, and on one with no time set; how often one has gone on. One that is counted has looked for the last
  * time before. */
 static unsigned asleep, asleep_for_good, gone_on;
+static _Thread_local bool is_held_back; /* where the thread is to sleep it isn't run until `holds_back` is 0 */
+static int holds_back;
+static unsigned held_back; /* how many threads are */
 
-static long counted_futex(long number, void *word, int what, uint32_t value, const struct timespec *due, void *other, uint32_t mask) {
+/* One that looks about in half a second or later sleeps for good here. */
+static bool is_far(const struct timespec *due) {
+    struct timespec now = {0, 0};
+    (void)clock_gettime(CLOCK_MONOTONIC, &now);
+    return (double)(due->tv_sec - now.tv_sec) + 1e-9 * (double)(due->tv_nsec - now.tv_nsec) > 0.5;
+}
+
+static long own_SYS_futex(void *word, int what, uint32_t value, const struct timespec *due, void *other, uint32_t mask) {
     bool sleeps = due != NULL || other != NULL || mask != 0;
+    bool is_for_good = due == NULL || is_far(due);
+    if (sleeps && is_held_back) {
+        __atomic_add_fetch(&held_back, 1, __ATOMIC_SEQ_CST);
+        while (__atomic_load_n(&holds_back, __ATOMIC_SEQ_CST)) usleep(100);
+        is_held_back = false;
+    }
     if (sleeps) __atomic_add_fetch(&asleep, 1, __ATOMIC_SEQ_CST);
-    if (sleeps && due == NULL) __atomic_add_fetch(&asleep_for_good, 1, __ATOMIC_SEQ_CST);
-    long answer = syscall(number, word, what, value, due, other, mask);
+    if (sleeps && is_for_good) __atomic_add_fetch(&asleep_for_good, 1, __ATOMIC_SEQ_CST);
+    long answer = syscall(SYS_futex, word, what, value, due, other, mask);
     int error = errno;
     if (sleeps) __atomic_sub_fetch(&asleep, 1, __ATOMIC_SEQ_CST);
-    if (sleeps && due == NULL) __atomic_sub_fetch(&asleep_for_good, 1, __ATOMIC_SEQ_CST);
+    if (sleeps && is_for_good) __atomic_sub_fetch(&asleep_for_good, 1, __ATOMIC_SEQ_CST);
     if (sleeps) __atomic_add_fetch(&gone_on, 1, __ATOMIC_SEQ_CST);
     errno = error;
     return answer;
 }
 
+/* A system whose threads have time slices of so many nanoseconds at first; 0: one that tells none. */
+static uint64_t usual_slice = 2100000;
+static _Thread_local uint64_t own_slice, inherited_slice; /* 0: the usual one */
+static unsigned slices_asked;
+static int filter; /* what prctl says of a filter of calls */
+
+static uint64_t *runtime_in(void *of) {
+    return (uint64_t *)of + 3;
+}
+
+static long own_SYS_sched_getattr(int process, void *of, size_t size, unsigned flags) {
+    MUST(process == 0 && flags == 0 && size == 48);
+    if (own_slice == 0) own_slice = inherited_slice;
+    *runtime_in(of) = own_slice != 0 ? own_slice : usual_slice;
+    return 0;
+}
+
+static long own_SYS_sched_setattr(int process, void *of, unsigned flags) {
+    MUST(process == 0 && flags == 0 && *(uint32_t *)of == 48);
+    __atomic_add_fetch(&slices_asked, 1, __ATOMIC_SEQ_CST);
+    own_slice = *runtime_in(of);
+    inherited_slice = 0;
+    return 0;
+}
+
+#define prctl(what) (filter)
 #define pwrite flaky_pwrite
 #define fdatasync flaky_fdatasync
-#define syscall counted_futex
+#define syscall(number, ...) own_##number(__VA_ARGS__)
 #undef zelamiku_round
 #define zelamiku_round lasting_round
 #include "../zelamiku_threads.c"
 #undef zelamiku_round
 #define zelamiku_round zelamiku_round_most
 #undef syscall
+#undef prctl
 
 #ifdef INLINE
 #undef ZELAMIKU_OFTEN
@@ -113,6 +159,7 @@ static long counted_futex(long number, void *word, int what, uint32_t value, con
 #define zelamiku_is_open inline_is_open
 #define zelamiku_begins inline_begins
 #define zelamiku_ends inline_ends
+#define zelamiku_notes_stores inline_notes_stores
 #define zelamiku_thread_enter inline_enter
 #define zelamiku_thread_exit inline_exit
 #define zelamiku_thread_load inline_load
@@ -132,8 +179,14 @@ static void make_haste(void) {
     heaps[all.number >> 8 & 255].haste = UINT64_MAX;
 }
 
+static char last_warning[ZELAMIKU_MOST_MESSAGE];
+static pthread_mutex_t warning_mutex = PTHREAD_MUTEX_INITIALIZER;
+
 static void count_lines(void *of, uint32_t level, const char *text) {
     MUST(level <= ZELAMIKU_LOG_ERROR && strstr(text, "threads.heap: ") == text && of == logged);
+    pthread_mutex_lock(&warning_mutex);
+    if (level == ZELAMIKU_LOG_WARNING) (void)snprintf(last_warning, sizeof last_warning, "%s", text);
+    pthread_mutex_unlock(&warning_mutex);
     __atomic_add_fetch(&logged[level], 1, __ATOMIC_SEQ_CST);
 }
 
@@ -206,8 +259,7 @@ static void *count(void *data) {
 static void *pass(void *data) {
     bool puts = (uintptr_t)data % 2 == 0;
     zelamiku_thread own = begin_thread();
-    uint64_t value = 0;
-    uint32_t woken = 0;
+    uint64_t value = 0, woken = 0;
     for (unsigned i = 0; i < ROUNDS; i++) {
         MUST(zelamiku_thread_enter(own, LIST) == ZELAMIKU_OK);
         for (;;) {
@@ -364,7 +416,7 @@ static void *go_on_and_notify(void *data) {
     zelamiku_thread own = begin_thread();
     usleep(20000);
     __atomic_store_n(&syncs_hang, 0, __ATOMIC_SEQ_CST);
-    for (uint32_t woken = 0; woken == 0;) {
+    for (uint32_t woken = ZELAMIKU_NOBODY; woken == ZELAMIKU_NOBODY;) {
         MUST(zelamiku_thread_enter(own, TOTAL) == ZELAMIKU_OK && zelamiku_thread_notify(own, TOTAL, &woken) == ZELAMIKU_OK);
         MUST(zelamiku_thread_exit(own, TOTAL) == ZELAMIKU_OK);
     }
@@ -494,10 +546,12 @@ static void refusals(void) {
     MUST(pthread_create(&waiter, NULL, wait_once, NULL) == 0);
     await_waiter(own);
     MUST(zelamiku_heap_close(all) == ZELAMIKU_RUNNING);
-    MUST(zelamiku_thread_notify(own, TOTAL, &woken) == ZELAMIKU_NOT_HELD && woken == 0 && zelamiku_thread_enter(own, TOTAL) == ZELAMIKU_OK);
+    MUST(zelamiku_thread_notify(own, TOTAL, &woken) == ZELAMIKU_NOT_HELD && woken == ZELAMIKU_NOBODY);
+    MUST(zelamiku_thread_enter(own, TOTAL) == ZELAMIKU_OK);
     MUST(zelamiku_thread_look(own, TOTAL, &sight) == ZELAMIKU_OK && sight.owner == zelamiku_thread_lane(own) && sight.locks == 1);
-    MUST(zelamiku_thread_notify(own, TOTAL, &woken) == ZELAMIKU_OK && woken == 1);
-    MUST(zelamiku_thread_notify(own, TOTAL, &woken) == ZELAMIKU_OK && woken == 0);
+    /* The waiter's: the second one that was lent. */
+    MUST(zelamiku_thread_notify(own, TOTAL, &woken) == ZELAMIKU_OK && zelamiku_thread_lane(own) == 0 && woken == 1);
+    MUST(zelamiku_thread_notify(own, TOTAL, &woken) == ZELAMIKU_OK && woken == ZELAMIKU_NOBODY);
     MUST(zelamiku_thread_end(own) == ZELAMIKU_UNFINISHED && zelamiku_thread_exit(own, TOTAL) == ZELAMIKU_OK);
     MUST(pthread_join(waiter, NULL) == 0);
     for (unsigned i = 0; i < LANES - 1; i++) others[i] = begin_thread();
@@ -508,6 +562,51 @@ static void refusals(void) {
     MUST(zelamiku_thread_exit(others[0], LIST) == ZELAMIKU_OK);
     /* Those that are lent and have nothing open don't matter. */
     MUST(zelamiku_heap_close(all) == ZELAMIKU_OK);
+}
+
+/* ---- what any thread may ask ---- */
+
+static _Atomic uint64_t newest; /* the handle of the thread that came last */
+static _Atomic bool stop_asking;
+
+enum { EACH = 3 }; /* sections of each handle */
+
+static void *come_and_go(void *data) {
+    while (!stop_asking) {
+        zelamiku_thread own;
+        MUST(zelamiku_thread_begin(&own, all) == ZELAMIKU_OK);
+        newest = own.number;
+        for (int i = 0; i < EACH; i++) add(own, TOTAL, 0, 1);
+        MUST(zelamiku_thread_end(own) == ZELAMIKU_OK);
+    }
+    return data;
+}
+
+/* No answer is that of another thread's lane: none is more than the sections of one handle. */
+static void *ask_for_newest(void *data) {
+    while (!stop_asking) {
+        zelamiku_thread other = {newest};
+        bool is = false;
+        MUST(zelamiku_thread_sections(other) <= EACH && zelamiku_thread_durable(other) <= EACH);
+        zelamiku_status status = data == NULL ? ZELAMIKU_OK : zelamiku_thread_await_until(other, 1, 0, &is);
+        MUST(status == ZELAMIKU_OK || status == ZELAMIKU_NOTHING || status == ZELAMIKU_UNFINISHED);
+    }
+    return data;
+}
+
+/* A thread that has ended is asked for, while its lane is lent again and again. */
+static void asks_for_others(void) {
+    zelamiku_plan plan = {.fields = FIELDS, .count = 3, .objects = 2, .lanes = 1, .linger = 100};
+    pthread_t threads[4];
+    stop_asking = false;
+    newest = 0;
+    MUST(unlink("lent.heap") == 0 || errno == ENOENT);
+    MUST(zelamiku_heap_open(&all, "lent.heap", &plan, NULL) == ZELAMIKU_OK);
+    for (int i = 0; i < 4; i++) MUST(pthread_create(&threads[i], NULL, i == 0 ? come_and_go : ask_for_newest, i == 3 ? &all : NULL) == 0);
+    usleep(1000000);
+    stop_asking = true;
+    for (int i = 0; i < 4; i++) MUST(pthread_join(threads[i], NULL) == 0);
+    MUST(zelamiku_heap_close(all) == ZELAMIKU_OK && unlink("lent.heap") == 0);
 }
 
 static void *hold_for_a_moment(void *data) {
@@ -529,6 +628,30 @@ static void enters_with_deadlines(void) {
     MUST(pthread_join(thread, NULL) == 0 && zelamiku_thread_exit(own, TOTAL) == ZELAMIKU_OK);
     /* What was given up isn't busy. */
     MUST(zelamiku_heap_close(all) == ZELAMIKU_OK);
+}
+
+/* Of a lane that two threads have had the report's numbers are those of both: each thread tells how many come before its own. */
+static void tells_earlier_sections(void) {
+    begin_anew();
+    zelamiku_thread first = begin_thread();
+    for (unsigned i = 0; i < 3; i++) add(first, TOTAL, 0, 1);
+    MUST(zelamiku_thread_earlier(first) == 0 && zelamiku_thread_end(first) == ZELAMIKU_OK);
+    zelamiku_thread second = begin_thread();
+    MUST(zelamiku_thread_earlier(first) == 0 && zelamiku_thread_lane(second) == 0 && zelamiku_thread_earlier(second) == 3);
+    add(second, TOTAL, 0, 1);
+    MUST(zelamiku_thread_enter(second, TOTAL) == ZELAMIKU_OK && zelamiku_thread_store(second, 0, 9) == ZELAMIKU_OK);
+    MUST(zelamiku_heap_abandon(all) == ZELAMIKU_OK && zelamiku_thread_earlier(second) == 3);
+    MUST(zelamiku_thread_exit(second, TOTAL) == ZELAMIKU_ABANDONED);
+    zelamiku_report report = begin_again(4000);
+#ifndef MOCKED
+    zelamiku_dropped dropped = {0, 0, 0, 0, 0};
+    size_t told = 0;
+    MUST(report.told.kept[0] == 4 && zelamiku_heap_dropped(all, 0, &dropped, 1, &told) == ZELAMIKU_OK && told == 1);
+    MUST(dropped.lane == 0 && dropped.section - 3 == 2);
+#endif
+    first = begin_thread();
+    MUST(zelamiku_thread_earlier(first) == 0 && zelamiku_heap_close(all) == ZELAMIKU_OK);
+    (void)report;
 }
 
 /* ---- writes and syncs that fail ---- */
@@ -593,7 +716,7 @@ static void failing_syncs(void) {
     zelamiku_status status = zelamiku_thread_exit(own, TOTAL);
     MUST(status == ZELAMIKU_OK || status == ZELAMIKU_LOST);
     zelamiku_status awaited = zelamiku_thread_await(own);
-    MUST(awaited == ZELAMIKU_LOST || (status == ZELAMIKU_LOST && awaited == ZELAMIKU_OK));
+    MUST(awaited == ZELAMIKU_LOST);
     __atomic_store_n(&syncs_fail, 0, __ATOMIC_SEQ_CST);
     unsigned before = __atomic_load_n(&syncs, __ATOMIC_SEQ_CST);
     MUST(pthread_join(waiter, &answer) == 0 && (uintptr_t)answer == ZELAMIKU_LOST);
@@ -605,6 +728,84 @@ static void failing_syncs(void) {
     (void)begin_again(4000);
     uint64_t value = look(TOTAL, 0);
     MUST((value == 2 || value == 3) && zelamiku_heap_close(all) == ZELAMIKU_OK);
+}
+
+/* ---- sections that are open while they are awaited, and that never end ---- */
+
+/* Ends the heap: by a stop, an abandon, or a sync that fails. */
+static zelamiku_status end_by(unsigned how, zelamiku_thread other) {
+    if (how < 2) MUST((how == 0 ? zelamiku_heap_stop(all) : zelamiku_heap_abandon(all)) == ZELAMIKU_OK);
+    if (how < 2) return how == 0 ? ZELAMIKU_CLOSED : ZELAMIKU_ABANDONED;
+    __atomic_store_n(&syncs_fail, 1, __ATOMIC_SEQ_CST);
+    add(other, LIST, COUNT, 1);
+    MUST(zelamiku_thread_await(other) == ZELAMIKU_LOST);
+    __atomic_store_n(&syncs_fail, 0, __ATOMIC_SEQ_CST);
+    return ZELAMIKU_LOST;
+}
+
+/* A section that the heap's end has cut off is never told durable, whether its thread has learned of that end or not. What had ended before
+ * is, by its number. */
+static void cut_off(void) {
+    for (unsigned how = 0; how < 6; how++) {
+        begin_anew();
+        zelamiku_thread own = begin_thread(), other = begin_thread();
+        bool is = true;
+        add(own, TOTAL, 0, 6);
+        MUST(zelamiku_thread_await(own) == ZELAMIKU_OK);
+        MUST(zelamiku_thread_enter(own, TOTAL) == ZELAMIKU_OK && zelamiku_thread_store(own, 0, 7) == ZELAMIKU_OK);
+        zelamiku_status why = end_by(how % 3, other);
+        if (how < 3) MUST(zelamiku_thread_exit(own, TOTAL) == why);
+        MUST(zelamiku_thread_await_until(own, ZELAMIKU_ALL_SECTIONS, ZELAMIKU_NO_DEADLINE, &is) == why && !is);
+        MUST(zelamiku_thread_await(own) == why && strstr(zelamiku_heap_message(), "threads.heap: await: ") == zelamiku_heap_message());
+        MUST(zelamiku_heap_error() == (why == ZELAMIKU_LOST ? EIO : 0));
+        MUST(zelamiku_thread_await_until(own, 2, ZELAMIKU_NO_DEADLINE, &is) == why && !is);
+        MUST(zelamiku_thread_await_until(own, 1, ZELAMIKU_NO_DEADLINE, &is) == ZELAMIKU_OK && is);
+        MUST(zelamiku_thread_end(own) == why && zelamiku_thread_await(own) == why);
+        if (why == ZELAMIKU_LOST) MUST(zelamiku_heap_close(all) == ZELAMIKU_LOST);
+        (void)begin_again(4000);
+        MUST(look(TOTAL, 0) == 6 && zelamiku_heap_close(all) == ZELAMIKU_OK);
+    }
+}
+
+static zelamiku_thread holder;
+
+static void *wait_by_holder(void *data) {
+    MUST(zelamiku_thread_enter(holder, TOTAL) == ZELAMIKU_OK && zelamiku_thread_store(holder, 0, 1) == ZELAMIKU_OK);
+    MUST(zelamiku_thread_wait(holder, TOTAL) == ZELAMIKU_OK && zelamiku_thread_await(holder) == ZELAMIKU_UNFINISHED);
+    MUST(zelamiku_thread_exit(holder, TOTAL) == ZELAMIKU_OK && zelamiku_thread_await(holder) == ZELAMIKU_OK);
+    MUST(zelamiku_thread_durable(holder) == 2);
+    return data;
+}
+
+static void await_waiter(zelamiku_thread own);
+
+/* All sections can't be awaited while one is open, also where another thread asks. Those that have ended can, and so can all of a thread
+ * that waits with no other monitor held. */
+static void awaits_in_sections(void) {
+    begin_anew();
+    zelamiku_thread own = begin_thread();
+    pthread_t waiter;
+    bool is = true;
+    uint32_t woken = 0;
+    add(own, LIST, COUNT, 1);
+    MUST(zelamiku_thread_enter(own, LIST) == ZELAMIKU_OK && zelamiku_thread_enter(own, TOTAL) == ZELAMIKU_OK);
+    for (unsigned locks = 2; locks > 0; locks--) {
+        MUST(zelamiku_thread_await(own) == ZELAMIKU_UNFINISHED);
+        MUST(strcmp(zelamiku_heap_message(), "threads.heap: await: the thread holds a monitor; exit it before") == 0);
+        MUST(zelamiku_thread_await_until(own, ZELAMIKU_ALL_SECTIONS, 0, &is) == ZELAMIKU_UNFINISHED && !is);
+        MUST(zelamiku_thread_await_until(own, 2, ZELAMIKU_NO_DEADLINE, &is) == ZELAMIKU_UNFINISHED && !is);
+        MUST(zelamiku_thread_await_until(own, 1, ZELAMIKU_NO_DEADLINE, &is) == ZELAMIKU_OK && is);
+        MUST(zelamiku_thread_exit(own, locks == 2 ? TOTAL : LIST) == ZELAMIKU_OK);
+    }
+    MUST(zelamiku_thread_await(own) == ZELAMIKU_OK && zelamiku_thread_durable(own) == 2);
+    holder = begin_thread();
+    MUST(pthread_create(&waiter, NULL, wait_by_holder, NULL) == 0);
+    await_waiter(own);
+    while (zelamiku_thread_sections(holder) == 0) sched_yield();
+    MUST(zelamiku_thread_await_until(holder, ZELAMIKU_ALL_SECTIONS, ZELAMIKU_NO_DEADLINE, &is) == ZELAMIKU_OK && is);
+    MUST(zelamiku_thread_durable(holder) == 1 && zelamiku_thread_enter(own, TOTAL) == ZELAMIKU_OK);
+    MUST(zelamiku_thread_notify(own, TOTAL, &woken) == ZELAMIKU_OK && zelamiku_thread_exit(own, TOTAL) == ZELAMIKU_OK);
+    MUST(pthread_join(waiter, NULL) == 0 && zelamiku_heap_close(all) == ZELAMIKU_OK);
 }
 
 /* Waits with a deadline, while a sync hangs. Others go on meanwhile, and ask. */
@@ -627,6 +828,86 @@ static void deadlines(void) {
     __atomic_store_n(&syncs_hang, 0, __ATOMIC_SEQ_CST);
     MUST(zelamiku_heap_await_round(all, rounds, ZELAMIKU_NO_DEADLINE, &rounds) == ZELAMIKU_OK);
     MUST(zelamiku_thread_await(own) == ZELAMIKU_OK && zelamiku_thread_durable(own) == 3 && zelamiku_heap_close(all) == ZELAMIKU_OK);
+}
+
+/* ---- sections that only look ---- */
+
+static void look_often(zelamiku_thread own, unsigned sections, unsigned pause) {
+    for (unsigned i = 0; i < sections; i++) {
+        add(own, TOTAL, 0, 0);
+        if (pause > 0) usleep(pause);
+    }
+}
+
+/* Rounds that have ended, once the helper has had time for those that it would make by itself. */
+static uint64_t rounds_at_rest(void) {
+    for (uint64_t before = UINT64_MAX, rounds;; before = rounds) {
+        rounds = stats().rounds;
+        if (rounds == before) return rounds;
+        usleep(50000);
+    }
+}
+
+/* What has only been looked at makes no round by the linger; who waits for it makes one. */
+static void looks_make_no_rounds(void) {
+    uint64_t rounds = 0;
+    bool is = true;
+    begin_anew();
+    zelamiku_thread own = begin_thread();
+    add(own, TOTAL, 0, 1);
+    while (zelamiku_thread_durable(own) < 1) usleep(100);
+    uint64_t before = rounds_at_rest();
+    unsigned synced = __atomic_load_n(&syncs, __ATOMIC_SEQ_CST);
+    MUST(stats().last_cause == ZELAMIKU_ROUND_LINGER);
+    look_often(own, 50, 10000);
+    MUST(rounds_at_rest() == before && __atomic_load_n(&syncs, __ATOMIC_SEQ_CST) == synced && zelamiku_thread_durable(own) == 1);
+    MUST(zelamiku_thread_await(own) == ZELAMIKU_OK && zelamiku_thread_durable(own) == 51 && stats().rounds == before + 1);
+    /* Also who doesn't sleep for it, and who waits for a round alone. */
+    look_often(own, 5, 5000);
+    MUST(zelamiku_thread_await_until(own, ZELAMIKU_ALL_SECTIONS, 0, &is) == ZELAMIKU_OK);
+    while (zelamiku_thread_durable(own) < 56) usleep(100);
+    look_often(own, 5, 5000);
+    MUST(zelamiku_heap_await_round(all, rounds_at_rest(), ZELAMIKU_NO_DEADLINE, &rounds) == ZELAMIKU_OK && zelamiku_thread_durable(own) == 61);
+    /* They go with the round of a section that has stored, before or after them. */
+    zelamiku_thread other = begin_thread();
+    look_often(own, 5, 5000);
+    add(other, LIST, COUNT, 1);
+    look_often(own, 1, 0);
+    while (zelamiku_thread_durable(other) < 1 || zelamiku_thread_durable(own) < 66) usleep(100);
+    MUST(rounds_at_rest() <= rounds + 2 && stats().last_cause == ZELAMIKU_ROUND_LINGER);
+    /* What has no room asks for rounds. */
+    look_often(own, 20000, 0);
+    MUST(zelamiku_thread_durable(own) > 10000 && zelamiku_heap_close(all) == ZELAMIKU_OK);
+}
+
+/* A section that has looked at what another one has stored is durable only with that one. */
+static void looks_depend_on_stores(void) {
+    (void)begin_by(4000, 0, UINT32_MAX);
+    zelamiku_thread own = begin_thread(), other = begin_thread();
+    uint64_t rounds = rounds_at_rest();
+    for (unsigned i = 1; i <= 20; i++) {
+        add(other, TOTAL, 0, 1);
+        add(own, TOTAL, 0, 0);
+        MUST(zelamiku_thread_await(own) == ZELAMIKU_OK && zelamiku_thread_durable(own) == i && zelamiku_thread_durable(other) == i);
+    }
+    MUST(stats().rounds == rounds + 20 && zelamiku_heap_close(all) == ZELAMIKU_OK);
+}
+
+/* A wait ends a section: what was stored before it is durable in time, and only that. */
+static void waits_end_what_is_stored(void) {
+    begin_anew();
+    zelamiku_thread own = begin_thread();
+    pthread_t waiter;
+    uint32_t woken = 0;
+    holder = begin_thread();
+    MUST(pthread_create(&waiter, NULL, wait_by_holder, NULL) == 0);
+    await_waiter(own);
+    while (zelamiku_thread_durable(holder) < 1) usleep(100);
+    uint64_t rounds = rounds_at_rest();
+    MUST(zelamiku_thread_enter(own, TOTAL) == ZELAMIKU_OK && zelamiku_thread_notify(own, TOTAL, &woken) == ZELAMIKU_OK);
+    usleep(20000);
+    MUST(rounds_at_rest() == rounds && zelamiku_thread_exit(own, TOTAL) == ZELAMIKU_OK);
+    MUST(pthread_join(waiter, NULL) == 0 && zelamiku_heap_close(all) == ZELAMIKU_OK);
 }
 
 /* Whether the thread ends within a minute: one that doesn't hangs. */
@@ -671,8 +952,6 @@ static void ends_beside_failing_syncs(void) {
 }
 
 /* ---- the end ---- */
-
-static zelamiku_thread holder;
 
 static void *want_monitor(void *data) {
     zelamiku_thread own = begin_thread();
@@ -766,6 +1045,233 @@ static void stops_in_full_run(void) {
     }
 }
 
+/* ---- calls that are underway at the end ---- */
+
+/* Starts a thread whose call isn't run from where it is to sleep on. */
+static pthread_t hold_back(void *(*body)(void *)) {
+    pthread_t thread;
+    unsigned before = __atomic_load_n(&held_back, __ATOMIC_SEQ_CST);
+    __atomic_store_n(&holds_back, 1, __ATOMIC_SEQ_CST);
+    MUST(pthread_create(&thread, NULL, body, NULL) == 0);
+    while (__atomic_load_n(&held_back, __ATOMIC_SEQ_CST) == before) usleep(100);
+    return thread;
+}
+
+static zelamiku_status let_go_on(pthread_t thread) {
+    void *answer = NULL;
+    __atomic_store_n(&holds_back, 0, __ATOMIC_SEQ_CST);
+    MUST(ends(thread, &answer));
+    return (zelamiku_status)(uintptr_t)answer;
+}
+
+static void *await_a_round(void *data) {
+    uint64_t rounds = 0;
+    is_held_back = __atomic_load_n(&holds_back, __ATOMIC_SEQ_CST);
+    (void)data;
+    return (void *)(uintptr_t)zelamiku_heap_await_round(all, UINT64_MAX, ZELAMIKU_NO_DEADLINE, &rounds);
+}
+
+static void *copy_held_back(void *data) {
+    is_held_back = true;
+    (void)data;
+    return (void *)(uintptr_t)zelamiku_heap_copy(all, "copy");
+}
+
+/* Returns while the calls of a round hang that takes a section of this thread. */
+static void begin_a_hanging_round(zelamiku_thread own) {
+    unsigned before = __atomic_load_n(&syncs, __ATOMIC_SEQ_CST);
+    bool is = true;
+    __atomic_store_n(&syncs_hang, 1, __ATOMIC_SEQ_CST);
+    add(own, TOTAL, 0, 1);
+    MUST(zelamiku_thread_await_until(own, ZELAMIKU_ALL_SECTIONS, 0, &is) == ZELAMIKU_OK && !is);
+    while (__atomic_load_n(&syncs, __ATOMIC_SEQ_CST) == before) usleep(100);
+}
+
+static zelamiku_thread awaited;
+
+static void *await_held_back(void *data) {
+    is_held_back = true;
+    (void)data;
+    return (void *)(uintptr_t)zelamiku_thread_await(awaited);
+}
+
+/* Opens heaps and closes them, more than there are places. */
+static void use_all_places(void) {
+    zelamiku_plan plan = {.fields = FIELDS, .count = 3, .objects = 2, .lanes = 1, .capacity = 2000, .ring = 4096};
+    zelamiku_heap other;
+    for (int i = 0; i < ZELAMIKU_MOST_HEAPS + 10; i++)
+        MUST(zelamiku_heap_open(&other, "other.heap", &plan, NULL) == ZELAMIKU_OK && zelamiku_heap_close(other) == ZELAMIKU_OK);
+    MUST(unlink("other.heap") == 0);
+}
+
+/* Who sleeps until a round, or until it may lead, is told of a close, also where nothing had to be made durable. */
+static void told_of_a_close(void) {
+    pthread_t thread;
+    void *answer;
+    begin_anew();
+    MUST(pthread_create(&thread, NULL, await_a_round, NULL) == 0);
+    while (stats().awaiting == 0) usleep(100);
+    MUST(zelamiku_heap_close(all) == ZELAMIKU_OK && ends(thread, &answer) && (uintptr_t)answer == ZELAMIKU_CLOSED);
+    begin_anew();
+    zelamiku_thread own = begin_thread();
+    add(own, TOTAL, 0, 1);
+    MUST(zelamiku_thread_await(own) == ZELAMIKU_OK);
+    begin_a_hanging_round(own);
+    thread = hold_back(copy_held_back);
+    __atomic_store_n(&syncs_hang, 0, __ATOMIC_SEQ_CST);
+    MUST(zelamiku_heap_close(all) == ZELAMIKU_OK && let_go_on(thread) == ZELAMIKU_CLOSED);
+}
+
+/* While a call isn't run, its heap's place serves no other heap, so that the call answers that its own has ended. */
+static void calls_keep_their_place(void) {
+    begin_anew();
+    pthread_t thread = hold_back(await_a_round);
+    MUST(zelamiku_heap_close(all) == ZELAMIKU_OK);
+    use_all_places();
+    MUST(let_go_on(thread) == ZELAMIKU_CLOSED);
+    begin_anew();
+    awaited = begin_thread();
+    begin_a_hanging_round(begin_thread());
+    add(awaited, LIST, COUNT, 1);
+    thread = hold_back(await_held_back);
+    __atomic_store_n(&syncs_hang, 0, __ATOMIC_SEQ_CST);
+    MUST(zelamiku_heap_close(all) == ZELAMIKU_OK);
+    use_all_places();
+    MUST(let_go_on(thread) == ZELAMIKU_OK);
+    MUST(zelamiku_thread_await(awaited) == ZELAMIKU_OK);
+    /* No call is underway: the place serves others. */
+    use_all_places();
+    MUST(zelamiku_thread_await(awaited) == ZELAMIKU_NOTHING);
+}
+
+/* Handles of lanes that the place's next heap doesn't have are those of nobody. */
+static void places_with_fewer_lanes(void) {
+    zelamiku_thread before[LANES];
+    begin_anew();
+    for (unsigned i = 0; i < LANES; i++) before[i] = begin_thread();
+    for (unsigned i = 0; i < LANES; i++) add(before[i], TOTAL, 0, 1);
+    MUST(zelamiku_heap_close(all) == ZELAMIKU_OK);
+    use_all_places();
+    for (unsigned i = 0; i < LANES; i++) {
+        MUST(zelamiku_thread_sections(before[i]) == 0 && zelamiku_thread_lane(before[i]) == ZELAMIKU_NOBODY);
+        MUST(zelamiku_thread_await(before[i]) == ZELAMIKU_NOTHING && zelamiku_thread_enter(before[i], TOTAL) == ZELAMIKU_NOTHING);
+        MUST(zelamiku_thread_end(before[i]) == ZELAMIKU_NOTHING);
+    }
+}
+
+/* ---- threads that wait for each other ---- */
+
+enum { MOST_IN_CIRCLE = 3 };
+
+static zelamiku_thread in_circle[MOST_IN_CIRCLE];
+static unsigned circle_size, have_first;
+
+/* Takes its own monitor, and once all have theirs that of the next thread. The first has a deadline, of an hour. */
+static void *close_circle(void *data) {
+    unsigned i = (unsigned)(uintptr_t)data;
+    zelamiku_thread own = in_circle[i];
+    MUST(zelamiku_thread_enter(own, i) == ZELAMIKU_OK);
+    __atomic_add_fetch(&have_first, 1, __ATOMIC_SEQ_CST);
+    while (__atomic_load_n(&have_first, __ATOMIC_SEQ_CST) < circle_size) usleep(100);
+    uint64_t deadline = i == 0 ? zelamiku_now() + 3600000000000 : ZELAMIKU_NO_DEADLINE;
+    return (void *)(uintptr_t)zelamiku_thread_enter_until(own, (i + 1) % circle_size, deadline);
+}
+
+/* Returns once so many threads sleep for monitors, and somebody can tell who has them. */
+static void await_waits(size_t count, zelamiku_wait *waits) {
+    for (size_t told = 0, known = 0; told != count || known != count; usleep(1000)) {
+        MUST(zelamiku_heap_waits(all, waits, ZELAMIKU_MOST_LANES, &told) == ZELAMIKU_OK);
+        known = 0;
+        for (size_t i = 0; i < told; i++) known += waits[i].owner != ZELAMIKU_NOBODY;
+    }
+}
+
+/* All lanes are in the circle, so that only who sleeps can tell who has what. It is told once, and nothing is done to it. */
+static void circles(unsigned size) {
+    zelamiku_plan plan = {.fields = FIELDS, .count = 3, .objects = MOST_IN_CIRCLE, .lanes = size, .log = count_lines, .log_of = logged};
+    pthread_t threads[MOST_IN_CIRCLE];
+    zelamiku_wait waits[ZELAMIKU_MOST_LANES];
+    void *answer;
+    MUST(unlink("threads.heap") == 0 || errno == ENOENT);
+    MUST(zelamiku_heap_open(&all, "threads.heap", &plan, NULL) == ZELAMIKU_OK);
+    unsigned warnings = __atomic_load_n(&logged[ZELAMIKU_LOG_WARNING], __ATOMIC_SEQ_CST);
+    circle_size = size;
+    have_first = 0;
+    for (unsigned i = 0; i < size; i++) in_circle[i] = begin_thread();
+    for (unsigned i = 0; i < size; i++) MUST(pthread_create(&threads[i], NULL, close_circle, (void *)(uintptr_t)i) == 0);
+    await_waits(size, waits);
+    for (unsigned i = 0; i < size; i++)
+        MUST(waits[i].lane == i && waits[i].object == (i + 1) % size && waits[i].owner == (i + 1) % size && waits[i].in_circle == 1);
+    while (__atomic_load_n(&logged[ZELAMIKU_LOG_WARNING], __ATOMIC_SEQ_CST) == warnings) usleep(1000);
+    usleep(500000);
+    MUST(__atomic_load_n(&logged[ZELAMIKU_LOG_WARNING], __ATOMIC_SEQ_CST) == warnings + 1);
+    pthread_mutex_lock(&warning_mutex);
+    MUST(strstr(last_warning, "wait for each other") != NULL);
+    for (unsigned i = 0; i < size; i++) {
+        char part[80];
+        (void)snprintf(part, sizeof part, "lane %u for object %u of lane %u", i, (i + 1) % size, (i + 1) % size);
+        MUST(strstr(last_warning, part) != NULL);
+    }
+    pthread_mutex_unlock(&warning_mutex);
+    await_waits(size, waits);
+    MUST(zelamiku_heap_abandon(all) == ZELAMIKU_OK);
+    for (unsigned i = 0; i < size; i++) MUST(ends(threads[i], &answer) && (uintptr_t)answer == ZELAMIKU_ABANDONED);
+    for (unsigned i = 0; i < size; i++) MUST(zelamiku_thread_end(in_circle[i]) == ZELAMIKU_ABANDONED);
+}
+
+/* Threads that sleep for one that goes on are no circle. One that was notified wants the monitor again, and one that wasn't wants none. */
+static void waits_are_listed(void) {
+    begin_anew();
+    zelamiku_thread own = begin_thread();
+    zelamiku_wait waits[ZELAMIKU_MOST_LANES];
+    pthread_t waiter, wants;
+    uint32_t woken = ZELAMIKU_NOBODY;
+    size_t told = 9;
+    unsigned warnings = __atomic_load_n(&logged[ZELAMIKU_LOG_WARNING], __ATOMIC_SEQ_CST);
+    MUST(zelamiku_heap_waits(all, waits, ZELAMIKU_MOST_LANES, &told) == ZELAMIKU_OK && told == 0);
+    MUST(pthread_create(&waiter, NULL, wait_once, NULL) == 0);
+    await_waiter(own);
+    MUST(zelamiku_heap_waits(all, waits, ZELAMIKU_MOST_LANES, &told) == ZELAMIKU_OK && told == 0);
+    MUST(zelamiku_thread_enter(own, TOTAL) == ZELAMIKU_OK);
+    MUST(pthread_create(&wants, NULL, want_monitor, NULL) == 0);
+    await_waits(1, waits);
+    MUST(waits[0].object == TOTAL && waits[0].owner == zelamiku_thread_lane(own) && waits[0].in_circle == 0 && waits[0].lane != waits[0].owner);
+    MUST(zelamiku_thread_notify(own, TOTAL, &woken) == ZELAMIKU_OK && woken < LANES);
+    await_waits(2, waits);
+    for (int i = 0; i < 2; i++) MUST(waits[i].object == TOTAL && waits[i].owner == zelamiku_thread_lane(own) && waits[i].in_circle == 0);
+    MUST(waits[0].lane < waits[1].lane && (waits[0].lane == woken || waits[1].lane == woken));
+    MUST(zelamiku_heap_waits(all, waits, 1, &told) == ZELAMIKU_OK && told == 1);
+    MUST(zelamiku_heap_waits(all, NULL, 0, &told) == ZELAMIKU_OK && told == 0);
+    usleep(1200000);
+    MUST(__atomic_load_n(&logged[ZELAMIKU_LOG_WARNING], __ATOMIC_SEQ_CST) == warnings);
+    MUST(zelamiku_heap_abandon(all) == ZELAMIKU_OK && ends(waiter, NULL) && ends(wants, NULL));
+    MUST(zelamiku_heap_waits(all, waits, 1, &told) == ZELAMIKU_ABANDONED && told == 0);
+}
+
+static void *look_at_waits(void *data) {
+    zelamiku_wait waits[ZELAMIKU_MOST_LANES];
+    size_t told = 0;
+    while (!stop_asking) {
+        MUST(zelamiku_heap_waits(all, waits, ZELAMIKU_MOST_LANES, &told) == ZELAMIKU_OK && told <= LANES);
+        for (size_t i = 0; i < told; i++) MUST(waits[i].owner != waits[i].lane && waits[i].in_circle == 0);
+    }
+    return data;
+}
+
+/* Who waits is asked for while threads do all that they do. */
+static void waits_in_full_run(void) {
+    pthread_t thread;
+    begin_anew();
+    stop_asking = false;
+    MUST(pthread_create(&thread, NULL, look_at_waits, NULL) == 0);
+    run(count, LANES);
+    run(pass, LANES);
+    stop_asking = true;
+    MUST(pthread_join(thread, NULL) == 0 && zelamiku_heap_close(all) == ZELAMIKU_OK);
+    (void)begin_again(4000);
+    MUST(look(TOTAL, 0) == LANES * ROUNDS && look(LIST, TAKEN) == LANES / 2 * ROUNDS && zelamiku_heap_close(all) == ZELAMIKU_OK);
+}
+
 /* ---- copies ---- */
 
 static void *copy_again(void *data) {
@@ -820,7 +1326,7 @@ static void after_a_session(void) {
     zelamiku_handle handle = ZELAMIKU_NONE, session = ZELAMIKU_NONE;
     uint64_t number = 0;
     pthread_t waiter;
-    uint32_t woken = 0;
+    uint64_t woken = 0;
     MUST(zelamiku_format(&handle, 2, FIELDS, 3, LANES, 2000, &number) == ZELAMIKU_OK);
     MUST(zelamiku_session(&handle, &session) == ZELAMIKU_OK && zelamiku_try_enter(&session, LIST) == ZELAMIKU_OK);
     MUST(zelamiku_store(&session, COUNT, 7) == ZELAMIKU_OK && zelamiku_exit(&session, LIST) == ZELAMIKU_OK);
@@ -834,9 +1340,92 @@ static void after_a_session(void) {
     MUST(pthread_create(&waiter, NULL, wait_once, NULL) == 0);
     await_waiter(own);
     MUST(zelamiku_thread_enter(own, TOTAL) == ZELAMIKU_OK);
-    MUST(zelamiku_thread_notify_all(own, TOTAL, &woken) == ZELAMIKU_OK && woken == 1 && zelamiku_thread_exit(own, TOTAL) == ZELAMIKU_OK);
+    MUST(zelamiku_thread_notify_all(own, TOTAL, &woken) == ZELAMIKU_OK);
+    /* One lane, and not its own. */
+    MUST(woken != 0 && (woken & (woken - 1)) == 0 && woken != (uint64_t)1 << zelamiku_thread_lane(own));
+    MUST(zelamiku_thread_exit(own, TOTAL) == ZELAMIKU_OK);
     MUST(ends(waiter, NULL) && look(LIST, COUNT) == 8);
     MUST(zelamiku_thread_end(own) == ZELAMIKU_OK && zelamiku_heap_close(all) == ZELAMIKU_OK);
+}
+
+/* ---- slices ---- */
+
+static zelamiku_heap open_keeping(uint32_t keeps_slice) {
+    zelamiku_plan plan = {.fields = FIELDS, .count = 3, .objects = 2, .lanes = LANES, .keeps_slice = keeps_slice};
+    zelamiku_heap opened;
+    MUST(zelamiku_heap_open(&opened, "slices.heap", &plan, NULL) == ZELAMIKU_OK);
+    return opened;
+}
+
+/* A thread that awaits, of which it is told whether its slice was its own before. */
+static void *await_with_slice(void *data) {
+    uint64_t before = (uintptr_t)data;
+    inherited_slice = before;
+    zelamiku_thread own = begin_thread();
+    for (int i = 0; i < 2; i++) {
+        add(own, TOTAL, 0, 1);
+        MUST(zelamiku_thread_await(own) == ZELAMIKU_OK);
+    }
+    MUST(zelamiku_thread_end(own) == ZELAMIKU_OK);
+    return (void *)(uintptr_t)own_slice;
+}
+
+static uint64_t slice_after(uint64_t before) {
+    pthread_t thread;
+    void *answer;
+    MUST(pthread_create(&thread, NULL, await_with_slice, (void *)(uintptr_t)before) == 0 && pthread_join(thread, &answer) == 0);
+    return (uintptr_t)answer;
+}
+
+static void *await_round_with_slice(void *data) {
+    uint64_t rounds = 0;
+    MUST(zelamiku_heap_await_round(all, UINT64_MAX, 1, &rounds) == ZELAMIKU_OK);
+    (void)data;
+    return (void *)(uintptr_t)own_slice;
+}
+
+/* Until the helper has asked for its slice so often. */
+static void await_asked(unsigned count) {
+    while (__atomic_load_n(&slices_asked, __ATOMIC_SEQ_CST) < count) usleep(100);
+}
+
+/* A thread that waits for rounds, and the helper, ask once for a short slice, where they have the system's. With a slice of one's own, where
+ * the plan says so, on an older system and under a filter nothing changes. */
+static void slices(void) {
+    MUST(unlink("slices.heap") == 0 || errno == ENOENT);
+    slices_asked = 0;
+    all = open_keeping(0);
+    await_asked(2);
+    MUST(slice_after(0) == SHORT_SLICE && slices_asked == 4);
+    MUST(slice_after(5000000) == 5000000 && slices_asked == 6);
+    pthread_t thread;
+    void *answer;
+    MUST(pthread_create(&thread, NULL, await_round_with_slice, NULL) == 0 && pthread_join(thread, &answer) == 0);
+    MUST((uintptr_t)answer == SHORT_SLICE && slices_asked == 8);
+    usual_slice = 0;
+    MUST(slice_after(0) == 0 && slices_asked == 8);
+    usual_slice = 2100000;
+    filter = 2;
+    MUST(slice_after(0) == 0 && slices_asked == 8);
+    filter = 0;
+    MUST(zelamiku_heap_close(all) == ZELAMIKU_OK);
+    all = open_keeping(1);
+    MUST(slice_after(0) == 0 && zelamiku_heap_close(all) == ZELAMIKU_OK && slices_asked == 8);
+    MUST(unlink("slices.heap") == 0);
+}
+
+/* Who looks for a round's end, and has let somebody else run, keeps all from looking for a while. */
+static void looks_that_last(void) {
+    heap *of = &heaps[0]; /* no heap is there */
+    of->processors = 4;
+    of->looks = LOOKS;
+    of->rounds = 7;
+    uint64_t now = zelamiku_now();
+    MUST(zelamiku_now() - now < SECOND);
+    look_for_round(of, of->told, now - LOST_LOOK - 1, now + SECOND);
+    MUST(of->blind == 7 + BLIND && zelamiku_now() - now < SECOND / 2);
+    of->blind = of->processors = 0;
+    of->looks = of->rounds = 0;
 }
 
 /* ---- turns, and rest ---- */
@@ -905,7 +1494,7 @@ static void rest_for(unsigned milliseconds) {
     usleep(milliseconds * 1000);
     printf("at rest for %u ms: %.6f s of processor time\n", milliseconds, processor_time() - begun);
     MUST(__atomic_load_n(&gone_on, __ATOMIC_SEQ_CST) == before && __atomic_load_n(&asleep, __ATOMIC_SEQ_CST) == 2);
-    MUST(zelamiku_thread_enter(own, TOTAL) == ZELAMIKU_OK && zelamiku_thread_notify(own, TOTAL, &woken) == ZELAMIKU_OK && woken == 1);
+    MUST(zelamiku_thread_enter(own, TOTAL) == ZELAMIKU_OK && zelamiku_thread_notify(own, TOTAL, &woken) == ZELAMIKU_OK && woken < LANES);
     MUST(zelamiku_thread_exit(own, TOTAL) == ZELAMIKU_OK && pthread_join(waiter, NULL) == 0 && zelamiku_heap_close(all) == ZELAMIKU_OK);
 }
 
@@ -922,22 +1511,39 @@ int main(int argc, char **argv) {
     bounded_rounds();
     bounds();
     refusals();
+    asks_for_others();
     enters_with_deadlines();
+    tells_earlier_sections();
     failing_writes();
     writes_again();
     failing_syncs();
+    cut_off();
+    awaits_in_sections();
     deadlines();
+    looks_make_no_rounds();
+    looks_depend_on_stores();
+    waits_end_what_is_stored();
     ends_beside_failing_syncs();
     stops(ZELAMIKU_CLOSED);
     stops(ZELAMIKU_ABANDONED);
     closes_at_once();
     stops_in_full_run();
+    told_of_a_close();
+    calls_keep_their_place();
+    places_with_fewer_lanes();
+    circles(2);
+    circles(3);
+    waits_are_listed();
+    waits_in_full_run();
     copies();
     after_a_session();
+    slices();
+    looks_that_last();
     turns(0);
     for (int i = 0; i < 5; i++) turns(20);
     rest_for(argc > 2 ? (unsigned)strtoul(argv[2], NULL, 10) : 200);
-    printf("threads: lives of %d threads, room, rings, bounds, refusals, deadlines, failing writes and syncs, stops, copies, sessions before, turns, rest\n",
+    printf("threads: lives of %d threads, room, rings, bounds, refusals, deadlines, failing writes and syncs, looks, stops, calls underway,"
+           " circles, copies, sessions before, turns, rest\n",
            LANES);
     return 0;
 }

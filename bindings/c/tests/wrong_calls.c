@@ -167,6 +167,91 @@ static void other_plans(void) {
     IS(zelamiku_heap_close(heap), OK, "");
 }
 
+/* A path without a heap is refused where the plan says that there must be one, and nothing is made of it. */
+static void must_exist(void) {
+    zelamiku_heap heap;
+    zelamiku_report report;
+    zelamiku_plan strict = plan;
+    static const char ZEROS[300], CUT_OFF[300] = "MONIHEAP", NONE[] = "there is no heap; mount its volume, or open without must_exist to make one";
+    strict.must_exist = 1;
+    IS(zelamiku_heap_open(&heap, "absent", &strict, &report), NOT_FORMATTED, "absent: open: there is no heap: No such file or directory; mount its");
+    MUST(zelamiku_heap_error() == ENOENT && access("absent", F_OK) != 0 && report.is_made == 0);
+    IS(zelamiku_heap_open(&heap, "no such folder/heap", &strict, NULL), NOT_FORMATTED, "there is no heap: No such file or directory; mount its");
+    write_file("empty", "", 0);
+    IS(zelamiku_heap_open(&heap, "empty", &strict, NULL), NOT_FORMATTED, NONE);
+    MUST(zelamiku_heap_error() == 0);
+    must_have("empty", "", 0);
+    write_file("empty", ZEROS, 200);
+    IS(zelamiku_heap_open(&heap, "empty", &strict, NULL), NOT_FORMATTED, NONE);
+    must_have("empty", ZEROS, 200);
+    write_file("empty", CUT_OFF, 200);
+    IS(zelamiku_heap_open(&heap, "empty", &strict, NULL), NOT_FORMATTED, NONE);
+    must_have("empty", CUT_OFF, 200);
+    IS(zelamiku_heap_open(&heap, "notes", &strict, NULL), NOT_FORMATTED, "notes: open: it has no heap, and isn't empty");
+    MUST(access("empty.heapctl-new", F_OK) != 0 && access("absent.heapctl-new", F_OK) != 0);
+    IS(zelamiku_heap_open(&heap, "empty", &plan, &report), OK, "");
+    MUST(report.is_made == 1 && zelamiku_heap_close(heap) == ZELAMIKU_OK);
+    IS(zelamiku_heap_open(&heap, "empty", &strict, &report), OK, "");
+    MUST(report.is_made == 0 && zelamiku_heap_close(heap) == ZELAMIKU_OK);
+}
+
+/* Opens the heap, and sees what the report says of it. */
+static void look_at_fingerprint(const zelamiku_plan *of, zelamiku_status expected, uint32_t difference, uint64_t has, uint64_t planned, int line) {
+    zelamiku_heap heap;
+    zelamiku_report report;
+    char text[100] = "";
+    if (difference == ZELAMIKU_DIFFERENT_FINGERPRINT)
+        (void)snprintf(text, sizeof text, "the plan's fingerprint is %llu, the heap has %llu: its names or their order differ", (unsigned long long)planned,
+                       (unsigned long long)has);
+    zelamiku_status status = zelamiku_heap_open(&heap, "fingerprint", of, &report);
+    look_at(status, expected, text, "the open of a heap with a fingerprint", line);
+    bool is_so = report.difference == difference && report.has == has && report.planned == planned;
+    if (expected == ZELAMIKU_OK) is_so = is_so && report.told.found.fields == of->count;
+    if (!is_so) wrong++, fprintf(stderr, "line %d: difference %u, %llu and %llu\n", line, report.difference, (unsigned long long)report.has,
+                                 (unsigned long long)report.planned);
+    if (status == ZELAMIKU_OK) MUST(zelamiku_heap_close(heap) == ZELAMIKU_OK);
+}
+
+#define FINGERPRINT(plan, status, difference, has, planned) \
+    look_at_fingerprint((plan), ZELAMIKU_##status, ZELAMIKU_##difference, (has), (planned), __LINE__)
+
+static void fingerprints(void) {
+    zelamiku_plan named = plan, other = plan, more = plan;
+    zelamiku_field longer[FIELDS + 1], *most = (zelamiku_field *)calloc(16384, sizeof *most);
+    zelamiku_heap heap;
+    named.fingerprint = 77, other.fingerprint = UINT64_MAX;
+    FINGERPRINT(&named, OK, SAME, 0, 0); /* made */
+    FINGERPRINT(&named, OK, SAME, 0, 0);
+    FINGERPRINT(&other, OTHER_HEAP, DIFFERENT_FINGERPRINT, 77, UINT64_MAX);
+    FINGERPRINT(&plan, OTHER_HEAP, DIFFERENT_COUNT, FIELDS + 1, FIELDS);
+    /* What else differs is told first. */
+    memcpy(longer, fields, sizeof fields);
+    longer[FIELDS] = (zelamiku_field){1, 1, 0, 0};
+    more.fields = longer, more.count = FIELDS + 1, more.fingerprint = 5;
+    FINGERPRINT(&more, OTHER_HEAP, DIFFERENT_OWNER, 0, 1);
+    other.lanes = 7;
+    FINGERPRINT(&other, OTHER_HEAP, DIFFERENT_LANES, 3, 7);
+    /* A field more, which could be the fingerprint of the plan before. */
+    longer[FIELDS] = (zelamiku_field){0, 0, 0, 1};
+    FINGERPRINT(&more, OTHER_HEAP, DIFFERENT_FINGERPRINT, 77, 5);
+    longer[FIELDS].first = 77;
+    FINGERPRINT(&more, OK, SAME, 0, 0);
+    more.fingerprint = 0;
+    FINGERPRINT(&more, OK, SAME, 0, 0);
+    /* A heap without one is any plan's that is its own otherwise. */
+    MUST(unlink("fingerprint") == 0);
+    FINGERPRINT(&plan, OK, SAME, 0, 0);
+    FINGERPRINT(&named, OK, SAME, 0, 0);
+    FINGERPRINT(&more, OTHER_HEAP, DIFFERENT_COUNT, FIELDS, FIELDS + 1);
+    /* One field less may be planned. */
+    MUST(most != NULL);
+    more.fields = most, more.count = 16384, more.fingerprint = 1;
+    IS(zelamiku_heap_open(&heap, "most", &more, NULL), TOO_MANY, "count of fields is 16384 in the plan; it may be 1 to 16383");
+    more.count = 16383;
+    for (unsigned i = 0; i < 2; i++) IS(zelamiku_heap_open(&heap, "most", &more, NULL), OK, ""), IS(zelamiku_heap_close(heap), OK, "");
+    free(most);
+}
+
 static void damaged(void) {
     zelamiku_heap heap;
     zelamiku_report report;
@@ -194,8 +279,9 @@ static void damaged(void) {
 
 /* Each call by a handle that is nothing. */
 static void by_nobody(zelamiku_thread thread, zelamiku_status status, const char *text) {
-    uint64_t value = 1;
+    uint64_t value = 1, lanes = 1;
     uint32_t count = 1;
+    int event = 1;
     bool is = true;
     zelamiku_sight sight;
 #define ANSWERS(call) look_at((call), status, text, #call, __LINE__)
@@ -205,9 +291,10 @@ static void by_nobody(zelamiku_thread thread, zelamiku_status status, const char
     ANSWERS(zelamiku_thread_exit(thread, 0));
     ANSWERS(zelamiku_thread_load(thread, 0, &value));
     ANSWERS(zelamiku_thread_store(thread, 0, 1));
+    ANSWERS(zelamiku_thread_revert(thread));
     ANSWERS(zelamiku_thread_wait(thread, 0));
     ANSWERS(zelamiku_thread_notify(thread, 0, &count));
-    ANSWERS(zelamiku_thread_notify_all(thread, 0, &count));
+    ANSWERS(zelamiku_thread_notify_all(thread, 0, &lanes));
     ANSWERS(zelamiku_thread_take(thread, HEAD, SLOTS, &count));
     ANSWERS(zelamiku_thread_give(thread, HEAD, SLOTS, 0));
     ANSWERS(zelamiku_thread_look(thread, 0, &sight));
@@ -215,8 +302,11 @@ static void by_nobody(zelamiku_thread thread, zelamiku_status status, const char
     if (status == ZELAMIKU_NOTHING) {
         ANSWERS(zelamiku_thread_await(thread));
         ANSWERS(zelamiku_thread_await_until(thread, 3, 1, &is));
+        ANSWERS(zelamiku_thread_event(thread, &event));
+        ANSWERS(zelamiku_thread_ask(thread, &lanes));
+        MUST(event == -1 && lanes == 0);
         MUST(!is && zelamiku_thread_sections(thread) == 0 && zelamiku_thread_durable(thread) == 0);
-        MUST(zelamiku_thread_lane(thread) == ZELAMIKU_NOBODY);
+        MUST(zelamiku_thread_earlier(thread) == 0 && zelamiku_thread_lane(thread) == ZELAMIKU_NOBODY);
     }
     ANSWERS(zelamiku_thread_end(thread));
 }
@@ -231,6 +321,7 @@ static void by_no_heap(zelamiku_heap heap, zelamiku_status status, const char *t
         ANSWERS(zelamiku_heap_stats(heap, &stats));
         ANSWERS(zelamiku_heap_dropped(heap, 0, NULL, 0, &told));
     }
+    ANSWERS(zelamiku_heap_waits(heap, NULL, 0, &told));
     ANSWERS(zelamiku_heap_await_round(heap, 0, 1, &rounds));
     ANSWERS(zelamiku_heap_copy(heap, "copy"));
     ANSWERS(zelamiku_heap_close(heap));
@@ -273,6 +364,9 @@ static void handles(void) {
     IS(zelamiku_heap_copy(heap, NULL), NOTHING, "NULL");
     IS(zelamiku_heap_await_round(heap, 0, 1, NULL), NOTHING, "NULL");
     IS(zelamiku_heap_dropped(heap, 0, NULL, 0, NULL), NOTHING, "NULL");
+    IS(zelamiku_heap_waits(heap, NULL, 0, NULL), NOTHING, "NULL");
+    size_t told = 1;
+    IS(zelamiku_heap_waits(heap, NULL, 1, &told), NOTHING, "NULL");
     IS(zelamiku_heap_close(heap), OK, "");
     by_nobody(own, ZELAMIKU_CLOSED, "handles: ");
     by_nobody(third, ZELAMIKU_CLOSED, "the heap was closed or stopped");
@@ -284,7 +378,7 @@ static void handles(void) {
 static void sections(void) {
     zelamiku_heap heap;
     zelamiku_thread own, other;
-    uint64_t value = 5;
+    uint64_t value = 5, lanes = 5;
     uint32_t count = 5, slot = 0;
     bool is = true;
     MUST(zelamiku_heap_open(&heap, "sections", &plan, NULL) == ZELAMIKU_OK);
@@ -308,15 +402,15 @@ static void sections(void) {
         IS(zelamiku_thread_wait(own, OBJECTS), UNKNOWN_OBJECT, "object 20");
         IS(zelamiku_thread_notify(own, 0, &count), NOT_HELD, "object 0");
         IS(zelamiku_thread_notify(own, OBJECTS, &count), UNKNOWN_OBJECT, "object 20");
-        IS(zelamiku_thread_notify_all(own, 0, &count), NOT_HELD, "object 0");
-        IS(zelamiku_thread_notify_all(own, OBJECTS, &count), UNKNOWN_OBJECT, "object 20");
+        IS(zelamiku_thread_notify_all(own, 0, &lanes), NOT_HELD, "object 0");
+        IS(zelamiku_thread_notify_all(own, OBJECTS, &lanes), UNKNOWN_OBJECT, "object 20");
         IS(zelamiku_thread_take(own, HEAD, SLOTS, &slot), NOT_HELD, "4");
         IS(zelamiku_thread_give(own, HEAD, SLOTS, 0), NOT_HELD, "");
         IS(zelamiku_thread_take(own, 99, SLOTS, &slot), UNKNOWN_FIELD, "99");
         IS(zelamiku_thread_enter(own, OBJECTS), UNKNOWN_OBJECT, "sections: enter object 20");
         IS(zelamiku_thread_try_enter(own, UINT32_MAX), UNKNOWN_OBJECT, "object 4294967295");
         IS(zelamiku_thread_enter_until(own, OBJECTS, 0), UNKNOWN_OBJECT, "object 20");
-        MUST(value == 0 && count == 0 && slot == ZELAMIKU_NO_SLOT);
+        MUST(value == 0 && count == ZELAMIKU_NOBODY && lanes == 0 && slot == ZELAMIKU_NO_SLOT);
     }
     IS(zelamiku_thread_end(own), UNFINISHED, "sections: end: the thread holds a monitor; exit it before");
     IS(zelamiku_heap_close(heap), RUNNING, "sections: close: a section is open or a thread waits");
@@ -540,8 +634,15 @@ int main(int argc, char **argv) {
     bad_paths();
     other_files();
     other_plans();
+    must_exist();
+    fingerprints();
     damaged();
     handles();
+    sections();
+    limits();
+    /* The same in a heap that keeps what its sections change. */
+    plan.reverts = 1;
+    MUST(unlink("sections") == 0 && unlink("limits") == 0);
     sections();
     limits();
     copies();

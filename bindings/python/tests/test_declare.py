@@ -8,7 +8,7 @@ from zelamiku.declare import MOST
 
 
 class Stores:
-    """Stands for a thread's session: fields are kept in a list, by their numbers."""
+    """Stands for a thread's lane: fields are kept in a list, by their numbers."""
 
     def __init__(self, fields: list[int]) -> None:
         self.fields = fields
@@ -28,7 +28,7 @@ class Own:
     link = Link()
 
     def __init__(self, fields: list[int]) -> None:
-        self.session = Stores(fields)
+        self.lane = Stores(fields)
 
 
 def bound(cls, fields, numbers):
@@ -138,7 +138,7 @@ class Classes(unittest.TestCase):
         for wrong in ("past", "nothing"):
             with self.assertRaises(AttributeError):
                 setattr(it, wrong, 1)
-        self.assertEqual(it._own.session.fields, [0] * 4)
+        self.assertEqual(it._own.lane.fields, [0] * 4)
 
     def test_bases_come_first(self):
         class Named(zelamiku.Object):

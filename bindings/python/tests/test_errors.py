@@ -46,9 +46,13 @@ class Kinds(unittest.TestCase):
             (zelamiku.OutOfRange, ValueError),
             (zelamiku.BadPlan, ValueError),
             (zelamiku.TimedOut, TimeoutError),
+            (zelamiku.NoHeap, FileNotFoundError),
             (zelamiku.NoMemory, MemoryError),
             (zelamiku.Closed, zelamiku.Stopped),
             (zelamiku.Busy, zelamiku.OpenError),
+            (zelamiku.NoHeap, zelamiku.OpenError),
+            (zelamiku.Reverted, zelamiku.Refused),
+            (zelamiku.NotReverted, zelamiku.Refused),
             (zelamiku.WriteFailed, zelamiku.Refused),
         ):
             self.assertTrue(issubclass(kind, base) and issubclass(kind, zelamiku.Error))

@@ -1,7 +1,9 @@
 """Heaps that are made, used, closed and opened again."""
+import errno
 import gc
 import os
 import threading
+import time
 import unittest
 import warnings
 
@@ -144,7 +146,8 @@ class Openings(OnFile):
         cases = [
             (dict(alice=Account, bob=Account, lanes=5), r"it has 4 lanes, and 5 are asked for; .*heapctl"),
             (dict(alice=Account, lanes=2), r"it has 2 objects, and declared are 1: alice;"),
-            (dict(alice=Account, bob=Two, lanes=4), r"it has 2 fields, and declared are 3: 1 of alice, 2 of bob;"),
+            (dict(alice=Account, bob=Two, lanes=4), r"bob\.other \(field 2\): it has it in .*, or it is the fingerprint of a heap of 2 fields;"),
+            (dict(alice=Two, bob=Two, lanes=4), r"it has 3 fields \(a fingerprint counts as one\), and declared are 4: 2 of alice, 2 of bob;"),
             (dict(alice=Two, bob=Bare, lanes=4), r"alice\.other \(field 1\): it has it in object 1 \(bob\), and declared is object 0 \(alice\);"),
             (dict(alice=Account, bob=Transient, lanes=1), r"bob\.balance \(field 1\): there it is durable, and declared as transient;"),
             (dict(alice=Account, bob=Guarded, lanes=4), r"bob\.balance \(field 1\): there object 1 \(bob\) guards it, and declared is object 0 \(alice\);"),
@@ -154,6 +157,100 @@ class Openings(OnFile):
                 self.open(**declared)
         with open(self.path, "rb") as file:
             self.assertEqual(file.read(), before)
+
+    def test_names_in_another_order_are_another_heap(self):
+        class Limited(zelamiku.Object):
+            balance = zelamiku.Field(first=5)
+            limit = zelamiku.Field(first=1_000_000)
+
+        class Swapped(zelamiku.Object):
+            limit = zelamiku.Field(first=1_000_000)
+            balance = zelamiku.Field(first=5)
+
+        class Renamed(zelamiku.Object):
+            balance = zelamiku.Field(first=5)
+            most = zelamiku.Field(first=1_000_000)
+
+        self.open(alice=Limited, bob=Limited).close()
+        with open(self.path, "rb") as file:
+            before = file.read()
+        cases = [
+            (dict(bob=Limited, alice=Limited), "other names or in another order.*: bob and alice the other way round;"),
+            (dict(alice=Swapped, bob=Swapped), "other names or in another order.*: Swapped.limit and Swapped.balance the other way round;"),
+            (dict(alice=Renamed, bob=Renamed), r"of fingerprint 0x[0-9a-f]+ and not 0x[0-9a-f]+; .*only renamed.*fingerprint=0x[0-9a-f]+"),
+            (dict(alice=Limited, bob=Limited, fingerprint=7), "and not 0x7;"),
+            (dict(alice=Limited, bob=Limited, fingerprint=None), r"it has 5 fields \(a fingerprint counts as one\), and declared are 4"),
+        ]
+        for declared, text in cases:
+            with self.subTest(text), self.assertRaisesRegex(zelamiku.OtherHeap, text):
+                self.open(**declared)
+        with open(self.path, "rb") as file:
+            self.assertEqual(file.read(), before)
+        # The cure, where names alone have changed.
+        with self.assertRaises(zelamiku.OtherHeap) as caught:
+            self.open(alice=Renamed, bob=Renamed)
+        number = int(caught.exception.cure.rpartition("fingerprint=")[2], 16)
+        with self.open(alice=Renamed, bob=Renamed, fingerprint=number) as heap, heap.synchronized(heap.bob):
+            self.assertEqual((heap.bob.balance, heap.bob.most), (5, 1_000_000))
+        self.open(alice=Limited, bob=Limited).close()
+
+    def test_a_fingerprint_of_ones_own(self):
+        with self.open(alice=Account, bob=Account, fingerprint=2**64 - 1) as heap:
+            with heap.synchronized(heap.alice):
+                heap.alice.balance = 1
+        for other in ("names", 1):
+            with self.assertRaises(zelamiku.OtherHeap):
+                self.open(alice=Account, bob=Account, fingerprint=other)
+        with self.open(bob=Account, alice=Account, fingerprint=2**64 - 1) as heap:
+            self.assertEqual(self.values(heap), [100, 1])
+        with self.assertRaises(TypeError):
+            self.open(alice=Account, bob=Account, fingerprint="Names")
+
+    def test_a_heap_without_a_fingerprint_is_opened_with_any(self):
+        self.open(alice=Account, bob=Account, fingerprint=None).close()
+        size = os.path.getsize(self.path)
+        for chosen in ("names", 7, None):
+            with self.open(bob=Account, alice=Account, fingerprint=chosen) as heap:
+                self.assertEqual(heap.report.size, size)
+                self.assertEqual(self.values(heap), [100, 100])
+
+    def test_a_full_heap_has_none(self):
+        class Much(zelamiku.Object):
+            fields = zelamiku.Array(zelamiku.Field(first=1), 16_384)
+
+        for chosen in ("names", None, "names"):
+            with self.open(it=Much, lanes=1, capacity=2_000, fingerprint=chosen) as heap, heap.synchronized(heap.it):
+                self.assertEqual(heap.it.fields[16_383], 1)
+        with self.assertRaisesRegex(zelamiku.BadPlan, "16,383"):
+            zelamiku.open(self.path + ".other", it=Much, fingerprint=7)
+        self.assertFalse(os.path.exists(self.path + ".other"))
+
+    def test_one_that_has_to_be_there_is_not_made(self):
+        """As on a volume that isn't mounted: a fresh heap would hand out its first values again."""
+
+        def refused(path):
+            with self.assertRaises(zelamiku.NoHeap) as caught:
+                zelamiku.open(path, alice=Account, bob=Account, create=False)
+            self.assertIsInstance(caught.exception, FileNotFoundError)
+            self.assertEqual(caught.exception.path, path)
+            self.assertIn("there is no heap", caught.exception.cause)
+            self.assertIn("mount its volume", caught.exception.cure)
+            return caught.exception
+
+        error = refused(self.path)
+        self.assertEqual(error.__cause__.errno, errno.ENOENT)
+        self.assertEqual(os.listdir(self.folder), [])
+        refused(str(self.folder / "none" / "a.heap"))
+        for size in (0, 10_000):
+            with open(self.path, "wb") as file:
+                file.write(bytes(size))
+            refused(self.path)
+            with open(self.path, "rb") as file:
+                self.assertEqual(file.read(), bytes(size))
+        os.remove(self.path)
+        self.open().close()
+        with self.open(alice=Account, bob=Account, create=False) as heap:
+            self.assertFalse(heap.report.is_made)
 
     def test_what_is_no_heap_is_left_as_it_is(self):
         with open(self.path, "wb") as file:
@@ -206,7 +303,8 @@ class Openings(OnFile):
             zelamiku.open(self.path)
 
     def test_an_older_version_is_upgraded_where_that_is_asked_for(self):
-        self.open().close()
+        # It had no transient fields, so no fingerprint.
+        self.open(alice=Account, bob=Account, fingerprint=None).close()
         with open(self.path, "r+b") as file:
             # The control's version, in both of its slots (docs/FORMAT.md).
             for slot in (64, 1_112):
@@ -415,6 +513,30 @@ class Living(OnFile):
         self.assertTrue(stats.rounds >= 1 and stats.calls > stats.syncs >= 4 and stats.lent >= 1)
         self.assertTrue(0 < stats.calls_time < 60 and 0 < stats.longest_round < 60)
         self.assertIsInstance(stats.last_cause, zelamiku.Cause)
+
+    def test_a_file_that_was_removed_or_replaced_is_told(self):
+        for end in (os.remove, lambda path: os.replace(self.path + ".other", path)):
+            with self.open() as heap:
+                with heap.synchronized(heap.alice):
+                    heap.alice.balance += 1
+                heap.durable()
+                self.assertIs(heap.stats().is_astray, False)
+                with open(self.path + ".other", "wb"):
+                    pass
+                end(self.path)
+                begun = time.monotonic()
+                while not heap.stats().is_astray:
+                    self.assertLess(time.monotonic() - begun, 30)
+                    with heap.synchronized(heap.alice):
+                        heap.alice.balance += 1
+                    heap.durable()
+                    time.sleep(0.01)
+                self.assertIs(heap.stats().is_astray, True)
+                # Nothing stops.
+                self.values(heap)
+            for path in (self.path, self.path + ".other"):
+                if os.path.exists(path):
+                    os.remove(path)
 
     @with_copies
     def test_a_copy_of_a_heap_that_runs_has_what_was_durable(self):

@@ -1,4 +1,5 @@
-"""A bank whose process is killed again and again: no payment that was answered durable is lost, and none is there by half.
+"""A bank whose process is killed again and again: no payment that was answered durable is lost, and none is there by half, also of those that
+are reverted.
 
     python3 bindings/python/tests/test_kills.py KILLS
 """
@@ -28,22 +29,31 @@ class Payer(zelamiku.Object):
     balance = zelamiku.Signed()
 
 
+class Changed(Exception):
+    """The payer has changed its mind, after half of a payment."""
+
+
 def opened(path: str) -> zelamiku.Heap:
     return zelamiku.open(path, accounts=[Account] * ACCOUNTS, payers=[Payer] * PAYERS, lanes=PAYERS + 1)
 
 
 def pay_for_ever(heap: zelamiku.Heap, number: int) -> None:
-    """From one account to another and to the payer's own, told by number once no crash loses it."""
+    """From one account to another and to the payer's own, told by number once no crash loses it. One in ten is reverted."""
     payer, chance = heap.payers[number], random.Random()
     while True:
         source, target = chance.sample(heap.accounts, 2)
-        with heap.synchronized(payer, target, source):
-            amount = min(source.balance, chance.randrange(50))
-            source.balance -= amount
-            target.balance += amount - amount // 3
-            payer.balance += amount // 3
-            payer.payments += 1
-            payments = payer.payments
+        try:
+            with heap.synchronized(payer, target, source):
+                amount = min(source.balance, chance.randrange(50))
+                source.balance -= amount
+                if chance.random() < 0.1:
+                    raise Changed
+                target.balance += amount - amount // 3
+                payer.balance += amount // 3
+                payer.payments += 1
+                payments = payer.payments
+        except Changed:
+            continue
         heap.durable()
         os.write(1, b"%d %d\n" % (number, payments))
 

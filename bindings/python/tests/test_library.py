@@ -47,9 +47,10 @@ class Sizes(unittest.TestCase):
             library.Told: 312,
             library.DroppedRow: 32,
             library.Sight: 16,
-            library.PlanRow: 56,
+            library.PlanRow: 72,
             library.ReportRow: 344,
-            library.StatsRow: 80,
+            library.StatsRow: 88,
+            library.WaitRow: 16,
         }
         for structure, size in sizes.items():
             self.assertEqual(ctypes.sizeof(structure), size, structure.__name__)

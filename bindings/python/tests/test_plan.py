@@ -4,7 +4,7 @@ import unittest
 import zelamiku
 from zelamiku.plan import PlannedField, Plan
 
-LANES, OBJECTS, COUNT, OWNER, GUARD, MARK = range(1, 7)
+LANES, OBJECTS, COUNT, OWNER, GUARD, MARK, FINGERPRINT = range(1, 8)
 
 
 class Account(zelamiku.Object):
@@ -30,9 +30,9 @@ class Numbers(unittest.TestCase):
             plan.fields,
             [
                 PlannedField("queue.head", 0, 0, 0, False),
-                PlannedField("queue.slots (its head)", 0, 0, 1, False),
-                PlannedField("queue.slots (slot 0)", 0, 0, 2, False),
-                PlannedField("queue.slots (slot 1)", 0, 0, 0, False),
+                PlannedField("queue.slots", 0, 0, 1, False),
+                PlannedField("queue.slots[0]", 0, 0, 2, False),
+                PlannedField("queue.slots[1]", 0, 0, 0, False),
                 PlannedField("queue.value[0]", 0, 0, 2**64 - 1, False),
                 PlannedField("queue.value[1]", 0, 0, 2**64 - 1, False),
                 PlannedField("accounts[0].balance", 2, 2, 100, False),
@@ -66,11 +66,68 @@ class Numbers(unittest.TestCase):
         for name in ("close", "objects", "synchronized", "_own", "__init__"):
             with self.assertRaisesRegex(ValueError, "a name of zelamiku.Heap's own"):
                 zelamiku.open("never.heap", **{name: Account})
-        for name, value in (("lanes", 0), ("lanes", 33), ("lanes", -1), ("capacity", 1_999), ("capacity", 2**40), ("ring", 4_095), ("ring", 65_537), ("linger", 10**6), ("linger", -1)):
+        for name, value in (("lanes", 0), ("lanes", 33), ("lanes", -1), ("capacity", 1_999), ("capacity", 2**40), ("ring", 4_095), ("ring", 65_537), ("linger", 10**6), ("linger", -1), ("fingerprint", 0), ("fingerprint", 2**64)):
             with self.subTest(name=name, value=value), self.assertRaisesRegex(zelamiku.BadPlan, name):
                 zelamiku.open("never.heap", it=Account, **{name: value})
         with self.assertRaises(TypeError):
             zelamiku.open("never.heap", it=Account, lanes=2.5)
+
+
+class Fingerprints(unittest.TestCase):
+    def test_it_is_as_documented(self):
+        """docs/EMBEDDING.md, "Opening", has these."""
+        self.assertEqual(Plan({"alice": Bare, "bob": Bare}).fingerprint(), 0xE79B2629BC4013B3)
+
+        class Counter(zelamiku.Object):
+            count = zelamiku.Field()
+
+        self.assertEqual(Plan({"it": Counter}).fingerprint(), fnv("it", "it.count"))
+        names = ["queue", "accounts[0]", "queue.head", "queue.slots", "queue.slots[0]", "queue.slots[1]", "queue.value[0]", "queue.value[1]"]
+        names += ["accounts[0].balance", "accounts[0].seen"]
+        self.assertEqual(Plan({"queue": Queue, "accounts": [Account]}).fingerprint(), fnv(*names))
+
+    def test_another_name_or_order_has_another(self):
+        class Swapped(zelamiku.Object):
+            seen = zelamiku.Bool(transient=True)
+            balance = zelamiku.Field(first=100)
+
+        class Renamed(zelamiku.Object):
+            balance = zelamiku.Field(first=100)
+            was_seen = zelamiku.Bool(transient=True)
+
+        plans = [
+            {"alice": Account, "bob": Account},
+            {"bob": Account, "alice": Account},
+            {"alice": Account, "bobby": Account},
+            {"alice": Account, "bob": Swapped},
+            {"alice": Renamed, "bob": Renamed},
+            {"alice": [Account], "bob": Account},
+        ]
+        self.assertEqual(len({Plan(plan).fingerprint() for plan in plans}), len(plans))
+
+    def test_classes_and_first_values_have_none(self):
+        class Other(zelamiku.Object):
+            balance = zelamiku.Signed(first=-100)
+            seen = zelamiku.Field()
+
+        self.assertEqual(Plan({"alice": Account}).fingerprint(), Plan({"alice": Other}).fingerprint())
+
+    def test_a_full_heap_has_no_room_for_one(self):
+        class Much(zelamiku.Object):
+            fields = zelamiku.Array(zelamiku.Field(), 16_384)
+
+        class Less(zelamiku.Object):
+            fields = zelamiku.Array(zelamiku.Field(), 16_383)
+
+        self.assertEqual(Plan({"it": Much}).fingerprint(), 0)
+        self.assertNotEqual(Plan({"it": Less}).fingerprint(), 0)
+
+
+def fnv(*names: str) -> int:
+    number = 14695981039346656037
+    for byte in b"\xff".join(name.encode() for name in names):
+        number = (number ^ byte) * 1099511628211 % 2**64
+    return number
 
 
 class Differences(unittest.TestCase):
@@ -81,8 +138,14 @@ class Differences(unittest.TestCase):
             ((OBJECTS, 0, 3, 5), "it has 3 objects, and declared are 5: alice, bob, 3 in more"),
             (
                 (COUNT, 0, 3, 10),
-                "it has 3 fields, and declared are 10: 2 of alice, 2 of bob, 2 of more[0], 2 of more[1], 2 of more[2]",
+                "it has 3 fields (a fingerprint counts as one), and declared are 10: 2 of alice, 2 of bob, 2 of more[0], 2 of more[1], 2 of more[2]",
             ),
+            (
+                (OWNER, 9, 0, 4),
+                "more[2].seen (field 9): it has it in object 0 (alice), and declared is object 4 (more[2]), or it is the fingerprint of a heap of 9 fields",
+            ),
+            ((MARK, 9, 1, 0), "more[2].seen (field 9): there it is transient, and declared as durable, or it is the fingerprint of a heap of 9 fields"),
+            ((MARK, 9, 0, 1), "more[2].seen (field 9): there it is durable, and declared as transient"),
             ((OWNER, 2, 0, 1), "bob.balance (field 2): it has it in object 0 (alice), and declared is object 1 (bob)"),
             ((GUARD, 9, 99, 4), "more[2].seen (field 9): there object 99 guards it, and declared is object 4 (more[2])"),
             ((MARK, 1, 0, 1), "alice.seen (field 1): there it is durable, and declared as transient"),
@@ -90,6 +153,23 @@ class Differences(unittest.TestCase):
         for told, text in cases:
             with self.subTest(text):
                 self.assertEqual(plan.difference(*told), text)
+
+    def test_names_the_other_way_round_are_found(self):
+        class Swapped(zelamiku.Object):
+            seen = zelamiku.Bool(transient=True)
+            balance = zelamiku.Field(first=100)
+
+        plan = Plan({"bob": Account, "carol": Bare, "alice": Account, "more": [Account] * 2})
+        cases = [
+            ({"alice": Account, "carol": Bare, "bob": Account, "more": [Account] * 2}, ": bob and alice the other way round"),
+            ({"bob": Swapped, "carol": Bare, "alice": Swapped, "more": [Swapped] * 2}, ": Account.balance and Account.seen the other way round"),
+            ({"bob": Account, "caroline": Bare, "alice": Account, "more": [Account] * 2}, ""),
+        ]
+        for other, text in cases:
+            has = Plan(other).fingerprint()
+            told = plan.difference(FINGERPRINT, 0, has, plan.fingerprint())
+            self.assertEqual(told, f"it was made with other names or in another order, of fingerprint {has:#x} and not {plan.fingerprint():#x}{text}")
+            self.assertIn(f"fingerprint={has:#x}", plan.cure(FINGERPRINT, has))
 
     def test_many_names_are_cut_off(self):
         plan = Plan({f"account{index}": Account for index in range(20)})

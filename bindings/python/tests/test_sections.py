@@ -93,6 +93,30 @@ class Monitors(OnFile):
             with heap.synchronized(*heap.queues[:16]):
                 pass
             with heap.synchronized(heap.many):
+                # Each has a record, and room for the one that would put it back.
+                for index in range(499):
+                    heap.many.values[index] = 1
+                with self.assertRaisesRegex(zelamiku.SectionFull, r"many\.values\[499\]"):
+                    heap.many.values[499] = 1
+            with heap.synchronized(heap.many):
+                self.assertEqual(sum(heap.many.values), 499)
+
+    def test_a_section_that_is_full_reverts(self):
+        with self.open(many=Many) as heap:
+            with self.assertRaises(zelamiku.SectionFull), heap.synchronized(heap.many):
+                for index in range(1_000):
+                    heap.many.values[index] = 1
+            with self.assertRaises(zelamiku.SectionFull), heap.synchronized(heap.many):
+                # One field again and again needs that room once.
+                for count in range(1_000):
+                    heap.many.values[0] = count
+            self.assertEqual(count, 997)
+            with heap.synchronized(heap.many):
+                self.assertEqual(sum(heap.many.values), 0)
+
+    def test_without_reverts_a_section_has_room_for_twice_as_many_stores(self):
+        with self.open(many=Many, reverts=False) as heap:
+            with heap.synchronized(heap.many):
                 for index in range(998):
                     heap.many.values[index] = 1
                 with self.assertRaisesRegex(zelamiku.SectionFull, r"many\.values\[998\]"):
@@ -116,10 +140,161 @@ class Exceptions(OnFile):
                     heap.bob.balance = 1
             self.assertIsNone(in_thread(lambda: heap.synchronized(heap.alice, heap.bob, timeout=0).__enter__()))
 
-    def test_one_after_a_store_stops_the_heap_and_drops_the_section(self):
+    def test_one_after_a_store_reverts_the_section(self):
+        with self.open() as heap:
+            for kind in (ValueError, KeyboardInterrupt, SystemExit, GeneratorExit):
+                raised = kind("on its way")
+                with self.assertRaises(kind) as caught, heap.synchronized(heap.alice, heap.bob):
+                    heap.alice.balance = 1
+                    heap.bob.balance = 2
+                    heap.alice.balance = 3
+                    raise raised
+                # It goes on unchanged.
+                self.assertIs(caught.exception, raised)
+                self.assertEqual((raised.args, raised.__cause__, raised.__context__), (("on its way",), None, None))
+                self.assertIsNone(in_thread(lambda: heap.synchronized(heap.alice, heap.bob, timeout=0).__enter__()))
+                self.assertEqual(in_thread(lambda: self.values(heap)), [100, 100])
+                heap.durable()
+            with heap.synchronized(heap.bob):
+                heap.bob.balance = 7
+        with self.open() as heap:
+            self.assertEqual(self.values(heap), [100, 7])
+            self.assertEqual(heap.report.dropped, ())
+
+    def test_each_kind_of_member_is_reverted(self):
+        class Parts(zelamiku.Object):
+            number = zelamiku.Signed(first=-1)
+            passing = zelamiku.Float(first=0.5, transient=True)
+            many = zelamiku.Array(zelamiku.Ref(), 3)
+            slots = zelamiku.Pool(3)
+
+        with self.open(parts=Parts) as heap:
+            parts = heap.parts
+            with heap.synchronized(parts):
+                self.assertEqual((parts.slots.take(), parts.slots.take()), (0, 1))
+                parts.passing = 1.5
+            with self.assertRaises(KeyError), heap.synchronized(parts):
+                parts.number, parts.passing, parts.many[1] = 5, 2.5, parts
+                self.assertEqual(parts.slots.take(), 2)
+                parts.slots.give(0)
+                parts.slots.give(1)
+                raise KeyError
+            with heap.synchronized(parts):
+                self.assertEqual((parts.number, parts.passing, list(parts.many)), (-1, 1.5, [None] * 3))
+                self.assertEqual([parts.slots.take() for _ in range(2)], [2, None])
+
+    def test_one_that_leaves_both_of_two_reverts_both(self):
+        with self.open() as heap:
+            with self.assertRaises(ValueError), heap.synchronized(heap.alice):
+                heap.alice.balance = 1
+                with heap.synchronized(heap.bob):
+                    heap.bob.balance = 2
+                    raise ValueError
+            self.assertEqual(self.values(heap), [100, 100])
+            self.assertIsNone(in_thread(lambda: heap.synchronized(heap.alice, heap.bob, timeout=0).__enter__()))
+
+    def test_one_that_leaves_an_inner_with_reverts_all_and_the_section_can_do_nothing_more(self):
+        class Pair(zelamiku.Object):
+            left = zelamiku.Field(first=100)
+            slots = zelamiku.Pool(2)
+
+        for has_inner_stored in (True, False):
+            with self.open(alice=Pair, bob=Account) as heap:
+                alice = heap.alice
+                with self.assertRaisesRegex(zelamiku.Reverted, r"has left a `with` inside .*\(ValueError: a half\).* outermost"):
+                    with heap.synchronized(alice):
+                        alice.left = 1
+                        slot = alice.slots.take()
+                        try:
+                            with heap.synchronized(heap.bob):
+                                if has_inner_stored:
+                                    heap.bob.balance = 2
+                                raise ValueError("a half")
+                        except ValueError:
+                            pass
+                        calls = [
+                            lambda: alice.left,
+                            lambda: setattr(alice, "left", 2),
+                            alice.slots.take,
+                            lambda: alice.slots.give(slot),
+                            alice.wait,
+                            alice.notify,
+                            alice.notify_all,
+                            heap.synchronized(alice).__enter__,
+                            heap.session.revert,
+                        ]
+                        for call in calls:
+                            with self.assertRaises(zelamiku.Reverted):
+                                call()
+                        with self.assertRaises(zelamiku.InSection):
+                            heap.durable()
+                        # Its monitor is held still.
+                        self.assertIsInstance(in_thread(heap.synchronized(alice, timeout=0).__enter__), zelamiku.TimedOut)
+                # And the next section does all.
+                with heap.synchronized(alice, heap.bob):
+                    self.assertEqual((alice.left, heap.bob.balance, alice.slots.take()), (100, 100, 0))
+                with self.assertRaises(zelamiku.NotHeld):
+                    alice.left
+            self.path += "."
+
+    def test_one_in_the_innermost_of_three_is_told_by_each_that_ends_well(self):
+        with self.open(alice=Account, bob=Account, queue=Queue) as heap:
+            with self.assertRaises(zelamiku.Reverted), heap.synchronized(heap.alice):
+                with self.assertRaises(zelamiku.Reverted), heap.synchronized(heap.bob):
+                    heap.bob.balance = 1
+                    with self.assertRaises(ValueError), heap.synchronized(heap.queue):
+                        raise ValueError
+            with self.assertRaises(KeyError), heap.synchronized(heap.alice):
+                with self.assertRaises(ValueError), heap.synchronized(heap.bob):
+                    heap.bob.balance = 1
+                    raise ValueError
+                raise KeyError
+            self.assertEqual(self.values(heap), [100, 100])
+
+    def test_one_that_leaves_an_inner_with_before_the_first_store_lets_the_section_go_on(self):
+        with self.open() as heap:
+            with heap.synchronized(heap.alice):
+                with self.assertRaises(ValueError), heap.synchronized(heap.bob):
+                    raise ValueError
+                heap.alice.balance = 2
+            self.assertEqual(self.values(heap), [2, 100])
+
+    def test_one_after_a_monitor_was_freed_under_which_it_had_stored_stops_the_heap(self):
         heap = self.open()
+        with self.assertRaisesRegex(ValueError, "on its way"), heap.synchronized(heap.alice):
+            heap.alice.balance = 1
+            with heap.synchronized(heap.bob):
+                heap.bob.balance = 2
+            with self.assertRaisesRegex(zelamiku.NotReverted, "has freed a monitor under which it had stored"):
+                heap.session.revert()
+            self.assertEqual(heap.alice.balance, 1)
+            raise ValueError("on its way")
+        with self.assertRaisesRegex(zelamiku.Abandoned, r"\(ValueError: on its way\) and can't be reverted: it has freed a monitor"):
+            self.values(heap)
+        with self.assertRaises(zelamiku.Abandoned):
+            heap.close()
+        with self.open() as heap:
+            self.assertEqual(self.values(heap), [100, 100])
+            self.assertEqual([each.why for each in heap.report.dropped], [zelamiku.Why.NOT_ENDED])
+
+    def test_one_after_a_monitor_was_freed_under_which_it_had_not_stored_reverts(self):
+        with self.open() as heap:
+            with self.assertRaises(ValueError), heap.synchronized(heap.alice):
+                heap.alice.balance = 1
+                with heap.synchronized(heap.bob):
+                    heap.bob.balance
+                # What is held once more isn't freed.
+                with heap.synchronized(heap.alice):
+                    heap.alice.balance = 2
+                raise ValueError
+            self.assertEqual(self.values(heap), [100, 100])
+
+    def test_without_reverts_one_after_a_store_stops_the_heap_and_drops_the_section(self):
+        heap = self.open(alice=Account, bob=Account, reverts=False)
         with heap.synchronized(heap.bob):
             heap.bob.balance = 7
+        with self.assertRaisesRegex(zelamiku.NotReverted, "reverts=False"), heap.synchronized(heap.bob):
+            heap.session.revert()
         with self.assertRaisesRegex(ValueError, "on its way"):
             with heap.synchronized(heap.alice):
                 heap.alice.balance = 1
@@ -138,8 +313,8 @@ class Exceptions(OnFile):
             self.assertEqual(self.values(heap), [100, 7])
             self.assertEqual([each.why for each in heap.report.dropped], [zelamiku.Why.NOT_ENDED])
 
-    def test_one_that_leaves_an_inner_with_does_so_too(self):
-        heap = self.open()
+    def test_without_reverts_one_that_leaves_an_inner_with_does_so_too(self):
+        heap = self.open(alice=Account, bob=Account, reverts=False)
         with self.assertRaises(zelamiku.Abandoned), heap.synchronized(heap.alice):
             heap.alice.balance = 1
             try:
@@ -152,6 +327,34 @@ class Exceptions(OnFile):
         with self.open() as heap:
             self.assertEqual(self.values(heap), [100, 100])
 
+    def test_a_section_is_reverted_on_purpose(self):
+        with self.open() as heap:
+            with self.assertRaisesRegex(zelamiku.NotHeld, "in no section"):
+                heap.session.revert()
+            with heap.synchronized(heap.alice):
+                heap.session.revert()
+                heap.alice.balance = 1
+                with heap.synchronized(heap.bob):
+                    heap.bob.balance = 2
+                    heap.session.revert()
+                    self.assertEqual((heap.alice.balance, heap.bob.balance), (100, 100))
+                # What was freed had nothing stored under it any more.
+                heap.alice.balance = 3
+                heap.session.revert()
+                self.assertEqual(heap.alice.balance, 100)
+                heap.alice.balance = 4
+            with self.assertRaisesRegex(zelamiku.NotHeld, "in no section"):
+                heap.session.revert()
+            self.assertEqual(self.values(heap), [4, 100])
+            with self.assertRaises(ValueError), heap.synchronized(heap.alice):
+                heap.alice.balance = 5
+                heap.session.revert()
+                heap.alice.balance = 6
+                raise ValueError
+            self.assertEqual(self.values(heap), [4, 100])
+        with self.open() as heap:
+            self.assertEqual(self.values(heap), [4, 100])
+
     def test_one_that_is_caught_inside_is_the_programs_own(self):
         with self.open() as heap:
             with heap.synchronized(heap.alice):
@@ -162,8 +365,29 @@ class Exceptions(OnFile):
                     heap.alice.balance = 5
             self.assertEqual(self.values(heap), [5, 100])
 
-    def test_those_that_sleep_are_told(self):
-        heap = self.open(alice=Account, bob=Account, queue=Queue)
+    def test_those_that_sleep_go_on_after_a_revert(self):
+        with self.open() as heap:
+            seen = []
+
+            def look():
+                with heap.synchronized(heap.alice):
+                    seen.append(heap.alice.balance)
+                heap.durable()
+
+            threads = [threading.Thread(target=look) for _ in range(3)]
+            with self.assertRaises(ValueError), heap.synchronized(heap.alice):
+                heap.alice.balance = 1
+                for thread in threads:
+                    thread.start()
+                while heap.stats().entering < 3:
+                    time.sleep(0.001)
+                raise ValueError
+            for thread in threads:
+                thread.join()
+            self.assertEqual(seen, [100] * 3)
+
+    def test_without_reverts_those_that_sleep_are_told(self):
+        heap = self.open(alice=Account, bob=Account, queue=Queue, reverts=False)
         told = []
 
         def wait():
@@ -226,6 +450,44 @@ class Exceptions(OnFile):
             heap.close()
         with self.open() as heap:
             self.assertEqual(self.values(heap), [100, 100])
+
+    def test_signals_that_raise_anywhere_leave_no_half(self):
+        class Ring(Exception):
+            pass
+
+        def ring(*_):
+            raise Ring
+
+        heap = self.open(alice=Account, bob=Account, queue=Queue)
+        begun, ended = 0, 0
+        before = signal.signal(signal.SIGALRM, ring)
+        try:
+            for turn in range(3_000):
+                begun += 1
+                try:
+                    signal.setitimer(signal.ITIMER_REAL, random.uniform(1e-6, 8e-5))
+                    with heap.synchronized(heap.alice, heap.bob):
+                        heap.bob.balance += 1
+                        with heap.synchronized(heap.bob):
+                            heap.bob.balance += 1
+                        heap.alice.balance += 2
+                    ended += 1
+                    while True:
+                        pass
+                except Ring:
+                    pass
+                if turn % 50 == 0:
+                    self.assertIsNone(in_thread(lambda: heap.synchronized(heap.alice, heap.bob, timeout=0).__enter__()))
+        finally:
+            signal.setitimer(signal.ITIMER_REAL, 0)
+            signal.signal(signal.SIGALRM, before)
+        alice, bob = self.values(heap)
+        self.assertEqual(alice, bob)
+        # Where it comes just at a section's end the section may be there, and is then there whole.
+        self.assertTrue(2 * ended <= alice - 100 <= 2 * begun, (begun, ended, alice))
+        heap.close()
+        with self.open(alice=Account, bob=Account, queue=Queue) as heap:
+            self.assertEqual(self.values(heap), [alice, bob])
 
     def test_signals_that_raise_anywhere_leave_no_monitor_held(self):
         class Ring(Exception):
@@ -339,27 +601,29 @@ class Threads(OnFile):
                 thread.join()
             with heap.synchronized(buffer):
                 self.assertEqual((buffer.count, buffer.put, buffer.taken), (0, 900, 900))
-                self.assertEqual((buffer.notify(), buffer.notify_all()), (False, 0))
+                self.assertEqual((buffer.notify(), buffer.notify_all()), (None, ()))
 
-    def test_notify_tells_how_many(self):
-        with self.open(queue=Queue) as heap:
+    def test_notify_tells_whom_it_woke(self):
+        with self.open(queue=Queue, lanes=8) as heap:
+            lanes = []
 
             def wait():
                 with heap.synchronized(heap.queue):
-                    heap.queue.count += 1
+                    lanes.append(heap.session.lane)
                     heap.queue.wait()
 
             threads = [threading.Thread(target=wait) for _ in range(4)]
             for thread in threads:
                 thread.start()
             told = []
-            while len(told) < 2:
+            while len(told) < 4:
                 with heap.synchronized(heap.queue):
-                    if heap.queue.count == 4:
-                        told += [heap.queue.notify(), heap.queue.notify_all()]
+                    if len(lanes) == 4:
+                        told = [heap.queue.notify(), *heap.queue.notify_all()]
             for thread in threads:
                 thread.join()
-            self.assertEqual(told, [True, 3])
+            self.assertEqual(sorted(told), sorted(lanes))
+            self.assertEqual(len(set(told)), 4)
 
     def test_a_wait_begins_a_section_that_has_stored_nothing(self):
         with self.open(queue=Queue) as heap:
@@ -403,6 +667,173 @@ class Threads(OnFile):
             for thread in threads:
                 thread.join()
             self.assertEqual(count, 10_000)
+
+
+class Waits(OnFile):
+    def test_a_wait_ends_what_can_be_reverted(self):
+        """What was stored before a wait stays where the wait ends the section; and can't be put back where it goes on with another monitor."""
+
+        class Two(zelamiku.Object):
+            first = zelamiku.Field()
+            second = zelamiku.Field()
+
+        def wait(heap, waits_for, *others):
+            with heap.synchronized(*others, waits_for):
+                waits_for.first = 1
+                waits_for.wait()
+                waits_for.second = 1
+                raise ValueError
+
+        heap = self.open(alice=Two, bob=Two)
+        self.notified(heap, heap.alice, lambda: wait(heap, heap.alice))
+        with heap.synchronized(heap.alice):
+            self.assertEqual((heap.alice.first, heap.alice.second), (1, 0))
+        self.notified(heap, heap.bob, lambda: wait(heap, heap.bob, heap.alice))
+        with self.assertRaisesRegex(zelamiku.Abandoned, "can't be reverted"):
+            heap.synchronized(heap.alice).__enter__()
+        with self.assertRaises(zelamiku.Abandoned):
+            heap.close()
+
+    def test_one_with_another_monitor_leaves_what_was_stored_under_that(self):
+        with self.open() as heap:
+
+            def wait():
+                with heap.synchronized(heap.alice, heap.bob):
+                    heap.alice.balance = 1
+                    heap.bob.wait()
+                    heap.bob.balance = 2
+                    raise ValueError
+
+            self.notified(heap, heap.bob, wait)
+            self.assertEqual(self.values(heap), [100, 100])
+
+    def notified(self, heap, of, work):
+        """Does the work in a thread, and notifies it until it has ended by ValueError."""
+        told = []
+        thread = threading.Thread(target=lambda: told.append(in_thread(work)))
+        thread.start()
+        while thread.is_alive():
+            try:
+                with heap.synchronized(of):
+                    of.notify()
+            except zelamiku.Abandoned:
+                break
+        thread.join()
+        self.assertIsInstance(told[0], ValueError)
+
+    def test_who_waits_for_whom_is_told(self):
+        with self.open(lanes=4, alice=Account, bob=Account) as heap:
+            self.assertEqual(heap.waits(), ())
+            lanes = []
+
+            def enter():
+                with heap.synchronized(heap.bob):
+                    pass
+                with heap.synchronized(heap.alice):
+                    lanes.append(heap.session.lane)
+
+            with heap.synchronized(heap.alice):
+                thread = threading.Thread(target=enter)
+                thread.start()
+                while not (waits := heap.waits()):
+                    time.sleep(0.001)
+                lane = heap.session.lane
+            thread.join()
+            self.assertEqual(waits, (zelamiku.Wait(lanes[0], heap.alice, lane, False),))
+            self.assertEqual(heap.waits(), ())
+        with self.assertRaises(zelamiku.Closed):
+            heap.waits()
+
+    def test_a_circle_is_told(self):
+        """A wait with another monitor held takes its own in another order, which no synchronized(..) can refuse."""
+        heap = self.open(lanes=4, alice=Account, bob=Account)
+        lanes = {}
+        waits_now = threading.Event()
+
+        def wait():
+            with heap.synchronized(heap.alice, heap.bob):
+                lanes["waits"] = heap.session.lane
+                waits_now.set()
+                heap.alice.wait()
+
+        def notify():
+            waits_now.wait()
+            with heap.synchronized(heap.alice):
+                lanes["notifies"] = heap.session.lane
+                heap.alice.notify()
+                with heap.synchronized(heap.bob):
+                    pass
+
+        threads = [threading.Thread(target=in_thread, args=(work,)) for work in (wait, notify)]
+        for thread in threads:
+            thread.start()
+        while len(waits := heap.waits()) < 2:
+            time.sleep(0.001)
+        one, other = sorted(waits, key=lambda wait: wait.object._number)
+        self.assertEqual(one, zelamiku.Wait(lanes["waits"], heap.alice, lanes["notifies"], True))
+        self.assertEqual(other, zelamiku.Wait(lanes["notifies"], heap.bob, lanes["waits"], True))
+        heap.abandon("two wait for each other")
+        for thread in threads:
+            thread.join()
+
+
+class Sessions(OnFile):
+    def test_a_thread_has_a_lane_from_its_first_section_on(self):
+        with self.open(alice=Account, bob=Account, lanes=1) as heap:
+            session = heap.session
+            self.assertEqual((session.lane, session.earlier, session.sections), (None, 0, 0))
+            for earlier in (0, 3, 6):
+
+                def pay(earlier=earlier):
+                    for count in range(3):
+                        self.assertEqual((session.sections, session.earlier), (count, earlier if count else 0))
+                        with heap.synchronized(heap.alice):
+                            heap.alice.balance += 1
+                            self.assertEqual((session.lane, session.earlier, session.sections), (0, earlier, count))
+
+                self.assertIsNone(in_thread(pay))
+            self.assertEqual((session.lane, session.earlier), (None, 0))
+
+    def test_one_that_times_out_after_a_monitor_counts_as_a_section(self):
+        with self.open() as heap:
+            entered, release = threading.Event(), threading.Event()
+
+            def hold():
+                with heap.synchronized(heap.bob):
+                    entered.set()
+                    release.wait()
+
+            thread = threading.Thread(target=hold)
+            thread.start()
+            entered.wait()
+            for objects, sections in (((heap.bob,), 0), ((heap.alice, heap.bob), 1)):
+                with self.assertRaises(zelamiku.TimedOut):
+                    heap.synchronized(*objects, timeout=0).__enter__()
+                self.assertEqual(heap.session.sections, sections)
+            release.set()
+            thread.join()
+
+    def test_what_a_report_drops_is_a_threads_own_section(self):
+        """Each lane's sections are numbered on, while threads come and go."""
+        heap = self.open(lanes=2, alice=Account, bob=Account)
+
+        def pay():
+            with heap.synchronized(heap.alice):
+                heap.alice.balance += 1
+
+        for _ in range(5):
+            in_thread(pay)
+        heap.durable()
+        pay()
+        session = heap.session
+        with self.assertRaises(zelamiku.Abandoned), heap.synchronized(heap.bob):
+            heap.bob.balance = 7
+            lane, number = session.lane, session.earlier + session.sections + 1
+            heap.abandon("it is enough")
+            self.assertEqual(session.lane, lane)
+        with self.open(lanes=2, alice=Account, bob=Account) as heap:
+            self.assertEqual([(each.lane, each.section, each.why) for each in heap.report.dropped], [(lane, number, zelamiku.Why.NOT_ENDED)])
+            self.assertEqual(self.values(heap), [106, 100])
 
 
 class Durability(OnFile):

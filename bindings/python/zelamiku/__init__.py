@@ -9,14 +9,16 @@
 
     with zelamiku.open("accounts.heap", alice=Account, bob=Account, lanes=8) as heap:    # made or recovered
         with heap.synchronized(heap.alice, heap.bob):                                    # a section, by monitors
-            heap.alice.balance -= 10
-            heap.bob.balance += 10
+            if heap.alice.balance >= 10:
+                heap.alice.balance -= 10
+                heap.bob.balance += 10
         heap.durable()                                                                   # no crash loses it now
 
 A program declares its objects by classes of :class:`Field`, :class:`Signed`, :class:`Bool`, :class:`Float`, :class:`Ref`, :class:`Array` and
 :class:`Pool`, and opens them by :func:`open`. Its threads hold their monitors by :meth:`Heap.synchronized`, load and store fields, wait and
-notify (:meth:`Object.wait`, :meth:`Object.notify`). Each thread that does has a lane of the heap, until it ends. Whoever needs to know that
-no crash loses what was done calls :meth:`Heap.durable`, or awaits :meth:`Heap.durable_async`.
+notify (:meth:`Object.wait`, :meth:`Object.notify`). An exception that leaves a section puts back what the section has stored. Each thread has
+a lane of the heap, from its first section until it ends (:attr:`Heap.session`). Whoever needs to know that no crash loses what was done calls
+:meth:`Heap.durable`, or awaits :meth:`Heap.durable_async`.
 
 Each failure is an :class:`Error` of its kind, with the path, the cause and the cure.
 """
@@ -33,11 +35,13 @@ from .errors import (
     FileError,
     Forked,
     InSection,
+    NoHeap,
     NoLaneFree,
     NoLibrary,
     NoMemory,
     NotAHeap,
     NotHeld,
+    NotReverted,
     NotTaken,
     OldVersion,
     OpenError,
@@ -45,6 +49,7 @@ from .errors import (
     OutOfOrder,
     OutOfRange,
     Refused,
+    Reverted,
     Running,
     SectionFull,
     Stopped,
@@ -54,7 +59,8 @@ from .errors import (
     WriteFailed,
 )
 from .heap import Heap, open
-from .report import Cause, Dropped, Report, Stats, Why
+from .report import Cause, Dropped, Report, Stats, Wait, Why
+from .session import Session
 
 __all__ = [
     "Abandoned",
@@ -76,11 +82,13 @@ __all__ = [
     "Heap",
     "InSection",
     "Items",
+    "NoHeap",
     "NoLaneFree",
     "NoLibrary",
     "NoMemory",
     "NotAHeap",
     "NotHeld",
+    "NotReverted",
     "NotTaken",
     "Object",
     "OldVersion",
@@ -92,8 +100,10 @@ __all__ = [
     "Ref",
     "Refused",
     "Report",
+    "Reverted",
     "Running",
     "SectionFull",
+    "Session",
     "Signed",
     "Slots",
     "Stats",
@@ -101,6 +111,7 @@ __all__ = [
     "SyncFailed",
     "TimedOut",
     "TooManyHeld",
+    "Wait",
     "Why",
     "WriteFailed",
     "open",

@@ -32,7 +32,7 @@ class Member:
         self.name = name
 
     def names(self, of: str) -> list[str]:
-        """The names of its fields, for people; ``of`` is the object's."""
+        """The names of its fields, as errors tell them and the fingerprint has them; ``of`` is the object's."""
         raise NotImplementedError
 
     def firsts(self) -> list[int]:
@@ -75,14 +75,14 @@ class Value(Member, Generic[V]):
     def __get__(self, of: Object | None, owner: type) -> Value[V] | V:
         if of is None:
             return self
-        return self.decode(of._own.session.load(of._numbers[self.name]))
+        return self.decode(of._own.lane.load(of._numbers[self.name]))
 
     def __set__(self, of: Object, value: V) -> None:
         try:
             bits = self.encode(value)
         except OverflowError as error:
             raise _out_of_range(of, self.name, value, error) from None
-        of._own.session.store(of._numbers[self.name], bits)
+        of._own.lane.store(of._numbers[self.name], bits)
 
 
 class Field(Value[int]):
@@ -224,7 +224,7 @@ class Items(Generic[V]):
         return len(self._numbers)
 
     def __getitem__(self, index: int) -> V:
-        return self._kind.decode(self._of._own.session.load(self._numbers[index]))
+        return self._kind.decode(self._of._own.lane.load(self._numbers[index]))
 
     def __setitem__(self, index: int, value: V) -> None:
         number = self._numbers[index]
@@ -232,7 +232,7 @@ class Items(Generic[V]):
             bits = self._kind.encode(value)
         except OverflowError as error:
             raise _out_of_range(self._of, f"{self._array.name}[{index}]", value, error) from None
-        self._of._own.session.store(number, bits)
+        self._of._own.lane.store(number, bits)
 
     def __iter__(self) -> Iterator[V]:
         return (self[index] for index in range(len(self)))
@@ -252,7 +252,8 @@ class Pool(Member):
         self.size = slots + 1
 
     def names(self, of: str) -> list[str]:
-        return [f"{of}.{self.name} (its head)"] + [f"{of}.{self.name} (slot {slot})" for slot in range(self.slots)]
+        """Its head has the pool's name."""
+        return [f"{of}.{self.name}"] + [f"{of}.{self.name}[{slot}]" for slot in range(self.slots)]
 
     def firsts(self) -> list[int]:
         """All slots are free: the head and each slot link to the next one, plus one, and the last slot to none."""
@@ -283,21 +284,21 @@ class Slots:
         return self._pool.slots
 
     def take(self) -> int | None:
-        """Takes a slot and answers its number; None where none is free. It costs the section two records.
+        """Takes a slot and answers its number; None where none is free. It costs the section two records, and up to two for a revert.
 
         :class:`NotHeld`, :class:`SectionFull`, :class:`DamagedPool`: nothing was taken.
         """
-        return self._of._own.session.take(self._of._numbers[self._pool.name], self._pool.slots)
+        return self._of._own.lane.take(self._of._numbers[self._pool.name], self._pool.slots)
 
     def give(self, slot: int) -> None:
-        """Gives a slot back: it is the next one to be taken. It costs the section two records.
+        """Gives a slot back: it is the next one to be taken. It costs the section two records, and up to two for a revert.
 
         :class:`NotTaken`, and as :meth:`take`: nothing was given back.
         """
         number = operator.index(slot)
         if not 0 <= number < self._pool.slots:
             raise IndexError(f"{self._of._name}.{self._pool.name} has slots 0 to {self._pool.slots - 1}, and no {number}")
-        self._of._own.session.give(self._of._numbers[self._pool.name], self._pool.slots, number)
+        self._of._own.lane.give(self._of._numbers[self._pool.name], self._pool.slots, number)
 
 
 def _out_of_range(of: Object, name: str, value: object, error: OverflowError) -> OutOfRange:
@@ -351,26 +352,27 @@ class Object(metaclass=ObjectType):
         """Frees this monitor, which the thread holds, sleeps until another thread notifies this one, and takes it again.
 
         Nothing else wakes it, and no signal is handled meanwhile. Where no other monitor is held the section ends with it, and the next one
-        begins when it goes on: what was loaded before may be otherwise by then. Hold no other monitor: it would be kept meanwhile.
+        begins when it goes on: what was loaded before may be otherwise by then. Hold no other monitor: it would be kept meanwhile, so two
+        threads may wait for each other for ever (:meth:`Heap.waits`), and a section that has stored under this one can't be reverted after it.
 
         :class:`NotHeld`, :class:`SectionFull`, :class:`Refused`, :class:`WriteFailed`: the monitor is held as before. :class:`Stopped`: it
         isn't.
         """
-        self._own.session.wait(self)
+        self._own.lane.wait(self)
 
-    def notify(self) -> bool:
-        """Wakes one thread that waits for this monitor, which the thread holds; whether there was one. Which of several isn't promised.
+    def notify(self) -> int | None:
+        """Wakes one thread that waits for this monitor, which the thread holds, and answers its lane. None: no thread waits.
+
+        Which of several it wakes isn't promised. A lane may be 0, so compare the answer with None. :class:`NotHeld`: nobody was woken.
+        """
+        return self._own.lane.notify(self)
+
+    def notify_all(self) -> tuple[int, ...]:
+        """Wakes all threads that wait for this monitor, which the thread holds, and answers their lanes. They go on in no promised order.
 
         :class:`NotHeld`: nobody was woken.
         """
-        return self._own.session.notify(self) > 0
-
-    def notify_all(self) -> int:
-        """Wakes all threads that wait for this monitor, which the thread holds, and answers how many. They go on in no promised order.
-
-        :class:`NotHeld`: nobody was woken.
-        """
-        return self._own.session.notify_all(self)
+        return self._own.lane.notify_all(self)
 
 
 def bind(cls: type[Object], own: Own, name: str, number: int, numbers: Mapping[str, int]) -> Object:

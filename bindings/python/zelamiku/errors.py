@@ -55,8 +55,12 @@ class NotAHeap(OpenError):
     """The file has something else than a heap."""
 
 
+class NoHeap(OpenError, FileNotFoundError):
+    """There is no heap at the path: no file, or an empty one or one of zeros. The opening was told to make none (``create=False``)."""
+
+
 class OtherHeap(OpenError):
-    """The file has a heap, and not the one that is declared. The cause tells the first difference by name."""
+    """The file has a heap, and not the one that is declared. The cause tells the first difference by name, or the names' fingerprints."""
 
 
 class OldVersion(OpenError):
@@ -99,7 +103,10 @@ class NoLaneFree(Refused):
 
 
 class SectionFull(Refused):
-    """The section would have more than 1,000 records: one for each monitor taken, each given back, and each store; two for a slot."""
+    """The section would have more than 1,000 records: one for each monitor taken, each given back, and each store; two for a slot.
+
+    Where sections are reverted, one more for each durable field that it has stored, so that there is room to put the value back.
+    """
 
 
 class TooManyHeld(Refused):
@@ -116,6 +123,15 @@ class DamagedPool(Refused):
 
 class InSection(Refused):
     """The thread is inside a section, and this is done outside of one."""
+
+
+class Reverted(Refused):
+    """An exception has left a ``with`` inside this section, so all that the section had stored was put back. It can do nothing more: leave
+    it."""
+
+
+class NotReverted(Refused):
+    """What the section has stored can't be put back, and nothing was."""
 
 
 class Running(Refused):
@@ -147,7 +163,8 @@ class SyncFailed(Stopped):
 
 
 class Abandoned(Stopped):
-    """An exception has left a section that had stored, or a thread has ended in one. The next opening drops that section."""
+    """A thread has ended in a section, or an exception has left one that couldn't be reverted, or the program has called
+    :meth:`Heap.abandon`. The next opening drops that section."""
 
 
 class Forked(Stopped):
@@ -201,17 +218,23 @@ KINDS = {
     39: Kind(Closed, "the heap was closed or stopped", "open it again"),
     40: Kind(OldVersion, "the heap is of an older version", "open it with upgrade=True, after which older releases can't read it"),
     41: Kind(Forked, "the heap is that of the process that has forked this one", "open heaps in the child, after the fork"),
-    42: Kind(Abandoned, "an exception has left a section that had stored", _REOPEN),
+    42: Kind(Abandoned, "a section that hadn't ended was abandoned", _REOPEN),
     43: Kind(OtherHeap, "the file's heap isn't the one that is declared", _MAKE),
     44: Kind(BadPlan, "a lane's ring is out of its limits", "choose 4,096 to 65,536"),
 }
 
 # What statuses mean of an opening, where it is something else.
 OPENING_KINDS = {
-    15: Kind(BadPlan, "more than 4,096 objects or 16,384 fields are declared", "declare fewer, or use two heaps"),
+    15: Kind(BadPlan, "more than 4,096 objects or 16,384 fields (16,383 with a fingerprint) are declared", "declare fewer, or use two heaps"),
     18: Kind(BrokenFile, "the heap's sequence of controls is at its end", "move the values to a new heap"),
     21: Kind(NoMemory, "there was no memory", "free some memory and try again"),
     32: Kind(FileError, "the file can't be used", "see the system's cause"),
+}
+
+
+# The same where the opening may not make a heap.
+EXISTING_KINDS = {
+    25: Kind(NoHeap, "there is no heap", "mount its volume, or open it without create=False to make one"),
 }
 
 

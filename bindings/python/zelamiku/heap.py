@@ -9,17 +9,18 @@ import weakref
 from collections.abc import Iterator, Sequence
 from ctypes import byref, c_size_t, c_uint64
 from types import TracebackType
-from typing import Any
+from typing import Any, Literal
 
-from .declare import Object, bind
-from .errors import COPY_KINDS, OPENING_KINDS, Abandoned, BadPlan, Error, Forked, InSection, OtherHeap, Running, Stopped, WriteFailed, for_status
-from .library import BAD_RECORD, BUSY, CLOSED, DEVICE, FORKED, ILLEGAL_LOG, MOST_LANES, OK, OTHER_HEAP, RUNNING
-from .library import DroppedRow, FieldRow, Library, PlanRow, ReportRow, StatsRow, library
+from .declare import MOST, Object, bind
+from .errors import COPY_KINDS, EXISTING_KINDS, OPENING_KINDS
+from .errors import Abandoned, BadPlan, Error, InSection, NotAHeap, OtherHeap, Running, Stopped, WriteFailed, for_status
+from .library import BAD_RECORD, BUSY, DEVICE, ILLEGAL_LOG, MOST_LANES, NOBODY, NOT_FORMATTED, OK, OTHER_HEAP, RUNNING
+from .library import DroppedRow, FieldRow, Library, PlanRow, ReportRow, StatsRow, WaitRow, library
 from .link import Link
 from .plan import Declared, Plan
-from .report import Cause, Dropped, Report, Stats, Why
-from .session import Own, Section, Session
-from .waiter import Waiter
+from .report import Cause, Dropped, Report, Stats, Wait, Why
+from .session import Lane, Own, Section, Session
+from .tasks import Tasks
 
 
 def open(
@@ -31,12 +32,22 @@ def open(
     ring: int = 16_384,
     linger: float = 0.005,
     upgrade: bool = False,
+    create: bool = True,
+    reverts: bool = True,
+    fingerprint: int | Literal["names"] | None = "names",
     **objects: Declared,
 ) -> Heap:
     """Opens the heap of the file at this path, and recovers it; or makes one where there is no file, an empty one, or one of zeros.
 
     Each further argument names an object and gives its class, or names several and gives a sequence of classes (``accounts=[Account] * 64``).
     They and their fields are numbered in the order in which they are declared; a file whose heap is another is refused and left as it is.
+
+    ``create=False`` opens a heap that is there and makes none: :class:`NoHeap` tells where there is none, as on a volume that isn't mounted.
+    ``fingerprint`` is a number of 64 bits that a new heap keeps, and that each later opening must have. By default it is made from the names
+    of objects and fields, in their order, so that a program which declares them in another order is refused. A number is your own choice:
+    choose another one whenever fields change their meaning. None makes a heap without one. A heap without one is opened with any; one that
+    has one isn't opened with None. ``reverts=False`` keeps no old values: an exception that leaves a section stops the heap
+    (:meth:`Heap.synchronized`), and a section has room for twice as many stores.
 
     ``lanes`` is how many threads may use the heap at once, 1 to 32; a heap that is there may have more. ``capacity`` is how many records a
     lane's log holds, 2,000 to 1,048,576, and as many as its ring where it isn't said; a heap that is there keeps its own. ``ring`` is how many
@@ -62,10 +73,13 @@ def open(
         # To the library 0 would be 5,000.
         linger=_within(text, "linger, in microseconds,", round(linger * 1e6), 0, 2**32 - 1) or 1,
         upgrades=upgrade,
+        must_exist=not create,
+        reverts=reverts,
+        fingerprint=_fingerprint(text, plan, fingerprint),
     )
     calls = library()
     handle, row = _opened(calls, text, plan, wanted)
-    return Heap(Link(calls, handle, text, plan), plan, _report(calls, handle, row))
+    return Heap(Link(calls, handle, text, plan, reverts), plan, _report(calls, handle, row))
 
 
 class Heap:
@@ -79,12 +93,12 @@ class Heap:
         own = Own(link)
         self._link = link
         self._own = own
-        self._waiter = Waiter(link)
+        self._session = Session(own)
         self._report = report
         self._objects = tuple(bind(each.cls, own, each.name, number, each.numbers) for number, each in enumerate(plan.objects))
         for name, place in plan.places.items():
             self.__dict__[name] = self._objects[place] if isinstance(place, int) else self._objects[place.start : place.stop]
-        self._finish = weakref.finalize(self, _end_unclosed, link, self._waiter)
+        self._finish = weakref.finalize(self, _end_unclosed, link)
 
     def __getattr__(self, name: str) -> Any:
         if name.startswith("_"):
@@ -109,23 +123,38 @@ class Heap:
         """What the opening found, and which sections it kept and dropped."""
         return self._report
 
+    @property
+    def session(self) -> Session:
+        """What the thread that asks has of the heap: its lane, its count of sections, and :meth:`Session.revert`."""
+        return self._session
+
     def synchronized(self, *objects: Object, timeout: float | None = None) -> Section:
         """A context manager that holds these objects' monitors inside its ``with``. The thread sleeps until it has them.
 
         What a thread does from its first monitor to the moment that it holds none is a section: after a crash it is there whole or not at
         all, with all that it depends on. Monitors are taken in the order of their objects, whichever is named first, so that no two threads
         wait for each other's. So a ``with`` inside another takes only what comes after all that is held, or is held already; else it is refused
-        by :class:`OutOfOrder`. After ``timeout`` seconds, where they are given, it is :class:`TimedOut`; 0 never sleeps. No signal is
-        handled while the thread sleeps.
+        by :class:`OutOfOrder`. After ``timeout`` seconds, where they are given, it is :class:`TimedOut`; 0 never sleeps. Monitors that were
+        taken before are given back then: if one was, this was a section that changed nothing, and it counts as one. No signal is handled
+        while the thread sleeps.
 
-        An exception that leaves the ``with`` of a section which has stored stops the heap as a crash would: the next opening drops that
-        section, so that nobody ever sees a half of it, and each other thread's call is :class:`Abandoned`. Where the section has stored
-        nothing its monitors are given back, and the heap goes on. There is no rollback: look before you store.
+        An exception that leaves the ``with``, also KeyboardInterrupt, reverts the section: each field has again the value that it had before
+        the section's first store to it. Then the monitors are given back, and the exception goes on. The heap goes on for all threads, and
+        nobody ever sees a half. What the program keeps elsewhere, as in a dictionary, isn't reverted: change it last. Threads that were
+        notified stay so. A signal's exception that comes just when the section ends may find it ended, and then it is there whole.
+
+        The outermost ``with`` is the section, and those inside are parts of it. An exception that leaves one inside reverts the whole section.
+        If the program catches it before it leaves the outermost one, all that the section does further is refused, and its end tells
+        :class:`Reverted`. A section that had stored nothing goes on. :meth:`Session.revert` reverts a section on purpose.
+
+        A section can't be reverted where it has freed a monitor under which it had stored, while it held another: at the end of a ``with``
+        inside, or by :meth:`Object.wait`. Then, and where the heap was opened with ``reverts=False``, the exception stops the heap as a crash
+        would: the next opening drops the section, and each other thread's call is :class:`Abandoned`, which says so.
 
         A section isn't durable while one that it depends on is open, so keep them short. Let no await and no yield stand in one.
 
-        :class:`NoLaneFree`: other threads use all lanes. :class:`TooManyHeld`, :class:`SectionFull`, :class:`Refused`, :class:`WriteFailed`,
-        :class:`Stopped`: what was held before stays held.
+        :class:`NoLaneFree`: other threads use all lanes. :class:`TooManyHeld`, :class:`SectionFull`, :class:`Reverted`, :class:`Refused`,
+        :class:`WriteFailed`, :class:`Stopped`: what was held before stays held.
         """
         if not objects:
             raise TypeError("synchronized() wants an object, or several")
@@ -144,22 +173,25 @@ class Heap:
         :class:`InSection`. :class:`WriteFailed`: they aren't durable yet, and may be waited for again. :class:`Stopped`: they weren't durable
         before.
         """
-        session = self._own.session
-        return session.durable(timeout) if isinstance(session, Session) else True
+        lane = self._own.lane
+        return lane.durable(timeout) if isinstance(lane, Lane) else True
 
     async def durable_async(self) -> None:
-        """The same for a task of asyncio, without a timeout: one thread waits for all tasks, and the loop goes on meanwhile.
+        """The same for a task of asyncio, without a timeout: the loop goes on meanwhile, and one round tells all tasks that wait.
 
-        It waits for what the loop's thread has ended before the call. :class:`InSection`, :class:`WriteFailed`, :class:`Stopped`, as
-        :meth:`durable`.
+        It waits for what the loop's thread has ended before the call. A task that is cancelled waits no more. :class:`InSection`,
+        :class:`WriteFailed`, :class:`Stopped`, as :meth:`durable`.
         """
-        session = self._own.session
-        if not isinstance(session, Session):
+        lane = self._own.lane
+        if not isinstance(lane, Lane):
             return
-        if session.sections:
+        if lane.sections:
             raise InSection(self._link.path, "this section hasn't ended, so it can't be durable", "leave it first")
-        if not session.is_durable(0):
-            await self._waiter.durable(session)
+        if lane.has_durable(lane.ended()) and lane.is_durable(0):
+            return
+        if self._own.tasks is None:
+            self._own.tasks = Tasks(self._link, lane)
+        await self._own.tasks.durable()
 
     def stats(self) -> Stats:
         """What the heap has done since it was opened. Of one at its end: what it had, until another heap has its place; then :class:`Closed`."""
@@ -167,11 +199,22 @@ class Heap:
         status = self._link.calls.heap_stats(self._link.handle, byref(row))
         if status != OK:
             raise self._link.error(status)
-        counts = {name: getattr(row, name) for name, _ in StatsRow._fields_}
+        counts = {name: getattr(row, name) for name, _ in StatsRow._fields_ if name != "reserved"}
         counts["calls_time"] /= 1e9
         counts["longest_round"] /= 1e9
         counts["last_cause"] = Cause(counts["last_cause"])
+        counts["is_astray"] = bool(counts["is_astray"])
         return Stats(**counts)
+
+    def waits(self) -> tuple[Wait, ...]:
+        """The threads that sleep for a monitor now, and who has it. Any thread may ask. :class:`Stopped`."""
+        rows, told = (WaitRow * MOST_LANES)(), c_size_t()
+        status = self._link.calls.heap_waits(self._link.handle, rows, MOST_LANES, byref(told))
+        if status != OK:
+            raise self._link.error(status)
+        return tuple(
+            Wait(row.lane, self._objects[row.object], None if row.owner == NOBODY else row.owner, bool(row.in_circle)) for row in rows[: told.value]
+        )
 
     def copy_to(self, path: str | os.PathLike[str]) -> None:
         """Writes a copy of the heap to this path, while threads go on: beside it, synced, and renamed over what is there.
@@ -196,7 +239,7 @@ class Heap:
             status = self._link.calls.heap_close(self._link.handle)
             if status in (RUNNING, DEVICE):
                 raise self._link.error(status)
-            self._let_go(status, None)
+            self._let_go(status)
 
     def stop(self) -> None:
         """Closes the heap also where threads are in sections or wait: who sleeps is answered :class:`Closed` at once, others where they leave.
@@ -207,7 +250,7 @@ class Heap:
         :class:`Stopped`, which says with what the heap had ended: it is let go.
         """
         if self._finish.alive:
-            self._let_go(self._link.calls.heap_stop(self._link.handle), for_status(self._link.path, CLOSED))
+            self._let_go(self._link.calls.heap_stop(self._link.handle))
 
     def abandon(self, reason: str = "the program has abandoned it") -> None:
         """Stops the heap as a crash would, where a thread has failed inside its section: as :meth:`stop`, but each call is answered
@@ -218,21 +261,14 @@ class Heap:
         if self._finish.alive:
             ended = self._link.abandon(reason)
             self._finish.detach()
-            # A child that was forked has no such thread.
-            if not isinstance(ended, Forked):
-                self._waiter.end(ended)
             if not isinstance(ended, Abandoned):
                 raise ended
 
-    def _let_go(self, status: int, for_others: Error | None) -> None:
-        """The heap is at its end: tells tasks that wait, those whose sections aren't durable by an error if there is one."""
+    def _let_go(self, status: int) -> None:
+        """The heap is at its end. The library tells tasks that wait."""
         self._finish.detach()
-        error = None if status == OK else self._link.error(status)
-        # A child that was forked has no such thread.
-        if status != FORKED:
-            self._waiter.end(error or for_others)
-        if error is not None:
-            raise error
+        if status != OK:
+            raise self._link.error(status)
 
     def __enter__(self) -> Heap:
         return self
@@ -253,13 +289,11 @@ def _number(of: Object) -> int:
     return of._number
 
 
-def _end_unclosed(link: Link, waiter: Waiter) -> None:
+def _end_unclosed(link: Link) -> None:
     """The heap's last reference is gone, or the program ends: what has ended is made durable."""
     status = link.calls.heap_close(link.handle)
     if status in (RUNNING, DEVICE):
-        status = link.calls.heap_stop(link.handle)
-    if status != FORKED:
-        waiter.end(for_status(link.path, CLOSED))
+        link.calls.heap_stop(link.handle)
     warnings.warn(f"the heap of {link.path} wasn't closed", ResourceWarning, stacklevel=2)
 
 
@@ -273,21 +307,33 @@ def _opened(calls: Library, path: str, plan: Plan, wanted: PlanRow) -> tuple[int
     wanted.count = len(fields)
     wanted.objects = len(plan.objects)
     handle, row = c_uint64(), ReportRow()
-    status = calls.heap_open_rings(byref(handle), _encoded(path), byref(wanted), byref(row))
+    status = calls.heap_open_2(byref(handle), _encoded(path), byref(wanted), byref(row))
     if status == OK:
         return handle.value, row
     if status == OTHER_HEAP:
-        raise OtherHeap(path, plan.difference(row.difference, row.field, row.has, row.planned), _OTHER_CURE[row.difference == _FEWER_LANES])
+        raise OtherHeap(path, plan.difference(row.difference, row.field, row.has, row.planned), plan.cure(row.difference, row.has))
+    if status == NOT_FORMATTED:
+        raise _no_heap(calls, path)
     has_record = status in (BAD_RECORD, ILLEGAL_LOG)
     record = f"lane {row.told.bad_lane}, place {row.told.bad_place}" if has_record else ""
     raise for_status(path, status, calls.heap_error(), doing=record, also=OPENING_KINDS)
 
 
-_FEWER_LANES = 1
-_OTHER_CURE = (
-    "declare what the file has, or choose another path",
-    "ask for as many, or make a heap of more (`heapctl dump`, then `format --lanes`)",
-)
+def _no_heap(calls: Library, path: str) -> Error:
+    """Why a file has no heap, as the library tells it: there is none, or there is something else, or its first bytes are damaged."""
+    cause, _, cure = calls.heap_message().decode(errors="replace").rpartition(": open: ")[2].partition("; ")
+    if cause.startswith("there is no heap"):
+        return for_status(path, NOT_FORMATTED, calls.heap_error(), also=EXISTING_KINDS)
+    return NotAHeap(path, cause, cure)
+
+
+def _fingerprint(path: str, plan: Plan, chosen: int | str | None) -> int:
+    """The plan's, as the library is told: 0 is none."""
+    if chosen is None:
+        return 0
+    if chosen == "names":
+        return plan.fingerprint()
+    return _within(path, "fingerprint", chosen, 1, MOST)
 
 
 def _within(path: str, name: str, value: int, least: int, most: int) -> int:

@@ -21,17 +21,20 @@ VERSION = 100
 """ZELAMIKU_VERSION_NUMBER of the headers that these declarations are of."""
 
 MOST_LANES = 32
+NOBODY = 64
 NO_DEADLINE = 2**64 - 1
 ALL_SECTIONS = 2**64 - 1
 
 OK = 0
 NOTHING = 1
+WRONG_KIND = 3
 NO_MEMORY = 4
 RUNNING = 9
 NOT_HELD = 12
 BEHIND = 13
 HELD = 19
 UNFINISHED = 23
+NOT_FORMATTED = 25
 BAD_RECORD = 30
 ILLEGAL_LOG = 31
 DEVICE = 32
@@ -100,6 +103,10 @@ class PlanRow(ctypes.Structure):
         ("ring", c_uint32),
         ("linger", c_uint32),
         ("upgrades", c_uint32),
+        ("must_exist", c_uint32),
+        ("reverts", c_uint32),
+        ("keeps_slice", c_uint32),
+        ("fingerprint", c_uint64),
         ("log", c_void_p),
         ("log_of", c_void_p),
     ]
@@ -135,19 +142,26 @@ class StatsRow(ctypes.Structure):
         ("awaiting", c_uint32),
         ("entering", c_uint32),
         ("last_cause", c_uint32),
+        ("is_astray", c_uint32),
+        ("reserved", c_uint32),
     ]
+
+
+class WaitRow(ctypes.Structure):
+    """zelamiku_wait"""
+
+    _fields_ = [("lane", c_uint32), ("object", c_uint32), ("owner", c_uint32), ("in_circle", c_uint32)]
 
 
 _HEAP = _THREAD = c_uint64
 
 # What each call takes and answers; a status where nothing else is said.
 _SLEEPING: dict[str, list[Any]] = {
-    "heap_open_rings": [POINTER(c_uint64), c_char_p, POINTER(PlanRow), POINTER(ReportRow)],
+    "heap_open_2": [POINTER(c_uint64), c_char_p, POINTER(PlanRow), POINTER(ReportRow)],
     "heap_close": [_HEAP],
     "heap_stop": [_HEAP],
     "heap_abandon": [_HEAP],
     "heap_copy": [_HEAP, c_char_p],
-    "heap_await_round": [_HEAP, c_uint64, c_uint64, POINTER(c_uint64)],
     "thread_enter": [_THREAD, c_uint32],
     "thread_enter_until": [_THREAD, c_uint32, c_uint64],
     "thread_wait": [_THREAD, c_uint32],
@@ -156,17 +170,21 @@ _SLEEPING: dict[str, list[Any]] = {
 _SHORT: dict[str, list[Any]] = {
     "heap_dropped": [_HEAP, c_size_t, POINTER(DroppedRow), c_size_t, POINTER(c_size_t)],
     "heap_stats": [_HEAP, POINTER(StatsRow)],
+    "heap_waits": [_HEAP, POINTER(WaitRow), c_size_t, POINTER(c_size_t)],
     "thread_begin": [POINTER(c_uint64), _HEAP],
+    "thread_event": [_THREAD, POINTER(c_int)],
+    "thread_ask": [_THREAD, POINTER(c_uint64)],
     "thread_end": [_THREAD],
     "thread_try_enter": [_THREAD, c_uint32],
     "thread_exit": [_THREAD, c_uint32],
     "thread_load": [_THREAD, c_uint32, POINTER(c_uint64)],
     "thread_store": [_THREAD, c_uint32, c_uint64],
     "thread_notify": [_THREAD, c_uint32, POINTER(c_uint32)],
-    "thread_notify_all": [_THREAD, c_uint32, POINTER(c_uint32)],
+    "thread_notify_all": [_THREAD, c_uint32, POINTER(c_uint64)],
     "thread_take": [_THREAD, c_uint32, c_uint32, POINTER(c_uint32)],
     "thread_give": [_THREAD, c_uint32, c_uint32, c_uint32],
     "thread_look": [_THREAD, c_uint32, POINTER(Sight)],
+    "thread_revert": [_THREAD],
 }
 _TELLING: dict[str, tuple[list[Any], Any]] = {
     "version": ([], c_uint32),
@@ -174,6 +192,7 @@ _TELLING: dict[str, tuple[list[Any], Any]] = {
     "heap_error": ([], c_int),
     "pool_fields": ([c_uint32, POINTER(FieldRow), c_size_t], c_uint32),
     "thread_lane": ([_THREAD], c_uint32),
+    "thread_earlier": ([_THREAD], c_uint64),
     "thread_sections": ([_THREAD], c_uint64),
     "thread_durable": ([_THREAD], c_uint64),
 }

@@ -11,10 +11,12 @@ from .plan import Plan
 class Link:
     """What threads share of an open heap."""
 
-    def __init__(self, calls: Library, handle: int, path: str, plan: Plan) -> None:
+    def __init__(self, calls: Library, handle: int, path: str, plan: Plan, reverts: bool) -> None:
         self.calls = calls
         self.handle = handle
         self.path = path
+        self.reverts = reverts
+        """Whether what a section has stored can be put back."""
         self._plan = plan
         self._reason = ""
 

@@ -3,6 +3,10 @@ from __future__ import annotations
 
 import enum
 from dataclasses import dataclass
+from typing import TYPE_CHECKING
+
+if TYPE_CHECKING:
+    from .declare import Object
 
 
 class Why(enum.Enum):
@@ -48,6 +52,20 @@ class Report:
     """Those that weren't, by lane and then by number."""
     undone: int
     """How many fields took an old value back."""
+
+
+@dataclass(frozen=True)
+class Wait:
+    """A thread that sleeps for a monitor."""
+
+    lane: int
+    """The thread's lane (:attr:`Session.lane`)."""
+    object: Object
+    """Whose monitor it is."""
+    owner: int | None
+    """The lane of the thread that has the monitor. None: it has just been given back."""
+    in_circle: bool
+    """Whether it is one of threads that wait for each other, in a circle: none of them will go on."""
 
 
 class Cause(enum.Enum):
@@ -100,3 +118,5 @@ class Stats:
     """Threads that sleep for a monitor."""
     last_cause: Cause
     """Why the last round came."""
+    is_astray: bool
+    """The path doesn't lead to the heap's file any more: it was removed or replaced. What is stored goes on into a file without that name."""

@@ -7,19 +7,22 @@ import weakref
 from collections.abc import Callable, Sequence
 from ctypes import byref, c_bool, c_uint32, c_uint64
 from types import TracebackType
-from typing import NamedTuple, NoReturn
+from typing import TYPE_CHECKING, NamedTuple, NoReturn
 
 from .declare import Object
-from .errors import Error, InSection, OutOfOrder, TimedOut
-from .library import ALL_SECTIONS, BEHIND, HELD, NO_DEADLINE, NOT_HELD, OK, POOL_EMPTY, UNFINISHED, Sight
+from .errors import Error, InSection, NotHeld, NotReverted, OutOfOrder, Reverted, TimedOut
+from .library import ALL_SECTIONS, BEHIND, HELD, NO_DEADLINE, NOBODY, NOT_HELD, OK, POOL_EMPTY, UNFINISHED, WRONG_KIND, Sight
 from .link import Link
+
+if TYPE_CHECKING:
+    from .tasks import Tasks
 
 # Nanoseconds after which the main thread, where it sleeps until its sections are durable, handles signals, as that of Ctrl-C.
 _TICK = 200_000_000
 
 
 class _Open(NamedTuple):
-    """A section that a thread is in."""
+    """A `with` that a thread is in. The outermost one's is the section."""
 
     section: weakref.ref[Section]
     objects: Sequence[Object]
@@ -27,22 +30,32 @@ class _Open(NamedTuple):
     """How many monitors were held before it."""
 
 
-class NoSession:
+class NoLane:
     """What a thread has of a heap before its first section: all that needs a monitor is refused."""
 
     sections: Sequence[_Open] = ()
+    number: int | None = None
+    earlier = 0
 
     def __init__(self, link: Link) -> None:
         self._link = link
 
     def enter(self, section: Section) -> None:
-        """Begins the thread's session, and takes the section's monitors."""
-        section.own.session = session = Session(self._link)
-        session.enter(section)
+        """Has a lane lent to the thread, and takes the section's monitors."""
+        section.own.lane = lane = Lane(self._link)
+        lane.enter(section)
 
     def leave(self, section: Section, error: BaseException | None) -> None:
         """Stops the heap: the section has begun in another thread."""
         _tell(self._link.abandon("a section has ended in another thread than it began"), error)
+
+    def ended(self) -> int:
+        """How many sections the thread has ended."""
+        return 0
+
+    def revert(self) -> None:
+        """Is refused."""
+        raise _in_no_section(self._link)
 
     def _refuse_field(self, field: int, *_: int) -> NoReturn:
         raise self._link.field_error(NOT_HELD, field)
@@ -54,7 +67,7 @@ class NoSession:
     wait = notify = notify_all = _refuse_object
 
 
-class Session:
+class Lane:
     """A thread's lane, lent when its first section begins. It is given back when the thread ends, and with it this."""
 
     _begun: c_uint64 | None = None
@@ -66,6 +79,9 @@ class Session:
         """Those that the thread is in, the outermost first."""
         self._held: list[int] = []
         self._has_stored = False
+        """Whether the section has stored what wasn't put back."""
+        self._failure = ""
+        """What has left a `with` inside the section, which was reverted then. The section can do nothing more."""
         self._thread = threading.current_thread()
         self._when_cut_off = _when_cut_off(weakref.ref(self))
         # What the library writes to, kept since a call would otherwise make it anew each time.
@@ -79,6 +95,9 @@ class Session:
         if status != OK:
             raise link.error(status)
         self.handle = self._begun.value
+        # Kept, since nobody tells them at the heap's end.
+        self.number: int | None = self._calls.thread_lane(self.handle)
+        self.earlier: int = self._calls.thread_earlier(self.handle)
 
     def __del__(self) -> None:
         if self._begun is not None and self._calls.thread_end(self._begun.value) == UNFINISHED:
@@ -95,7 +114,7 @@ class Session:
         if held:
             self._must_be_in_order(section)
         else:
-            self._has_stored = False
+            self._has_stored, self._failure = False, ""
         before, depth = len(held), len(self.sections)
         deadline = None
         try:
@@ -113,6 +132,8 @@ class Session:
             raise
 
     def _must_be_in_order(self, section: Section) -> None:
+        if self._failure:
+            raise self._reverted()
         last = max(self._held)
         for of in section.objects:
             if of._number < last and of._number not in self._held:
@@ -132,7 +153,7 @@ class Session:
             raise self._link.object_error(status, of._number)
 
     def leave(self, section: Section, error: BaseException | None) -> None:
-        """Gives the section's monitors back; or stops the heap where an exception leaves a section that has stored."""
+        """Gives the section's monitors back. Where an exception leaves it, what the section has stored is put back before."""
         last = depth = len(self.sections) - 1
         while depth >= 0 and self.sections[depth].section() is not section:
             depth -= 1
@@ -146,11 +167,14 @@ class Session:
         before = self.sections[depth].before
         is_all = False
         try:
-            if error is not None and self._has_stored:
-                self._abandon(f"an exception has left a section that had stored ({type(error).__name__}: {error})")
+            if error is not None:
+                self._put_back(depth, error)
             status = self._give_back(before)
             is_all = depth + 1 == len(self.sections)
         finally:
+            if error is not None and not is_all:
+                # A signal's handler may have cut it off. It does nothing where all is put back.
+                self._put_back(depth, error)
             left = self.sections[depth:]
             del self._held[before:], self.sections[depth:]
             if not is_all:
@@ -158,6 +182,44 @@ class Session:
                     self._restore(each.objects)
         if status:
             _tell(self._link.error(status), error)
+        if self._failure:
+            told = self._reverted()
+            if depth == 0:
+                self._failure = ""
+            _tell(told, error)
+
+    def _put_back(self, depth: int, error: BaseException) -> None:
+        """Puts back what the section has stored, since an exception leaves a `with` of it; or stops the heap."""
+        if not self._has_stored:
+            return
+        if depth > 0:
+            # Before it is done. What was stored outside of this `with` is put back too, so who catches the exception there may not go on.
+            self._failure = _told(error)
+        status = self._calls.thread_revert(self.handle) if self._link.reverts else WRONG_KIND
+        if status:
+            self._failure = ""
+            refusal = f" and can't be reverted: {_FREED}" if status == NOT_HELD else ""
+            self._abandon(f"an exception has left a section that had stored ({_told(error)}){refusal}")
+        self._has_stored = False
+
+    def revert(self) -> None:
+        """Puts back what the section has stored. Its monitors stay held."""
+        if not self.sections:
+            raise _in_no_section(self._link)
+        if self._failure:
+            raise self._reverted()
+        if not self._link.reverts:
+            raise NotReverted(self._link.path, "the heap was opened with reverts=False", "open it without")
+        status = self._calls.thread_revert(self.handle)
+        if status == NOT_HELD:
+            raise NotReverted(self._link.path, f"nothing was put back: {_FREED}", "hold all monitors until the section's end")
+        if status:
+            raise self._link.error(status)
+        self._has_stored = False
+
+    def _reverted(self) -> Reverted:
+        cause = f"an exception has left a `with` inside this section, which was reverted ({self._failure})"
+        return Reverted(self._link.path, cause, "let the exception leave the outermost `with` too, or catch it in the inner one")
 
     def cut_off(self, section: weakref.ref[Section]) -> None:
         """A section is gone that hasn't ended: a signal's handler has raised an exception just where it was to end."""
@@ -180,10 +242,9 @@ class Session:
     def _restore(self, objects: Sequence[Object]) -> None:
         """Gives back what the thread holds of these monitors beyond what it should: an exception has cut off a take or a give."""
         sight = Sight()
-        lane = self._calls.thread_lane(self.handle)
         for of in objects:
             is_told = self._calls.thread_look(self.handle, of._number, byref(sight)) == OK
-            locks = sight.locks if is_told and sight.owner == lane else 0
+            locks = sight.locks if is_told and sight.owner == self.number else 0
             for _ in range(locks - self._held.count(of._number)):
                 self._calls.thread_exit(self.handle, of._number)
 
@@ -191,6 +252,8 @@ class Session:
 
     def load(self, field: int) -> int:
         """The bits of a field."""
+        if self._failure:
+            raise self._reverted()
         status = self._calls.thread_load(self.handle, field, self._value_place)
         if status:
             raise self._link.field_error(status, field)
@@ -198,6 +261,8 @@ class Session:
 
     def store(self, field: int, bits: int) -> None:
         """Stores the bits of a field."""
+        if self._failure:
+            raise self._reverted()
         has_stored = self._has_stored
         # Before it is done, since a signal's handler may raise an exception right after it.
         self._has_stored = True
@@ -208,6 +273,8 @@ class Session:
 
     def take(self, head: int, slots: int) -> int | None:
         """Takes a slot of the pool with this head; None where none is free."""
+        if self._failure:
+            raise self._reverted()
         has_stored = self._has_stored
         self._has_stored = True
         status = self._calls.thread_take(self.handle, head, slots, self._count_place)
@@ -220,6 +287,8 @@ class Session:
 
     def give(self, head: int, slots: int, slot: int) -> None:
         """Gives a slot back to the pool with this head."""
+        if self._failure:
+            raise self._reverted()
         has_stored = self._has_stored
         self._has_stored = True
         status = self._calls.thread_give(self.handle, head, slots, slot)
@@ -229,6 +298,8 @@ class Session:
 
     def wait(self, of: Object) -> None:
         """Waits for a notification of the object's monitor."""
+        if self._failure:
+            raise self._reverted()
         has_stored = self._has_stored
         # With the only monitor the section ends, and the next one has stored nothing.
         self._has_stored = has_stored and any(number != of._number for number in self._held)
@@ -237,19 +308,25 @@ class Session:
             self._has_stored = has_stored
             raise self._link.object_error(status, of._number)
 
-    def notify(self, of: Object) -> int:
-        """Wakes one thread that waits for the object's monitor; how many there were of it."""
+    def notify(self, of: Object) -> int | None:
+        """Wakes one thread that waits for the object's monitor, and answers its lane; None: there was none."""
+        if self._failure:
+            raise self._reverted()
         status = self._calls.thread_notify(self.handle, of._number, self._count_place)
         if status:
             raise self._link.object_error(status, of._number)
-        return self._count.value
+        lane = self._count.value
+        return None if lane == NOBODY else lane
 
-    def notify_all(self, of: Object) -> int:
-        """Wakes all threads that wait for the object's monitor, and answers how many."""
-        status = self._calls.thread_notify_all(self.handle, of._number, self._count_place)
+    def notify_all(self, of: Object) -> tuple[int, ...]:
+        """Wakes all threads that wait for the object's monitor, and answers their lanes."""
+        if self._failure:
+            raise self._reverted()
+        status = self._calls.thread_notify_all(self.handle, of._number, self._value_place)
         if status:
             raise self._link.object_error(status, of._number)
-        return self._count.value
+        lanes = self._value.value
+        return tuple(lane for lane in range(lanes.bit_length()) if lanes >> lane & 1)
 
     # ---- outside of sections ----
 
@@ -282,13 +359,13 @@ class Session:
         return durable >= count
 
 
-def _when_cut_off(of: weakref.ref[Session]) -> Callable[[weakref.ref[Section]], None]:
-    """What is called where a section is gone that hasn't ended. It doesn't keep the session, which goes with its thread."""
+def _when_cut_off(of: weakref.ref[Lane]) -> Callable[[weakref.ref[Section]], None]:
+    """What is called where a section is gone that hasn't ended. It doesn't keep the lane, which goes with its thread."""
 
     def tell(section: weakref.ref[Section]) -> None:
-        session = of()
-        if session is not None:
-            session.cut_off(section)
+        lane = of()
+        if lane is not None:
+            lane.cut_off(section)
 
     return tell
 
@@ -298,7 +375,8 @@ class Own(threading.local):
 
     def __init__(self, link: Link) -> None:
         self.link = link
-        self.session: Session | NoSession = NoSession(link)
+        self.lane: Lane | NoLane = NoLane(link)
+        self.tasks: Tasks | None = None
 
 
 class Section:
@@ -312,10 +390,59 @@ class Section:
         self.timeout = timeout
 
     def __enter__(self) -> None:
-        self.own.session.enter(self)
+        self.own.lane.enter(self)
 
     def __exit__(self, kind: type[BaseException] | None, error: BaseException | None, trace: TracebackType | None) -> None:
-        self.own.session.leave(self, error)
+        self.own.lane.leave(self, error)
+
+
+class Session:
+    """What the calling thread has of a heap: :attr:`Heap.session`. A thread has a lane from its first section on, until it ends.
+
+    The next opening's report names each section that it drops by its lane and its number there. Such a section of this lane is the thread's
+    own section ``number - earlier``, if that is 1 or more and no more than the thread has begun.
+    """
+
+    __slots__ = ("_own",)
+
+    def __init__(self, own: Own) -> None:
+        self._own = own
+
+    def __repr__(self) -> str:
+        return f"<zelamiku.Session of {self._own.link.path}, lane {self.lane}>"
+
+    @property
+    def lane(self) -> int | None:
+        """The thread's lane, from 0 on. None: it has had no section yet."""
+        return self._own.lane.number
+
+    @property
+    def earlier(self) -> int:
+        """How many sections of its lane had ended, in this opening, before the thread had it."""
+        return self._own.lane.earlier
+
+    @property
+    def sections(self) -> int:
+        """How many sections the thread has ended. A wait with no other monitor held ends one too. 0 at the heap's end."""
+        return self._own.lane.ended()
+
+    def revert(self) -> None:
+        """Puts back what the section has stored. It goes on as if it had stored nothing, and its monitors stay held.
+
+        :class:`NotHeld`: the thread is in no section. :class:`NotReverted`: nothing was put back.
+        """
+        self._own.lane.revert()
+
+
+_FREED = "it has freed a monitor under which it had stored"
+
+
+def _told(error: BaseException) -> str:
+    return f"{type(error).__name__}: {error}"
+
+
+def _in_no_section(link: Link) -> NotHeld:
+    return NotHeld(link.path, "the thread is in no section", "call it inside `with heap.synchronized(..)`")
 
 
 def _tell(stopped: Error, error: BaseException | None) -> None:

@@ -9,7 +9,7 @@
 //! `fdatasync` replaced by a library that is loaded before the C library's.
 use std::sync::atomic::{AtomicBool, Ordering};
 use std::time::Duration;
-use zelamiku::service::{Error, Heap, Session};
+use zelamiku::{Error, Heap, Session};
 
 fn section(session: &mut Session, first: u32, second: u32) -> Result<(), Error> {
     session.synchronized(first, |s| {
@@ -53,26 +53,6 @@ fn work(mut session: Session, first: u32, second: u32, stopping: &AtomicBool) ->
     seen
 }
 
-// Leaves the file without a heap, for the service to make one. It is refused where another process has the file's heap.
-fn clear(path: &str) {
-    let file = std::fs::File::options()
-        .read(true)
-        .write(true)
-        .create(true)
-        .truncate(false)
-        .open(path)
-        .expect("a file");
-    let field = zelamiku::Field {
-        owner: 0,
-        guard: 0,
-        first: 0,
-        is_transient: false,
-    };
-    // The calls of this heap are never made: so the file has zeros.
-    let made = zelamiku::Heap::format_file(&file, 1, &[field], 1, 2_000);
-    made.map(|_| ()).expect("a file that no process has");
-}
-
 fn main() {
     let words: Vec<String> = std::env::args().collect();
     let kind = words.get(2).map_or("own", String::as_str);
@@ -82,7 +62,7 @@ fn main() {
     }
     let number = |place: usize, other: u32| words.get(place).map_or(other, |word| word.parse().expect("a number"));
     let (threads, capacity, seconds) = (number(3, 4).clamp(1, 32), number(4, 1_048_576), number(5, 4));
-    clear(&words[1]);
+    let _ = std::fs::remove_file(&words[1]);
     let mut options = Heap::options()
         .lanes(threads)
         .capacity(capacity)

@@ -6,7 +6,7 @@
 //! times are those of /proc.
 use std::sync::atomic::{AtomicBool, AtomicU64, Ordering};
 use std::time::{Duration, Instant};
-use zelamiku::service::{Error, Heap, Session};
+use zelamiku::{Error, Heap, Session};
 
 // The processor time of the threads that are alive, in nanoseconds: of all, and of the heap's helper.
 fn processor_times() -> (u64, u64) {
@@ -76,26 +76,6 @@ fn work(heap: &Heap, threads: u32, time: Duration, waits: bool) {
     });
 }
 
-// Leaves the file without a heap, for the service to make one. It is refused where another process has the file's heap.
-fn clear(path: &str) {
-    let file = std::fs::File::options()
-        .read(true)
-        .write(true)
-        .create(true)
-        .truncate(false)
-        .open(path)
-        .expect("a file");
-    let field = zelamiku::Field {
-        owner: 0,
-        guard: 0,
-        first: 0,
-        is_transient: false,
-    };
-    // The calls of this heap are never made: so the file has zeros.
-    let made = zelamiku::Heap::format_file(&file, 1, &[field], 1, 2_000);
-    made.map(|_| ()).expect("a file that no process has");
-}
-
 fn main() {
     let words: Vec<String> = std::env::args().collect();
     let Some(path) = words.get(1) else {
@@ -104,7 +84,7 @@ fn main() {
     };
     let number = |place: usize, other: u32| words.get(place).map_or(other, |word| word.parse().expect("a number"));
     let (time, most) = (Duration::from_secs(number(2, 2).into()), number(3, 32).clamp(1, 32));
-    clear(path);
+    let _ = std::fs::remove_file(path);
     let mut options = Heap::options().lanes(most).objects(most + 1);
     for object in 0..=most {
         options = options.field(object, object, 0);

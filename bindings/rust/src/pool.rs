@@ -1,13 +1,12 @@
 //! A pool of slots in a heap's fields.
-use crate::{answer, raw, Field, Refusal};
+use crate::{raw, Field, Refusal};
 
 /// A pool of slots, numbered from 0: where it lies in a heap's fields.
 ///
 /// It has the field of its head, and after it one for each slot. One object has and guards them, and only the pool's calls store to
-/// them: [`Session::take`](crate::Session::take) and [`give`](crate::Session::give), or those of the service's
-/// [`Held`](crate::service::Held). What a program keeps in a slot lies in fields of its own, as field `base + slot`, and links to others
-/// by their numbers: so lists and trees are built. A slot that a section takes or gives back is taken or free after a crash as that
-/// section is there or not.
+/// them: [`Held::take`](crate::Held::take) and [`give`](crate::Held::give). What a program keeps in a slot lies in fields of its own, as
+/// field `base + slot`, and links to others by their numbers: so lists and trees are built. A slot that a section takes or gives back is
+/// taken or free after a crash as that section is there or not.
 ///
 /// Where a heap has a pool the program knows: it is no part of the file.
 ///
@@ -79,8 +78,10 @@ impl Pool {
         // One more than a pool may have is enough to be refused.
         let count = self.slots.min(MOST_SLOTS + 1) as usize + 1;
         let mut fields = vec![raw::Field::default(); count];
-        answer(raw::pool_fields(object, &mut fields))?;
-        Ok(fields.into_iter().map(Field::from).collect())
+        match raw::pool_fields(object, &mut fields) {
+            raw::OK => Ok(fields.into_iter().map(Field::from).collect()),
+            status => Err(Refusal::from(status)),
+        }
     }
 }
 

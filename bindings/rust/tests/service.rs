@@ -1,26 +1,11 @@
 //! Threads over a service, on a file.
-use std::path::PathBuf;
+use scratch::Scratch;
 use std::sync::atomic::{AtomicU64, Ordering};
 use std::sync::Arc;
 use std::time::{Duration, Instant};
 use zelamiku::service::{ErrorKind, Heap, Options, Session};
 
-// A file of its own for each test, which is removed with it.
-struct Scratch(PathBuf);
-
-impl Scratch {
-    fn new(name: &str) -> Scratch {
-        let path = std::env::temp_dir().join(format!("zelamiku-service-{name}-{}", std::process::id()));
-        let _ = std::fs::remove_file(&path);
-        Scratch(path)
-    }
-}
-
-impl Drop for Scratch {
-    fn drop(&mut self) {
-        let _ = std::fs::remove_file(&self.0);
-    }
-}
+mod scratch;
 
 fn counters(lanes: u32) -> Options {
     Heap::options().lanes(lanes).objects(2).field(0, 0, 0).field(1, 1, 0)
@@ -37,7 +22,7 @@ fn count(session: &mut Session, field: u32) {
 #[test]
 fn threads_that_want_one_monitor_count_in_turn() {
     let scratch = Scratch::new("count");
-    let heap = counters(8).open(&scratch.0).unwrap();
+    let heap = counters(8).open(&scratch).unwrap();
     std::thread::scope(|scope| {
         for _ in 0..8 {
             let mut session = heap.session().unwrap();
@@ -45,14 +30,14 @@ fn threads_that_want_one_monitor_count_in_turn() {
         }
     });
     heap.close().unwrap();
-    let heap = counters(8).open(&scratch.0).unwrap();
+    let heap = counters(8).open(&scratch).unwrap();
     assert_eq!(heap.session().unwrap().synchronized(0, |s| s.load(0)).unwrap(), 16_000);
 }
 
 #[test]
 fn more_threads_than_processors_sleep_for_a_monitor_that_is_held_long() {
     let scratch = Scratch::new("long");
-    let heap = counters(16).open(&scratch.0).unwrap();
+    let heap = counters(16).open(&scratch).unwrap();
     std::thread::scope(|scope| {
         for _ in 0..16 {
             let mut session = heap.session().unwrap();
@@ -74,7 +59,7 @@ fn more_threads_than_processors_sleep_for_a_monitor_that_is_held_long() {
 #[test]
 fn each_section_that_is_awaited_is_durable() {
     let scratch = Scratch::new("durable");
-    let heap = counters(8).open(&scratch.0).unwrap();
+    let heap = counters(8).open(&scratch).unwrap();
     std::thread::scope(|scope| {
         for thread in 0..8 {
             let mut session = heap.session().unwrap();
@@ -92,7 +77,7 @@ fn each_section_that_is_awaited_is_durable() {
 #[test]
 fn a_section_that_nobody_awaits_is_durable_in_time() {
     let scratch = Scratch::new("linger");
-    let heap = counters(1).linger(Duration::from_millis(1)).open(&scratch.0).unwrap();
+    let heap = counters(1).linger(Duration::from_millis(1)).open(&scratch).unwrap();
     let mut session = heap.session().unwrap();
     count(&mut session, 0);
     let begin = Instant::now();
@@ -105,7 +90,7 @@ fn a_section_that_nobody_awaits_is_durable_in_time() {
 #[test]
 fn sessions_come_and_go() {
     let scratch = Scratch::new("come");
-    let heap = Arc::new(counters(2).open(&scratch.0).unwrap());
+    let heap = Arc::new(counters(2).open(&scratch).unwrap());
     for round in 1..=100 {
         let threads = [0, 1].map(|field| {
             let heap = Arc::clone(&heap);
@@ -132,7 +117,7 @@ fn sessions_come_and_go() {
 fn a_lanes_next_session_counts_its_own_sections() {
     let scratch = Scratch::new("own");
     // No round but those that are asked for.
-    let heap = counters(1).linger(Duration::from_secs(3_600)).open(&scratch.0).unwrap();
+    let heap = counters(1).linger(Duration::from_secs(3_600)).open(&scratch).unwrap();
     for _ in 0..3 {
         let mut session = heap.session().unwrap();
         count(&mut session, 0);
@@ -155,7 +140,7 @@ fn producers_and_consumers_wait_and_notify() {
             .field(COUNT, LIST, 0)
             .field(TAKEN, LIST, 0)
     };
-    let heap = options().open(&scratch.0).unwrap();
+    let heap = options().open(&scratch).unwrap();
     let taken = AtomicU64::new(0);
     std::thread::scope(|scope| {
         for _ in 0..4 {
@@ -193,7 +178,7 @@ fn producers_and_consumers_wait_and_notify() {
         }
     });
     heap.close().unwrap();
-    let heap = options().open(&scratch.0).unwrap();
+    let heap = options().open(&scratch).unwrap();
     let told = heap
         .session()
         .unwrap()
@@ -204,8 +189,9 @@ fn producers_and_consumers_wait_and_notify() {
 #[test]
 fn a_wait_frees_all_locks_of_one_monitor_and_keeps_others() {
     let scratch = Scratch::new("locks");
-    let heap = counters(2).open(&scratch.0).unwrap();
+    let heap = counters(2).open(&scratch).unwrap();
     let (mut waiter, mut other) = (heap.session().unwrap(), heap.session().unwrap());
+    let lane = waiter.lane();
     let thread = std::thread::spawn(move || {
         let waited = waiter.synchronized(1, |outer| {
             outer.synchronized(0, |s| {
@@ -228,8 +214,8 @@ fn a_wait_frees_all_locks_of_one_monitor_and_keeps_others() {
     other
         .synchronized(0, |s| {
             s.store(0, 2)?;
-            assert!(s.notify()?);
-            assert!(!s.notify()?);
+            assert_eq!(s.notify()?, Some(lane));
+            assert_eq!(s.notify()?, None);
             Ok(())
         })
         .unwrap();
@@ -244,8 +230,9 @@ fn a_wait_frees_all_locks_of_one_monitor_and_keeps_others() {
 #[test]
 fn a_wait_with_one_monitor_ends_a_section() {
     let scratch = Scratch::new("ends");
-    let heap = counters(2).open(&scratch.0).unwrap();
+    let heap = counters(2).open(&scratch).unwrap();
     let (mut waiter, mut other) = (heap.session().unwrap(), heap.session().unwrap());
+    let lane = waiter.lane();
     let thread = std::thread::spawn(move || {
         let waited = waiter.synchronized(0, |s| {
             s.store(0, 1)?;
@@ -269,14 +256,14 @@ fn a_wait_with_one_monitor_ends_a_section() {
         s.store(0, 2)?;
         s.notify_all()
     });
-    assert_eq!(notified.unwrap(), 1);
+    assert_eq!(notified.unwrap(), [lane]);
     thread.join().unwrap();
 }
 
 #[test]
 fn a_heap_that_is_dropped_ends_those_that_wait() {
     let scratch = Scratch::new("dropped");
-    let heap = counters(2).open(&scratch.0).unwrap();
+    let heap = counters(2).open(&scratch).unwrap();
     let (mut waiter, mut other) = (heap.session().unwrap(), heap.session().unwrap());
     let thread = std::thread::spawn(move || {
         waiter.synchronized(0, |s| {
@@ -293,14 +280,43 @@ fn a_heap_that_is_dropped_ends_those_that_wait() {
         other.synchronized(0, |s| s.load(0)).unwrap_err().kind(),
         ErrorKind::Closed
     );
-    let heap = counters(2).open(&scratch.0).unwrap();
+    let heap = counters(2).open(&scratch).unwrap();
     assert_eq!(heap.session().unwrap().synchronized(0, |s| s.load(0)).unwrap(), 1);
+}
+
+#[test]
+fn a_wait_that_the_heaps_end_cuts_off_with_its_section_is_told() {
+    let scratch = Scratch::new("cut");
+    let heap = counters(2).open(&scratch).unwrap();
+    let (mut waiter, mut other) = (heap.session().unwrap(), heap.session().unwrap());
+    let thread = std::thread::spawn(move || {
+        count(&mut waiter, 1);
+        waiter.durable().unwrap();
+        let waited = waiter.synchronized(1, |outer| {
+            outer.store(1, 7)?;
+            outer.synchronized(0, |s| {
+                s.store(0, 1)?;
+                s.wait()
+            })
+        });
+        assert_eq!(waited.unwrap_err().kind(), ErrorKind::Closed);
+        (waiter.sections(), waiter.durable().map_err(|error| error.kind()))
+    });
+    while other.synchronized(0, |s| s.load(0)).unwrap() == 0 {
+        std::thread::yield_now();
+    }
+    heap.stop();
+    assert_eq!(thread.join().unwrap(), (1, Err(ErrorKind::Closed)));
+    drop((other, heap));
+    let heap = counters(2).open(&scratch).unwrap();
+    let mut session = heap.session().unwrap();
+    assert_eq!([0, 1].map(|field| session.synchronized(field, |s| s.load(field)).unwrap()), [0, 1]);
 }
 
 #[test]
 fn a_session_that_goes_to_another_thread_works_on() {
     let scratch = Scratch::new("moved");
-    let heap = counters(1).open(&scratch.0).unwrap();
+    let heap = counters(1).open(&scratch).unwrap();
     let mut session = heap.session().unwrap();
     for _ in 0..5 {
         session = std::thread::spawn(move || {
@@ -318,23 +334,23 @@ fn a_session_that_goes_to_another_thread_works_on() {
 #[test]
 fn one_opening_has_the_heap_of_a_file() {
     let scratch = Scratch::new("busy");
-    let heap = counters(2).open(&scratch.0).unwrap();
+    let heap = counters(2).open(&scratch).unwrap();
     let mut session = heap.session().unwrap();
     count(&mut session, 0);
-    let error = counters(2).open(&scratch.0).unwrap_err();
+    let error = counters(2).open(&scratch).unwrap_err();
     assert_eq!(error.kind(), ErrorKind::Busy);
     count(&mut session, 0);
     session.durable().unwrap();
     drop((session, heap));
-    let heap = counters(2).open(&scratch.0).unwrap();
+    let heap = counters(2).open(&scratch).unwrap();
     assert_eq!(heap.session().unwrap().synchronized(0, |s| s.load(0)).unwrap(), 2);
 }
 
 #[test]
 fn files_that_are_no_such_heap_are_left_as_they_are() {
     let scratch = Scratch::new("other");
-    counters(2).open(&scratch.0).unwrap().close().unwrap();
-    let before = std::fs::read(&scratch.0).unwrap();
+    counters(2).open(&scratch).unwrap().close().unwrap();
+    let before = std::fs::read(&scratch).unwrap();
     let others = [
         (counters(3), "lanes: 2 in the file, and 3 in the plan"),
         (counters(2).field(2, 0, 0), "fields: 2 in the file, and 3 in the plan"),
@@ -343,18 +359,53 @@ fn files_that_are_no_such_heap_are_left_as_they_are() {
         (Heap::options().lanes(2).objects(2).field(0, 0, 0).transient(1, 1, 0), "field 1"),
     ];
     for (other, told) in others {
-        let error = other.open(&scratch.0).unwrap_err();
+        let error = other.open(&scratch).unwrap_err();
         assert_eq!(error.kind(), ErrorKind::OtherHeap);
         assert!(error.to_string().contains(told), "{error}");
     }
-    assert_eq!(std::fs::read(&scratch.0).unwrap(), before);
+    assert_eq!(std::fs::read(&scratch).unwrap(), before);
     // More lanes than were asked for are there to be used.
-    assert_eq!(counters(1).open(&scratch.0).unwrap().lanes(), 2);
+    assert_eq!(counters(1).open(&scratch).unwrap().lanes(), 2);
     // One whose making was cut off is made anew.
-    std::fs::write(&scratch.0, [b"MONIHEAP", &[0u8; 100][..]].concat()).unwrap();
-    counters(2).open(&scratch.0).unwrap().close().unwrap();
-    std::fs::write(&scratch.0, [0; 5_000]).unwrap();
-    counters(2).open(&scratch.0).unwrap().close().unwrap();
-    let error = Heap::options().objects(1).field(1, 0, 0).open(&scratch.0).unwrap_err();
+    std::fs::write(&scratch, [b"MONIHEAP", &[0u8; 100][..]].concat()).unwrap();
+    counters(2).open(&scratch).unwrap().close().unwrap();
+    std::fs::write(&scratch, [0; 5_000]).unwrap();
+    counters(2).open(&scratch).unwrap().close().unwrap();
+    let error = Heap::options().objects(1).field(1, 0, 0).open(&scratch).unwrap_err();
     assert_eq!(error.kind(), ErrorKind::Opening);
+}
+
+// The calling thread's time slice, in nanoseconds; 0 where the system tells none.
+fn slice() -> u64 {
+    const SCHED_GETATTR: i64 = 315; // on x86-64, for which the library is made
+    extern "C" {
+        fn syscall(number: i64, ...) -> i64;
+    }
+    let mut attributes = [0u64; 8];
+    // SAFETY: the call writes no more bytes than it is told.
+    let told = unsafe { syscall(SCHED_GETATTR, 0, attributes.as_mut_ptr(), std::mem::size_of_val(&attributes), 0) };
+    if told == 0 { attributes[3] } else { 0 }
+}
+
+// The slices of a thread before it has waited for a round, and after.
+fn slices(options: Options, scratch: &Scratch) -> (u64, u64) {
+    let heap = options.open(scratch).unwrap();
+    let mut session = heap.session().unwrap();
+    let thread = std::thread::spawn(move || {
+        let before = slice();
+        count(&mut session, 0);
+        session.durable().unwrap();
+        (before, slice())
+    });
+    thread.join().unwrap()
+}
+
+#[test]
+fn a_thread_keeps_its_slice_where_that_is_asked() {
+    let scratch = Scratch::new("slice");
+    let (before, after) = slices(counters(1).keeps_slice(true), &scratch);
+    assert_eq!(before, after);
+    // Elsewhere it is short then, or the system has none that can be asked for.
+    let (before, after) = slices(counters(1), &scratch);
+    assert!(after == 100_000 || after == before, "{before} {after}");
 }

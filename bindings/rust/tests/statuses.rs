@@ -38,7 +38,7 @@ fn of_header() -> BTreeMap<u32, String> {
 
 // Of the library's C: `    [ZELAMIKU_NAME] = {"TEXT", "CURE"},`.
 fn texts() -> BTreeMap<String, String> {
-    let source = read("../c/zelamiku_threads.c");
+    let source = read("../c/src/status.c");
     let texts = source.lines().filter_map(|line| {
         let (name, rest) = line.trim().strip_prefix("[ZELAMIKU_")?.split_once("] = {\"")?;
         Some((name.to_string(), rest.split_once('"')?.0.to_string()))
@@ -172,17 +172,10 @@ fn the_header_has_the_limits_and_numbers_of_the_library() {
 fn this_crate_has_the_numbers_of_the_headers() {
     let numbers = [
         ("NOBODY", "src/raw.rs", "NOBODY"),
-        ("MOST_BYTES", "src/raw.rs", "MOST_BYTES"),
         ("NO_SLOT", "src/raw.rs", "NO_SLOT"),
         ("MOST_SLOTS", "src/pool.rs", "MOST_SLOTS"),
-        ("LEAST_RING", "src/raw.rs", "USUAL_RING"),
     ];
     for (name, path, constant) in numbers {
         assert_eq!(header_number(name), number_in(path, constant), "{name}");
     }
-    // A file's header, in both.
-    let header = read("../c/zelamiku_threads.h");
-    let start = "#define ZELAMIKU_HEADER_BYTES ";
-    let rest = header.lines().find_map(|line| line.strip_prefix(start)).unwrap();
-    assert_eq!(rest.trim(), constant_in("src/file.rs", "HEADER_BYTES"));
 }

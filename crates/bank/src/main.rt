@@ -34,7 +34,8 @@ impl Work for Transfers {
     }
 }
 
-// Both accounts' monitors are held over the transfer, the lesser taken first, so that no two threads wait for one another.
+// Both accounts' monitors are held over the transfer, the lesser taken first, so that no two threads wait for one another. They are given back
+// also where the transfer is refused.
 fn transfer<J: Joint, R: Wait>(
     rt: &R,
     thread: &mut HeapThread<'_, J>,
@@ -42,14 +43,32 @@ fn transfer<J: Joint, R: Wait>(
     to: u32,
     amount: u64,
 ) -> Result<(), SessionError> {
-    thread.enter(rt, ObjectId(from.min(to)))?;
-    thread.enter(rt, ObjectId(from.max(to)))?;
-    let left = thread.load(FieldId(from))?.wrapping_sub(amount);
-    thread.store(FieldId(from), left)?;
-    let more = thread.load(FieldId(to))?.wrapping_add(amount);
-    thread.store(FieldId(to), more)?;
-    thread.exit(ObjectId(from))?;
-    thread.exit(ObjectId(to))
+    let (first, second) = (ObjectId(from.min(to)), ObjectId(from.max(to)));
+    thread.enter(rt, first)?;
+    if let Err(refused) = thread.enter(rt, second) {
+        thread.exit(first)?;
+        return Err(refused);
+    }
+    let moved = pay(thread, from, to, amount);
+    thread.exit(second)?;
+    thread.exit(first)?;
+    moved
+}
+
+// Both balances are looked at before either is changed: where one has too little, or the other has no room, the section changes nothing.
+fn pay<J: Joint>(
+    thread: &mut HeapThread<'_, J>,
+    from: u32,
+    to: u32,
+    amount: u64,
+) -> Result<(), SessionError> {
+    let left = thread.load(FieldId(from))?.checked_sub(amount);
+    let more = thread.load(FieldId(to))?.checked_add(amount);
+    if let (Some(left), Some(more)) = (left, more) {
+        thread.store(FieldId(from), left)?;
+        thread.store(FieldId(to), more)?;
+    }
+    Ok(())
 }
 
 // Each account has a field for its balance, which its monitor guards and which begins with 100.

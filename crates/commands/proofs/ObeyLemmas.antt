@@ -8,9 +8,10 @@ use Rattle.scripts.specs.Runs.{Ends}
 use Rattle.image_file.specs.declared.error.FormatError.{FormatError}
 use Rattle.sector_disk.specs.declared.size.SectorSize.{SectorSize}
 use Rattle.recover.specs.declared.error.RecoverError.TheVariants.{Fault}
+use Rattle.image_file.specs.Beside.{MakesBeside}
 use Rattle.image_file.specs.Formatting.{IsSilent, MakesAt, MayBeMade, MayBlameNumbers, PrintsLess}
 use Rattle.image_file.specs.Images.{Stays}
-use Rattle.image_file.specs.Recovering.{RecoversAt}
+use Rattle.image_file.specs.Recovering.{IsOnTheWayAt, RecoversAt}
 use Rattle.image_file.specs.declared.error.ImageFault.TheVariants as images
 use Rattle.image_file.specs.declared.new_image.NewImage.{NewImage}
 use Rattle.image_file.specs.declared.error.ImageFault.{ImageFault}
@@ -34,7 +35,12 @@ made asked (Ok done) had has lies written now makes left numbers silent part = m
 made asked (Err error) had has lies written now makes left numbers silent part = record { left = left; numbers = numbers; silent = silent; part = part }
 
 pub recovered : (versions : Versions) (r : Result (Unit {0}) ImageFault) (had has written now : Option (List ℕ)) → OnOk r (RecoversAt versions had has written now)
-    → IfErr r (λ error. error ≢ images.Image Fault → Stays had has) → OnErr r (TellsLessOfVersions versions written now) → IfErr r (λ error. IsSilentImage error written now)
+    → IfErr r (λ error. error ≢ images.Image Fault → Stays had has) → OnErr r (IsOnTheWayAt had has) → OnErr r (TellsLessOfVersions versions written now) → IfErr r (λ error. IsSilentImage error written now)
     → IfErr r (MayBeRefusedBy versions) → Recovers versions (told_of_image r) had has written now
-recovered versions (Ok done) had has written now all kept part silent old = all
-recovered versions (Err error) had has written now all kept part silent old = record { kept = kept; part = part; silent = silent; too_old = old }
+recovered versions (Ok done) had has written now all kept way part silent old = all
+recovered versions (Err error) had has written now all kept way part silent old = record { kept = kept; way = way; part = part; silent = silent; too_old = old }
+
+-- what lies beside the image that was made, or wasn't
+pub made_beside : (is_kept : Bool) (r : Result (Unit {0}) FormatError) (path : List ℕ) (had has : List ℕ → Option (List ℕ)) → MakesBeside is_kept r path had has → MakesBeside is_kept (told_of_format r) path had has
+made_beside is_kept (Ok done) path had has makes = makes
+made_beside is_kept (Err error) path had has makes = makes

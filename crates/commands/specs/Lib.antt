@@ -1,5 +1,6 @@
 -- The promise: what is done, what is told of workers and why it isn't, and the status. Public clauses state it.
 pub mod Obeying
+pub mod Beside
 pub mod Driving
 pub mod DrivenText
 pub mod Telling

@@ -19,7 +19,7 @@ use Rattle.recover.specs.declared.versions.Versions.TheVariants.{Current, Both}
 use Rattle.image_file.specs.declared.error.FormatError.{FormatError}
 use Rattle.image_file.specs.Formatting.{IsSilent, MakesAt, MayBeMade, MayBlameNumbers, PrintsLess}
 use Rattle.image_file.specs.Images.{Stays}
-use Rattle.image_file.specs.Recovering.{RecoversAt}
+use Rattle.image_file.specs.Recovering.{IsOnTheWayAt, RecoversAt}
 use Rattle.image_file.specs.declared.new_image.NewImage.{NewImage}
 use Rattle.image_file.specs.Drawing.{DrawsBy}
 use Rattle.image_file.specs.Dumping.{DumpsBy}
@@ -174,6 +174,8 @@ DumpsOf schema result had has written now =
 pub record IsNotRecovered (versions : Versions) (had has : Option (List ℕ)) (error : ImageFault)
     (written now : Option (List ℕ)) : Type 0 where
   pub kept : error ≢ images.Image Fault → Stays had has
+  -- After any refusal, a fault too, what is there is the image that was, or one on recovery's way from it.
+  pub way : IsOnTheWayAt had has
   pub part : TellsLessOfVersions versions written now
   pub silent : IsSilentImage error written now
   pub too_old : MayBeRefusedBy versions error

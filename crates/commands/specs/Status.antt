@@ -1,5 +1,5 @@
 -- The status with which the program ends (docs/SCRIPTS.md, "The program's fault texts").
-use Rattle.std.specs.Prelude.{ℕ}
+use Rattle.std.specs.Prelude.{ℕ, Result, Ok, Err}
 use Rattle.image_file.specs.declared.error.FormatError.{FormatError}
 use Rattle.image_file.specs.declared.error.FormatError.TheVariants.{Schema, InUse}
 use Rattle.image_file.specs.declared.error.FileFault.{FileFault}
@@ -89,3 +89,8 @@ status_for_fault (fault.Named error) = status_for_named error
 status_for_fault (fault.File error) = status_for_file error
 status_for_fault (fault.Drive error) = 1
 status_for_fault fault.Write = 1
+
+-- where it was done too
+abbrev pub status_after : Result (Unit {0}) WorkFault → ℕ
+status_after (Ok done) = 0
+status_after (Err fault) = status_for_fault fault

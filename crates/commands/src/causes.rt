@@ -58,7 +58,7 @@ fn wrong_kind(kind: FileType) -> Option<&'static str> {
         Some("it is a folder; name a file")
     } else if kind.is_block_device() {
         Some(
-            "it is a block device, which 'show' and 'dump' read; the other words want a regular file: copy the device to one",
+            "it is a block device, which 'show', 'dump' and 'get' read; the other words want a regular file: copy the device to one",
         )
     } else {
         Some("it is a device, a pipe or a socket, which holds no image; name a regular file")
@@ -98,12 +98,26 @@ fn cure_of<R: Files>(rt: &R, path: &Path<'_>, error: &io::Error) -> &'static str
         (ErrorKind::NotFound, Place::Beside) => "; make the folder first",
         (ErrorKind::NotFound, Place::Schema) => "; name the schema file",
         (ErrorKind::PermissionDenied, _) => "; ask its owner for the right to read and write it",
-        (ErrorKind::ReadOnlyFilesystem, _) =>
-            "; copy the image to a file system that can be written",
+        (ErrorKind::ReadOnlyFilesystem, _) => {
+            "; where its disk has failed, mount it again, and recover; else copy the image to one that can be written"
+        }
         (ErrorKind::StorageFull | ErrorKind::QuotaExceeded, Place::Output) => "; free some space",
         (ErrorKind::StorageFull | ErrorKind::QuotaExceeded, _) => room_cure(rt, path),
         (ErrorKind::IsADirectory, _) => "; name a file",
-        _ => "",
+        (_, Place::Output) => "",
+        _ => disk_cure(error),
+    }
+}
+
+// What the system says of a disk that fails (EIO). Until its file system is mounted again it may give what the disk hasn't.
+const DISK_FAILS: i32 = 5;
+
+// What mends it where the disk has failed.
+fn disk_cure(error: &io::Error) -> &'static str {
+    if error.raw_os_error() == Some(DISK_FAILS) {
+        "; its disk has failed: mount the file system again, and recover"
+    } else {
+        ""
     }
 }
 

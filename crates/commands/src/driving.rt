@@ -1,6 +1,7 @@
 //! The program's word `drive`.
 ghost use Rattle.std.specs.Prelude.{◌≡◌, IfErr, IfOk, OnErr, OnOk};
 ghost use Rattle.std.specs.Io.KnownBytes.{Appends};
+ghost use Rattle.commands.specs.Beside.{DrivesBeside};
 ghost use Rattle.commands.specs.DrivenText.{driven_text};
 ghost use Rattle.commands.specs.Faults.{RefusedAt};
 ghost use Rattle.commands.specs.Driving.{DrivesWith};
@@ -46,8 +47,10 @@ where
     W: Write,
     // What the word `drive` writes is exactly the two lines of what workers have done, which is what recovery found of
     // the closed device, by one legal history. Where they haven't done it, nothing is written.
-    ensures { DrivesWith D.device image.entry workers (P.holds images.old) (P.holds images.new)
+    ensures ends { DrivesWith D.device image.entry workers (P.holds images.old) (P.holds images.new)
         result (W.contents writer.old) (W.contents writer.new) }
+    // Nothing beside the path is lost.
+    ensures beside { DrivesBeside image.entry (P.holds images.old) (P.holds images.new) }
 {
     match drive_there(rt, images, rt.alloc(), meet, workers, rounds, image) {
         Ok(driven) => {
@@ -78,6 +81,7 @@ where
         (WorkedAt D.device image.entry workers (P.holds images.old) (P.holds images.new)) }
     ensures refused { IfErr result
         (RefusedAt D.device image.entry workers (P.holds images.old) (P.holds images.new)) }
+    ensures beside { DrivesBeside image.entry (P.holds images.old) (P.holds images.new) }
 {
     let driven = work_there(rt, images, alloc, meet, workers, rounds, image);
     meet.end();
@@ -103,6 +107,7 @@ where
         (WorkedAt D.device image.entry workers (P.holds images.old) (P.holds images.new)) }
     ensures refused { IfErr result
         (RefusedAt D.device image.entry workers (P.holds images.old) (P.holds images.new)) }
+    ensures beside { DrivesBeside image.entry (P.holds images.old) (P.holds images.new) }
 {
     if let Some(path) = image {
         return drive_at(rt, images, alloc, meet, path, workers, rounds);

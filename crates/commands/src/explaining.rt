@@ -11,12 +11,12 @@ use crate::refused::{
 use crate::values::{tell_other_heap, tell_transient, tell_unknown, tell_wrong_word};
 use command_words::Words;
 use drive::DriveError;
-use file_disk::BackingFile;
+use file_disk::{BackingFile, VolatileDisk};
 use image::Layout;
 use image_file::{FileFault, FormatError, ImageFault, KEPT, NamedFault, Place, Trouble};
 use image_scripts::{RunFault, SetFault, StrictFault, ValueFault};
 use recover::RecoverError;
-use sector_file::ImageDisk;
+use sector_file::whole_image;
 use std::alloc::Global;
 use std::fs;
 use std::io::{ErrorKind, Read};
@@ -31,11 +31,12 @@ pub fn is_left_by_reader(trouble: &Trouble) -> bool {
 }
 
 /// Tells on standard error, behind the fault's first line, which file it is about, what the system says, and what mends it. A line that
-/// can't be written is left out. `names` are those that the words name beside the files.
+/// can't be written is left out. `names` are those that the words name beside the files, and `script` is what was read of a strict script.
 pub fn explain<F, R>(
     rt: &R,
     words: &Words<'_>,
     names: &[&str],
+    script: &[u8],
     fault: &WorkFault,
     trouble: &Trouble,
 )
@@ -46,7 +47,7 @@ where
     let image = image_of(words);
     match fault {
         WorkFault::Script(error) | WorkFault::Strict(StrictFault::Script(error)) => {
-            tell_stopped_script(rt, error, trouble);
+            tell_stopped_script(rt, error, script, trouble);
         }
         WorkFault::Strict(StrictFault::Refused(_, why)) => tell_refused_line(rt, *why),
         WorkFault::Values(ValueFault::Unknown(place)) => tell_unknown(rt, image, names, *place),
@@ -252,10 +253,11 @@ where
         Ok(file) => file,
         Err(_) => return None,
     };
-    let mut disk = match ImageDisk::found(alloc, file) {
-        Ok(disk) => disk,
+    let bytes = match whole_image(alloc, file) {
+        Ok(bytes) => bytes,
         Err(_) => return None,
     };
+    let mut disk = VolatileDisk::holding(bytes);
     let head = read_head(&mut disk);
     drop(disk);
     head

@@ -1,6 +1,7 @@
 //! Workers on the image at a path.
-ghost use Rattle.std.specs.Prelude.{IfErr, IfOk};
+ghost use Rattle.std.specs.Prelude.{false, IfErr, IfOk};
 ghost use Rattle.commands.specs.Faults.{HasNoDisk, HasNoImage, RefusesAt};
+ghost use Rattle.image_file.specs.Beside.{KeepsBeside, LeavesBeside};
 ghost use Rattle.commands.specs.Telling.{BeginsAt, DrivesAt, IsMadeAt, LeavesAt};
 
 use crate::fault::WorkFault;
@@ -44,6 +45,8 @@ where
     // A refusal of workers tells what is at the path.
     ensures refused { IfErr result
         (RefusesAt D.device workers (P.holds images.old path.now) (P.holds images.new path.now)) }
+    // Nothing beside the path is lost.
+    ensures beside { KeepsBeside false path.now (P.holds images.old) (P.holds images.new) }
 {
     let disk = match disk_at(images, alloc, path, workers) {
         Ok(disk) => disk,
@@ -66,7 +69,9 @@ fn give_back<D, P>(images: &mut P, path: &str, left: Recovered<D>)
 where
     D: Disk + Drop,
     P: Images<Medium = D>,
-    ensures { LeavesAt D.device left (P.holds images.new path.now) }
+    ensures left { LeavesAt D.device left (P.holds images.new path.now) }
+    ensures beside { LeavesBeside path.now (P.holds images.old) (P.holds images.new) (P.lies images.old)
+        (P.lies images.new) }
 {
     images.close(path, left.into_disk());
 }
@@ -80,6 +85,7 @@ where
         (λ disk. BeginsAt workers (P.holds images.old path.now) (D.device disk)) }
     ensures refused { IfErr result
         (HasNoDisk workers (P.holds images.old path.now) (P.holds images.new path.now)) }
+    ensures beside { KeepsBeside false path.now (P.holds images.old) (P.holds images.new) }
 {
     let vacant = match images.is_vacant(path) {
         Ok(vacant) => vacant,
@@ -102,6 +108,7 @@ where
     ensures ok { IfOk result (λ disk. IsMadeAt workers (D.device disk)) }
     ensures refused { IfErr result
         (HasNoImage workers (P.holds images.old path.now) (P.holds images.new path.now)) }
+    ensures beside { KeepsBeside false path.now (P.holds images.old) (P.holds images.new) }
 {
     let Ok(schema) = declare(alloc, workers) else {
         return Err(WorkFault::Format(FormatError::NoMemory));

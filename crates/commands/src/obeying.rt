@@ -1,5 +1,6 @@
 //! What the program's words do.
 ghost use Rattle.std.specs.Prelude.{◌≡◌};
+ghost use Rattle.commands.specs.Beside.{PlaysBeside, Spares};
 ghost use Rattle.commands.specs.Obeying.{Obeys, PlaysAt, PlaysInMemory, sectors_asked, told_of_format, told_of_image, told_of_named, told_of_run, told_of_script, told_of_set, told_of_strict, told_of_values};
 
 use crate::driving::drive;
@@ -49,9 +50,14 @@ where
     W: Write,
     // Each word does what it asks for, on the image at the path that it names. What is written is that word's output, and
     // a refusal writes nothing, or a beginning of the text after a fault.
-    ensures { Obeys D.device words.entry names.now result (P.holds images.old) (P.holds images.new)
+    ensures ends { Obeys D.device words.entry names.now result (P.holds images.old) (P.holds images.new)
         (P.lies images.new) (S.remaining reader.old) (S.remaining reader.new)
         (W.contents writer.old) (W.contents writer.new) }
+    // Beside the path that words name nothing is lost: `format` keeps there the image that it replaces, unless it is forced,
+    // and all else that was there remains. An image over which a script is played, or whose fields are set, lies as it did,
+    // in one place or in two.
+    ensures beside { Spares words.entry result (P.holds images.old) (P.holds images.new) (P.lies images.old)
+        (P.lies images.new) }
 {
     let alloc = rt.alloc();
     match words {
@@ -142,9 +148,11 @@ where
     R: Files<File = F> + AllocGlobal,
     S: Read,
     W: Write,
-    ensures { PlaysAt image.entry schema.entry is_strict result (P.holds images.old) (P.holds images.new)
+    ensures ends { PlaysAt image.entry schema.entry is_strict result (P.holds images.old) (P.holds images.new)
         (S.remaining reader.old) (S.remaining reader.new) (W.contents writer.old)
         (W.contents writer.new) }
+    ensures beside { PlaysBeside image.entry (P.holds images.old) (P.holds images.new) (P.lies images.old)
+        (P.lies images.new) }
 {
     let alloc = rt.alloc();
     match image {

@@ -1,11 +1,14 @@
 //! What is told of an image, a schema file and a script that are refused.
 
 use crate::causes::{Path, is_wrong_path, tell, tell_cause};
+use crate::forms::{DECLARATIONS, LINES, text_of_line};
 use declarations::{SchemaFault, SchemaFaultKind};
 use image_file::Trouble;
 use image_scripts::{Refusal, refusal_text};
 use recover::RecoverError;
 use script_lines::{ScriptError, ScriptErrorKind};
+use std::fs;
+use std::io::Read;
 use std::rt::Files;
 
 /// Tells why an image is refused, and what mends it.
@@ -50,9 +53,42 @@ fn refused_text(why: &RecoverError) -> &'static str {
     }
 }
 
-/// Tells why a schema file is refused, and what mends it.
-pub(crate) fn tell_refused_schema<R: Eprint>(rt: &R, schema: &str, fault: &SchemaFault) {
+/// Tells why a schema file is refused, and what mends it: of a line that has no form its text, where the file can be read again.
+pub(crate) fn tell_refused_schema<F, R>(rt: &R, schema: &str, fault: &SchemaFault)
+where
+    F: Read + Drop,
+    R: Files<File = F> + Eprint + AllocGlobal,
+{
+    if fault.why == SchemaFaultKind::Syntax && is_line_told(rt, schema, fault.line) {
+        return;
+    }
     tell(rt, schema, schema_text(fault.why));
+}
+
+// Tells of this line of a schema file; whether it could be told.
+fn is_line_told<F, R>(rt: &R, schema: &str, line: u64) -> bool
+where
+    F: Read + Drop,
+    R: Files<File = F> + Eprint + AllocGlobal,
+{
+    // What a pipe had was read.
+    match rt.metadata(schema) {
+        Ok(metadata) if metadata.is_file() => {}
+        _ => return false,
+    }
+    let Ok(text) = fs::read(rt, schema) else {
+        return false;
+    };
+    let told = text_of_line(rt.alloc(), &text, line, DECLARATIONS);
+    drop(text);
+    match told {
+        Some(told) => {
+            tell(rt, schema, told.as_str());
+            drop(told);
+            true
+        }
+        None => false,
+    }
 }
 
 fn schema_text(why: SchemaFaultKind) -> &'static str {
@@ -76,15 +112,18 @@ fn schema_text(why: SchemaFaultKind) -> &'static str {
     }
 }
 
-/// Tells why a script has stopped, and what mends it.
-pub(crate) fn tell_stopped_script<R: Files + Eprint>(
+/// Tells why a script has stopped, and what mends it. `script` is what was read of a strict one.
+pub(crate) fn tell_stopped_script<R: Files + Eprint + AllocGlobal>(
     rt: &R,
     error: &ScriptError,
+    script: &[u8],
     trouble: &Trouble,
 ) {
     let text = match error.kind {
-        // The fixed text of such a fault is one line (docs/SCRIPTS.md, "The program's fault texts").
-        ScriptErrorKind::Syntax => return,
+        ScriptErrorKind::Syntax => {
+            tell_line(rt, script, error.line);
+            return;
+        }
         ScriptErrorKind::NotText => "that line has a byte past ASCII; take it out",
         ScriptErrorKind::TooLong => "that line, or the script, is too long; shorten it",
         ScriptErrorKind::Read => "it can't be read to its end",
@@ -95,6 +134,15 @@ pub(crate) fn tell_stopped_script<R: Files + Eprint>(
         }
     };
     tell(rt, "standard input", text);
+}
+
+// Tells of a line that has no form. The fixed text of such a fault is one line, but for a strict script (docs/SCRIPTS.md, "The program's
+// fault texts").
+fn tell_line<R: Eprint + AllocGlobal>(rt: &R, script: &[u8], line: u64) {
+    if let Some(told) = text_of_line(rt.alloc(), script, line, LINES) {
+        tell(rt, "standard input", told.as_str());
+        drop(told);
+    }
 }
 
 /// Tells what a refused line prints that ends a strict script.

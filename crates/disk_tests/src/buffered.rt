@@ -152,6 +152,32 @@ fn a_fault_at_each_call_makes_no_buffered_disk(rt: HostRuntime) {
     let alloc = rt.alloc();
     assert!(rt; is_not_filled(alloc, 1) && is_not_filled(alloc, 2) && is_not_filled(alloc, 3));
     assert!(rt; is_not_found(alloc, 1) && is_not_found(alloc, 2));
+    assert!(rt; is_not_found(alloc, 3) && is_not_found(alloc, 4));
+}
+
+// What the file reads and its device hasn't, as where a sync of another process has failed, is written to it, and synced.
+const BROUGHT: &[Step<'_>] = &[
+    Step::Has(&[1, 2, 3, 4]),
+    Step::Keeps(&[1, 2, 3, 4]),
+    Step::Calls(1, 2),
+    Step::Read(0, &[1, 2, 3, 4]),
+];
+
+fn is_brought(alloc: Global) -> bool {
+    let medium = Medium::stale(&[1, 2, 3, 4], &[1, 9, 9, 4]);
+    match BufferedDisk::found(alloc, medium.file()) {
+        Ok(mut disk) => {
+            let is_so = go_so(&medium, &mut disk, BROUGHT);
+            drop(disk);
+            is_so
+        }
+        Err(_) => false,
+    }
+}
+
+#[test]
+fn an_opening_brings_to_the_device_what_it_has_read(rt: HostRuntime) {
+    assert!(rt; is_brought(rt.alloc()));
 }
 
 // What was not synced is lost with the disk, as in a crash.

@@ -2,7 +2,7 @@
 use crate::flaky_file::Medium;
 use crate::steps::{BEYOND, FAULT, OK, Step, go_so, go_so_alone};
 use block_disk::Disk;
-use file_disk::{FileDisk, FileError};
+use file_disk::{BackingFile, FileDisk, FileError};
 use std::alloc::Global;
 use std::fs;
 
@@ -189,6 +189,42 @@ fn a_fault_at_each_call_makes_no_disk(rt: HostRuntime) {
     let alloc = rt.alloc();
     assert!(rt; is_not_filled(alloc, 1) && is_not_filled(alloc, 2) && is_not_filled(alloc, 3));
     assert!(rt; is_not_found(alloc, 1) && is_not_found(alloc, 2));
+    assert!(rt; is_not_found(alloc, 3) && is_not_found(alloc, 4));
+}
+
+// A sync alone leaves what the device hasn't: another process wrote it, and the system takes it for written.
+fn is_left_by_a_sync() -> bool {
+    let medium = Medium::stale(&[1, 2, 3, 4], &[1, 9, 9, 4]);
+    let is_synced = medium.file().settle().is_ok();
+    is_synced && medium.has(&[1, 2, 3, 4]) && medium.keeps(&[1, 9, 9, 4])
+}
+
+// An opening writes it too.
+const BROUGHT: &[Step<'_>] = &[
+    Step::Has(&[1, 2, 3, 4]),
+    Step::Keeps(&[1, 2, 3, 4]),
+    Step::Calls(1, 2),
+    Step::Write(1, &[7], OK),
+    Step::Sync(OK),
+    Step::Keeps(&[1, 7, 3, 4]),
+];
+
+fn is_brought(alloc: Global) -> bool {
+    let medium = Medium::stale(&[1, 2, 3, 4], &[1, 9, 9, 4]);
+    match FileDisk::found(alloc, medium.file()) {
+        Ok(mut disk) => {
+            let is_so = go_so(&medium, &mut disk, BROUGHT);
+            drop(disk);
+            is_so
+        }
+        Err(_) => false,
+    }
+}
+
+#[test]
+fn an_opening_brings_to_the_device_what_it_has_read(rt: HostRuntime) {
+    assert!(rt; is_left_by_a_sync());
+    assert!(rt; is_brought(rt.alloc()));
 }
 
 const GOING_ON: &[Step<'_>] = &[
@@ -197,9 +233,9 @@ const GOING_ON: &[Step<'_>] = &[
     Step::Read(0, &[1, 2, 3, 4]),
 ];
 
-// The third call of the file is that of the sync.
+// The fifth call of the file is that of the sync: an opening syncs, reads, writes back and syncs.
 fn is_going_on(alloc: Global) -> bool {
-    let medium = Medium::failing(&[1, 2, 3, 4], 3);
+    let medium = Medium::failing(&[1, 2, 3, 4], 5);
     match FileDisk::found(alloc, medium.file()) {
         Ok(mut disk) => {
             let is_so = go_so(&medium, &mut disk, GOING_ON);

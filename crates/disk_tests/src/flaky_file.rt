@@ -20,6 +20,14 @@ const EMPTY: Content = Content {
 };
 
 impl Content {
+    fn of(bytes: &[u8]) -> Content {
+        let mut content = EMPTY;
+        for (place, byte) in bytes.iter().enumerate() {
+            content.put(place, *byte);
+        }
+        content
+    }
+
     fn as_slice(&self) -> &[u8] {
         &self.bytes[..self.len.min(MOST)]
     }
@@ -41,6 +49,8 @@ impl Content {
 #[derive(Drop)]
 pub struct Medium {
     bytes: Cell<Content>,
+    // What its device has once a sync succeeds: a write brings its bytes there, and nothing else does.
+    kept: Cell<Content>,
     durable: Cell<Content>,
     // Which call from now on fails (1: the next; 0: none). A write that fails has written its first byte.
     fails_in: Cell<u64>,
@@ -51,13 +61,17 @@ pub struct Medium {
 impl Medium {
     /// These bytes, of which a file may have 41, all durable.
     pub fn of(bytes: &[u8]) -> Medium {
-        let mut content = EMPTY;
-        for (place, byte) in bytes.iter().enumerate() {
-            content.put(place, *byte);
-        }
+        Medium::stale(bytes, bytes)
+    }
+
+    /// A file that reads these bytes, and whose device has those: as the system leaves one where a sync of another process has failed.
+    pub fn stale(bytes: &[u8], kept: &[u8]) -> Medium {
+        let content = Content::of(bytes);
+        let kept = Content::of(kept);
         Medium {
             bytes: Cell::new(content),
-            durable: Cell::new(content),
+            kept: Cell::new(kept),
+            durable: Cell::new(kept),
             fails_in: Cell::new(0),
             writes: Cell::new(0),
             settles: Cell::new(0),
@@ -88,6 +102,7 @@ impl Medium {
     /// Takes from the file what was not synced, as the system may where it could not keep it.
     pub fn forget(&self) {
         self.bytes.set(self.durable.get());
+        self.kept.set(self.durable.get());
     }
 
     /// Whether these are the file's bytes.
@@ -113,6 +128,9 @@ impl Medium {
         let mut content = self.bytes.get();
         let is_put = content.put(place, byte);
         self.bytes.set(content);
+        let mut kept = self.kept.get();
+        kept.put(place, byte);
+        self.kept.set(kept);
         is_put
     }
 
@@ -208,6 +226,7 @@ impl BackingFile for FlakyFile<'_> {
             return Err(ErrorKind::Other.into());
         }
         self.medium.bytes.set(EMPTY);
+        self.medium.kept.set(EMPTY);
         Ok(())
     }
 
@@ -231,7 +250,7 @@ impl BackingFile for FlakyFile<'_> {
         if self.medium.is_due() {
             return Err(ErrorKind::Other.into());
         }
-        self.medium.durable.set(self.medium.bytes.get());
+        self.medium.durable.set(self.medium.kept.get());
         Ok(())
     }
 }

@@ -1,11 +1,12 @@
 -- What a buffered disk's bytes, ranges and file go on to be.
 use Rattle.std.proofs.Common.{◌≡◌, inl, inr, ℕ, zero, suc, Bool, true, ◌+◌, ◌*◌, ◌<◌, ◌≤◌, List, [], ◌∷◌, length, Option, Some, None, IfSome, option_map, refl, sym, ◌∙◌, ap, subst, arith, take, drop}
-use Rattle.file_disk.specs.Backing.{Held, Reads, ReadsBut, TornFile, put_at}
+use Rattle.file_disk.specs.Backing.{Held, Has, HasBut, CrashesAs, IsPendingIn, TornFile, put_at}
+use Rattle.file_disk.proofs.Again.{waits_put, waits_torn}
 use Rattle.block_disk.specs.Bytes.{spliced}
 use Rattle.std.proofs.lemmas.Bool.{cases_lt}
 use Rattle.block_disk.specs.Device.{Range, Device, range_of, written, written_units, Image, IsClear, IsOutside, SameOutside}
 use Rattle.block_disk.proofs.Bytes.{length_spliced}
-use Rattle.block_disk.proofs.InUnits.{head_long, rest_long, head_size, units_bytes}
+use Rattle.block_disk.proofs.InUnits.{head_long, rest_long, units_bytes}
 use Rattle.block_disk.specs.Traced.{failing}
 use Rattle.block_disk.proofs.Ranges.{outside_sym, outside_trans, outside_more, outside_rest, outside_first, spliced_same}
 use Rattle.file_disk.specs.Buffered.{AllWithin, GoesOn, HasNewest, IsBuffered, IsDeferred, IsMirrored, LastCovers}
@@ -14,17 +15,38 @@ use Rattle.file_disk.specs.Buffered.{AllWithin, GoesOn, HasNewest, IsBuffered, I
 pub possible : (d : Device) (bytes : List ℕ) (rs : List Range) (file : Option Held) → IsBuffered d bytes rs file → IfSome file (λ h. Image d.now h.reads)
 possible d bytes rs None kept = tt
 possible d bytes rs (Some h) kept =
-    subst (λ (xs : List ℕ). SameOutside d.now.pending xs h.reads) (sym kept.reads) (outside_more rs d.now.pending bytes h.reads kept.pending kept.near)
+    subst (λ (xs : List ℕ). SameOutside d.now.pending xs h.reads) (sym kept.reads) (outside_more rs d.now.pending bytes h.reads kept.pending kept.near.reads)
 
--- what the file reads but for more ranges, once these bytes are in memory
-near_write : (bytes content : List ℕ) (rs ss : List Range) (file : Option Held) (at : ℕ) → at + length content ≤ length bytes
-    → ((i : ℕ) → IsClear i ss → IsClear i (range_of at content ∷ rs)) → ReadsBut rs bytes file → ReadsBut ss (spliced bytes at content) file
-near_write bytes content rs ss None at fits covered near = tt
-near_write bytes content rs ss (Some h) at fits covered near =
+-- and so may what a crash leaves of the file
+pub crashes : (d : Device) (bytes : List ℕ) (rs : List Range) (file : Option Held) → IsBuffered d bytes rs file → CrashesAs d.now file
+crashes d bytes rs None kept = tt
+crashes d bytes rs (Some h) kept = λ image left.
+    subst (λ (xs : List ℕ). SameOutside d.now.pending xs image) (sym kept.reads)
+    (outside_more rs d.now.pending bytes image kept.pending
+    (outside_trans rs bytes h.kept.bytes image kept.near.kept (outside_more h.kept.pending rs h.kept.bytes image kept.waits left)))
+
+-- what bytes read but for more ranges, once others are put among them
+spliced_near : (bytes content there : List ℕ) (rs ss : List Range) (at : ℕ) → at + length content ≤ length bytes
+    → ((i : ℕ) → IsClear i ss → IsClear i (range_of at content ∷ rs)) → SameOutside rs bytes there → SameOutside ss (spliced bytes at content) there
+spliced_near bytes content there rs ss at fits covered near =
     let r = range_of at content in
     let put = spliced bytes at content in
     let back = outside_sym (r ∷ rs) bytes put (outside_first r rs bytes put (spliced_same bytes content at fits)) in
-    outside_more (r ∷ rs) ss put h.reads covered (outside_trans (r ∷ rs) put bytes h.reads back (outside_rest r rs bytes h.reads near))
+    outside_more (r ∷ rs) ss put there covered (outside_trans (r ∷ rs) put bytes there back (outside_rest r rs bytes there near))
+
+-- what the file has but for more ranges, once these bytes are in memory
+near_write : (bytes content : List ℕ) (rs ss : List Range) (file : Option Held) (at : ℕ) → at + length content ≤ length bytes
+    → ((i : ℕ) → IsClear i ss → IsClear i (range_of at content ∷ rs)) → HasBut rs bytes file → HasBut ss (spliced bytes at content) file
+near_write bytes content rs ss None at fits covered near = tt
+near_write bytes content rs ss (Some h) at fits covered near = record {
+  reads = spliced_near bytes content h.reads rs ss at fits covered near.reads;
+  kept = spliced_near bytes content h.kept.bytes rs ss at fits covered near.kept;
+}
+
+-- and what waits in it
+waits_write : (rs ss : List Range) (r : Range) (file : Option Held) → ((i : ℕ) → IsClear i ss → IsClear i (r ∷ rs)) → IsPendingIn rs file → IsPendingIn ss file
+waits_write rs ss r None covered waits = tt
+waits_write rs ss r (Some h) covered waits = λ i clear. waits i (covered i clear).1
 
 -- a write goes into memory, and its range is kept
 pub buffered_write : (d : Device) (bytes content : List ℕ) (rs ss : List Range) (file : Option Held) (at : ℕ) → at + length content ≤ length bytes
@@ -35,6 +57,7 @@ buffered_write d bytes content rs ss file at fits kept within covered exact = re
   reads = ap (λ (xs : List ℕ). spliced xs at content) kept.reads;
   within = subst (λ (n : ℕ). AllWithin n ss) (sym (length_spliced bytes content at fits)) within;
   near = near_write bytes content rs ss file at fits covered kept.near;
+  waits = waits_write rs ss (range_of at content) file covered kept.waits;
   pending = λ i clear. exact i (clear.0, kept.pending i clear.1);
 }
 
@@ -97,6 +120,7 @@ deferred_units (suc n) d bytes content rs ss file at some long fits kept within 
         reads = units_bytes (suc n) at content d long (omega (arith, size, fits)) ∙ ap (λ (xs : List ℕ). spliced xs at content) kept.buffered.reads;
         within = subst (λ (k : ℕ). AllWithin k ss) (sym (length_spliced bytes content at fits)) within;
         near = near_write bytes content rs ss file at fits covered kept.buffered.near;
+        waits = waits_write rs ss (range_of at content) file covered kept.buffered.waits;
         pending = λ i clear.
             let parts = units_pending (suc n) at content d i long clear in
             exact i (subst (λ (k : ℕ). IsOutside i (record { start = at; len = k })) (sym long) parts.0, kept.buffered.pending i parts.1);
@@ -115,26 +139,35 @@ goes_on_last at (r ∷ older) rs goes newest = (r, newest, goes.0, goes.1)
 
 -- one that fails tears no more than its range, which is kept
 pub near_torn : (bytes : List ℕ) (ss : List Range) (old new : Option Held) (at n : ℕ) → ((i : ℕ) → IsClear i ss → IsOutside i (record { start = at; len = n }))
-    → ReadsBut ss bytes old → TornFile at n old new → ReadsBut ss bytes new
+    → HasBut ss bytes old → TornFile at n old new → HasBut ss bytes new
 near_torn bytes ss old None at n covers near torn = tt
 near_torn bytes ss None (Some h) at n covers near torn = absurd torn
 near_torn bytes ss (Some was) (Some h) at n covers near torn =
-    outside_trans ss bytes was.reads h.reads near
-    (outside_more (record { start = at; len = n } ∷ []) ss was.reads h.reads (λ i clear. (covers i clear, tt)) torn)
+    let r : Range = record { start = at; len = n } in record {
+      reads = outside_trans ss bytes was.reads h.reads near.reads (outside_more (r ∷ []) ss was.reads h.reads (λ i clear. (covers i clear, tt)) torn.reads);
+      kept = outside_trans ss bytes was.kept.bytes h.kept.bytes near.kept (outside_more (r ∷ []) ss was.kept.bytes h.kept.bytes (λ i clear. (covers i clear, tt)) torn.kept);
+    }
 
 -- one that succeeds changes its range alone
-pub near_put : (bytes content : List ℕ) (ss : List Range) (file : Option Held) (at : ℕ) → at + length content ≤ length bytes
-    → ((i : ℕ) → IsClear i ss → IsOutside i (range_of at content)) → ReadsBut ss bytes file → ReadsBut ss bytes (option_map (put_at at content) file)
-near_put bytes content ss None at fits covers near = tt
-near_put bytes content ss (Some h) at fits covers near =
-    outside_trans ss bytes h.reads (spliced h.reads at content) near
-    (outside_more (range_of at content ∷ []) ss h.reads (spliced h.reads at content) (λ i clear. (covers i clear, tt))
-    (spliced_same h.reads content at (omega (arith, fits, near.size))))
+put_near : (bytes content there : List ℕ) (ss : List Range) (at : ℕ) → at + length content ≤ length bytes
+    → ((i : ℕ) → IsClear i ss → IsOutside i (range_of at content)) → SameOutside ss bytes there → SameOutside ss bytes (spliced there at content)
+put_near bytes content there ss at fits covers near =
+    outside_trans ss bytes there (spliced there at content) near
+    (outside_more (range_of at content ∷ []) ss there (spliced there at content) (λ i clear. (covers i clear, tt))
+    (spliced_same there content at (omega (arith, fits, near.size))))
 
--- and where the file read the bytes before, it reads what they have become
-pub reads_put : (bytes content : List ℕ) (file : Option Held) (at : ℕ) → Reads bytes file → Reads (spliced bytes at content) (option_map (put_at at content) file)
-reads_put bytes content None at reads = tt
-reads_put bytes content (Some h) at reads = ap (λ (xs : List ℕ). spliced xs at content) reads
+pub near_put : (bytes content : List ℕ) (ss : List Range) (file : Option Held) (at : ℕ) → at + length content ≤ length bytes
+    → ((i : ℕ) → IsClear i ss → IsOutside i (range_of at content)) → HasBut ss bytes file → HasBut ss bytes (option_map (put_at at content) file)
+near_put bytes content ss None at fits covers near = tt
+near_put bytes content ss (Some h) at fits covers near = record {
+  reads = put_near bytes content h.reads ss at fits covers near.reads;
+  kept = put_near bytes content h.kept.bytes ss at fits covers near.kept;
+}
+
+-- and where the file had the bytes before, it has what they have become
+pub has_put : (bytes content : List ℕ) (file : Option Held) (at : ℕ) → Has bytes file → Has (spliced bytes at content) (option_map (put_at at content) file)
+has_put bytes content None at has = tt
+has_put bytes content (Some h) at has = (ap (λ (xs : List ℕ). spliced xs at content) has.0, ap (λ (xs : List ℕ). spliced xs at content) has.1)
 
 -- the write has failed: the file is behind from now on
 pub mirrored_torn : (behind : Bool) (d : Device) (bytes content : List ℕ) (rs ss : List Range) (file new : Option Held) (at : ℕ) → at + length content ≤ length bytes
@@ -148,6 +181,7 @@ mirrored_torn behind d bytes content rs ss file new at fits kept within covered 
         reads = was.reads;
         within = was.within;
         near = near_torn (spliced bytes at content) ss file new at (length content) (λ i clear. (covered i clear).0) was.near torn;
+        waits = waits_torn ss at (length content) file new (λ i clear. (covered i clear).0) torn was.waits;
         pending = was.pending;
       };
       current = λ no. absurd cc;
@@ -165,9 +199,10 @@ mirrored_put behind d bytes content rs ss file new at fits kept within covered e
       buffered = record {
         reads = was.reads;
         within = was.within;
-        near = subst (λ (h : Option Held). ReadsBut ss (spliced bytes at content) h) (sym put)
+        near = subst (λ (h : Option Held). HasBut ss (spliced bytes at content) h) (sym put)
             (near_put (spliced bytes at content) content ss file at long (λ i clear. (covered i clear).0) was.near);
+        waits = subst (λ (h : Option Held). IsPendingIn ss h) (sym put) (waits_put ss content at file (λ i clear. (covered i clear).0) was.waits);
         pending = was.pending;
       };
-      current = λ now. subst (λ (h : Option Held). Reads (spliced bytes at content) h) (sym put) (reads_put bytes content file at (kept.current now));
+      current = λ now. subst (λ (h : Option Held). Has (spliced bytes at content) h) (sym put) (has_put bytes content file at (kept.current now));
     }

@@ -1,7 +1,7 @@
 -- Disks whose bytes reach a file at each sync, or at each write (this project's own).
 use Rattle.std.specs.Prelude.{◌≡◌, ℕ, Bool, false, ◌+◌, ◌≤◌, List, [], ◌∷◌, All, length, Option}
 use Rattle.block_disk.specs.Device.{Range, Device, IsClear}
-use Rattle.file_disk.specs.Backing.{Held, Reads, ReadsBut}
+use Rattle.file_disk.specs.Backing.{Held, Has, HasBut, IsPendingIn}
 
 -- the range lies within a disk of this size
 abbrev pub IsWithin : ℕ → Range → Type 0
@@ -27,17 +27,18 @@ abbrev pub HasNewest : (pending unwritten : List Range) → Type 0
 HasNewest [] unwritten = Unit {0}
 HasNewest (r ∷ older) unwritten = LastCovers r unwritten
 
--- The bytes are those that the device reads. Those that may not be in the file are pending, and the file reads the others.
+-- The bytes are those that the device reads. Those that may not be in the file are pending, and the file reads the others, and keeps them.
 pub record IsBuffered (d : Device) (bytes : List ℕ) (unwritten : List Range) (file : Option Held) : Type 0 where
   pub reads : d.now.bytes ≡ bytes
   pub within : AllWithin (length bytes) unwritten
-  pub near : ReadsBut unwritten bytes file
+  pub near : HasBut unwritten bytes file
+  pub waits : IsPendingIn unwritten file
   pub pending : (i : ℕ) → IsClear i d.now.pending → IsClear i unwritten
 
--- The file reads all of the bytes, unless a call of it has failed since the last sync.
+-- The file has all of the bytes, unless a call of it has failed since the last sync.
 pub record IsMirrored (behind : Bool) (d : Device) (bytes : List ℕ) (written : List Range) (file : Option Held) : Type 0 where
   pub buffered : IsBuffered d bytes written file
-  pub current : behind ≡ false → Reads bytes file
+  pub current : behind ≡ false → Has bytes file
 
 -- The file is brought up to the bytes at the next sync; the range written last can be lengthened.
 pub record IsDeferred (d : Device) (bytes : List ℕ) (unwritten : List Range) (file : Option Held) : Type 0 where

@@ -1,5 +1,5 @@
 -- A disk whose bytes are kept in a file too (this project's own).
-use Rattle.std.specs.Prelude.{ℕ, List, [], Option}
+use Rattle.std.specs.Prelude.{Option}
 use Rattle.block_disk.specs.Device.{Device}
 use Rattle.file_disk.specs.Backing.{Held}
 

@@ -1,8 +1,8 @@
 //! A disk whose bytes reach a file at each sync.
-ghost use Rattle.std.specs.Prelude.{◌≡◌, ◌+◌, ◌*◌, ◌<◌, ◌≤◌, ◌∷◌, List, length, replicate, IfOk, IfSome, IsErrOf, IsOk, OnErr, OnOk};
+ghost use Rattle.std.specs.Prelude.{◌≡◌, ◌+◌, ◌*◌, ◌<◌, ◌≤◌, ◌∷◌, ℕ, List, length, replicate, IfOk, IfSome, IsErrOf, IsOk, OnErr, OnOk};
 ghost use Rattle.block_disk.specs.Bytes.{part};
-ghost use Rattle.file_disk.specs.Backing.{Reads, ReadsBut, ReadsForGood};
-ghost use Rattle.block_disk.specs.Device.{Image, Range, SameMoments, new_device, synced, unit_ranges, written, written_units};
+ghost use Rattle.file_disk.specs.Backing.{CrashesAs, Has, HasBut, IsPendingIn, ReadsForGood};
+ghost use Rattle.block_disk.specs.Device.{Image, IsClear, IsOutside, Range, SameMoments, new_device, synced, unit_ranges, written, written_units};
 ghost use Rattle.block_disk.specs.Since.{CountsOneMore, HasFailedSince, IsSameOrTorn, LeavesBut};
 ghost use Rattle.block_disk.specs.declared.error.DiskError.TheVariants.{Fault, OutOfRange};
 ghost use Rattle.file_disk.specs.Buffered.{AllWithin, GoesOn, IsWithin};
@@ -67,7 +67,7 @@ impl<F: BackingFile + Drop> BufferedDisk<F> {
     /// The disk whose bytes the file has, as many as its length says.
     ///
     /// The file is opened, synced and measured first (`Fault`); then there is memory for the bytes or there isn't
-    /// (`NoMemory`); then they are read (`Fault`).
+    /// (`NoMemory`); then they are read, written back and synced (`Fault`).
     pub fn attach<R: Files<File = F>>(
         rt: &R,
         alloc: Global,
@@ -99,6 +99,7 @@ impl<F: BackingFile + Drop> BufferedDisk<F> {
     /// The disk of the bytes in this file, which is open. Refused as of [`attach`](BufferedDisk::attach).
     pub fn found(alloc: Global, mut file: F) -> Result<BufferedDisk<F>, FileError>
         ensures ok { IfOk result (λ disk. disk.device ≡ new_device disk.device.now.bytes) }
+        // Once a file is open as a disk, a crash leaves what was read of it, whatever became of syncs before.
         ensures durable { IfOk result (λ disk. ReadsForGood disk.device.now.bytes disk.file) }
         ensures given { IfOk result (λ disk. IfSome (F.holds file)
             (λ h. disk.device.now.bytes ≡ h.reads)) }
@@ -117,7 +118,9 @@ impl<F: BackingFile + Drop> BufferedDisk<F> {
     /// The file holds at every moment one of the images that a crash may leave.
     pub fn possible_law(&self)
         // The file reads what a crash of the device might leave now.
-        ensures { IfSome self.now.file (λ h. Image self.now.device.now h.reads) }
+        ensures reads { IfSome self.now.file (λ h. Image self.now.device.now h.reads) }
+        // Whatever a crash leaves of the file now is what one of the device may leave.
+        ensures crash { CrashesAs self.now.device.now self.now.file }
     {
         let _ = &self.bytes;
     }
@@ -234,12 +237,14 @@ impl<F: BackingFile + Drop> Disk for BufferedDisk<F> {
     }
 }
 
-/// Makes the file read these bytes, durably; it reads them but for these ranges.
+/// Makes the file have these bytes, durably; it has them but for these ranges, in which all lies that is pending.
 pub(crate) fn flush<F: BackingFile>(file: &mut F, spans: &[Span], bytes: &[u8]) -> io::Result<()>
     requires within { AllWithin (length bytes.now) spans.now }
-    requires near { ReadsBut spans.now bytes.now (F.holds file.old) }
+    requires near { HasBut spans.now bytes.now (F.holds file.old) }
+    requires waits { IsPendingIn spans.now (F.holds file.old) }
     ensures ok { OnOk result (ReadsForGood bytes.now (F.holds file.new)) }
-    ensures near { OnErr result (ReadsBut spans.now bytes.now (F.holds file.new)) }
+    ensures near { OnErr result (HasBut spans.now bytes.now (F.holds file.new)) }
+    ensures waits { OnErr result (IsPendingIn spans.now (F.holds file.new)) }
 {
     write_spans(file, spans, bytes)?;
     file.settle()
@@ -248,9 +253,11 @@ pub(crate) fn flush<F: BackingFile>(file: &mut F, spans: &[Span], bytes: &[u8]) 
 // Writes these bytes in each of the ranges.
 fn write_spans<F: BackingFile>(file: &mut F, spans: &[Span], bytes: &[u8]) -> io::Result<()>
     requires within { AllWithin (length bytes.now) spans.now }
-    requires near { ReadsBut spans.now bytes.now (F.holds file.old) }
-    ensures ok { OnOk result (Reads bytes.now (F.holds file.new)) }
-    ensures near { OnErr result (ReadsBut spans.now bytes.now (F.holds file.new)) }
+    requires near { HasBut spans.now bytes.now (F.holds file.old) }
+    requires waits { IsPendingIn spans.now (F.holds file.old) }
+    ensures ok { OnOk result (Has bytes.now (F.holds file.new)) }
+    ensures near { OnErr result (HasBut spans.now bytes.now (F.holds file.new)) }
+    ensures waits { IsPendingIn spans.now (F.holds file.new) }
 {
     let mut rest = spans;
     while let Some((first, later)) = rest.split_first() {
@@ -266,11 +273,14 @@ fn write_spans<F: BackingFile>(file: &mut F, spans: &[Span], bytes: &[u8]) -> io
 fn write_span<F: BackingFile>(file: &mut F, span: &Span, bytes: &[u8]) -> io::Result<()>
     requires { IsWithin (length bytes.now) span.now }
     ensures ok { (ranges : List Range) → OnOk result (
-        ReadsBut (span.now ∷ ranges) bytes.now (F.holds file.old)
-        → ReadsBut ranges bytes.now (F.holds file.new)) }
+        HasBut (span.now ∷ ranges) bytes.now (F.holds file.old)
+        → HasBut ranges bytes.now (F.holds file.new)) }
     ensures near { (ranges : List Range) → OnErr result (
-        ReadsBut (span.now ∷ ranges) bytes.now (F.holds file.old)
-        → ReadsBut (span.now ∷ ranges) bytes.now (F.holds file.new)) }
+        HasBut (span.now ∷ ranges) bytes.now (F.holds file.old)
+        → HasBut (span.now ∷ ranges) bytes.now (F.holds file.new)) }
+    ensures waits { (ranges : List Range) → ((i : ℕ) → IsClear i ranges → IsOutside i span.now)
+        → IsPendingIn ranges (F.holds file.old)
+        → IsPendingIn ranges (F.holds file.new) }
 {
     let start = span.start() as usize;
     file.write_to(span.start(), &bytes[start..start + span.len() as usize])

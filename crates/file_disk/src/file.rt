@@ -4,7 +4,7 @@ ghost use Rattle.block_disk.specs.Bytes.{part};
 ghost use Rattle.block_disk.specs.Device.{SameMoments, new_device, synced, written};
 ghost use Rattle.block_disk.specs.Since.{CountsOneMore, HasFailedSince, IsSameOrTorn};
 ghost use Rattle.block_disk.specs.declared.error.DiskError.TheVariants.{Fault, OutOfRange};
-ghost use Rattle.file_disk.specs.Backing.{Reads, ReadsBut, ReadsForGood};
+ghost use Rattle.file_disk.specs.Backing.{Has, HasBut, IsPendingIn, Reads, ReadsForGood};
 ghost use Rattle.file_disk.specs.Buffered.{AllWithin};
 
 use crate::backing::BackingFile;
@@ -24,11 +24,11 @@ use std::marker::Model;
 /// where the file doesn't give what was written is a fault, never a wrong answer, and the next sync writes again what
 /// was written since the last one. It takes its bytes, and a range for each run of writes since the last sync.
 ///
-/// What it may claim of a crash rests on the file: that `fdatasync` makes durable what was written before it, and that a
-/// write leaves the bytes outside its range alone. Between two syncs the system may write or tear any of the ranges, in
-/// any order; that is what [`Disk`] allows. No other process may write the file meanwhile. The folder is never synced,
-/// so that a power failure soon after [`create`](FileDisk::create) may leave no file of that name: sync the folder where
-/// that matters.
+/// What it may claim of a crash rests on the file: that `fdatasync` makes durable what this disk has written before it, and that a
+/// write leaves the bytes outside its range alone. What was found is written back at the opening, and no byte is lost that is written
+/// with its own value. Between two syncs the system may write or tear any of the ranges, in any order; that is what [`Disk`] allows. No
+/// other process may write the file meanwhile. The folder is never synced, so that a power failure soon after
+/// [`create`](FileDisk::create) may leave no file of that name: sync the folder where that matters.
 #[derive(Drop)]
 pub struct FileDisk<F: BackingFile + Drop> {
     bytes: Vec<u8>,
@@ -73,7 +73,7 @@ impl<F: BackingFile + Drop> FileDisk<F> {
     /// The disk whose bytes the file has, as many as its length says.
     ///
     /// The file is opened, synced and measured first (`Fault`); then there is memory for the bytes or there isn't
-    /// (`NoMemory`); then they are read (`Fault`).
+    /// (`NoMemory`); then they are read, written back and synced (`Fault`).
     pub fn attach<R: Files<File = F>>(
         rt: &R,
         alloc: Global,
@@ -106,6 +106,7 @@ impl<F: BackingFile + Drop> FileDisk<F> {
     /// The disk of the bytes in this file, which is open. Refused as of [`attach`](FileDisk::attach).
     pub fn found(alloc: Global, mut file: F) -> Result<FileDisk<F>, FileError>
         ensures ok { IfOk result (λ disk. disk.device ≡ new_device disk.device.now.bytes) }
+        // Once a file is open as a disk, a crash leaves what was read of it, whatever became of syncs before.
         ensures durable { IfOk result (λ disk. ReadsForGood disk.device.now.bytes disk.file) }
         ensures given { IfOk result (λ disk. IfSome (F.holds file)
             (λ h. disk.device.now.bytes ≡ h.reads)) }
@@ -240,10 +241,12 @@ fn catch_up<F: BackingFile>(
     bytes: &[u8],
 ) -> io::Result<()>
     requires within { AllWithin (length bytes.now) spans.now }
-    requires near { ReadsBut spans.now bytes.now (F.holds file.old) }
-    requires current { IsFalse behind → Reads bytes.now (F.holds file.old) }
+    requires near { HasBut spans.now bytes.now (F.holds file.old) }
+    requires waits { IsPendingIn spans.now (F.holds file.old) }
+    requires current { IsFalse behind → Has bytes.now (F.holds file.old) }
     ensures ok { OnOk result (ReadsForGood bytes.now (F.holds file.new)) }
-    ensures near { OnErr result (ReadsBut spans.now bytes.now (F.holds file.new)) }
+    ensures near { OnErr result (HasBut spans.now bytes.now (F.holds file.new)) }
+    ensures waits { OnErr result (IsPendingIn spans.now (F.holds file.new)) }
 {
     if behind {
         flush(file, spans, bytes)

@@ -1,9 +1,11 @@
 //! All bytes of a file.
 ghost use Rattle.std.specs.Prelude.{◌≡◌, ◌++◌, [], ℕ, List, length, IfOk, OnOk};
-ghost use Rattle.file_disk.specs.Backing.{Reads, ReadsForGood};
+ghost use Rattle.file_disk.specs.Backing.{Has, Reads, ReadsForGood, ReadsOverAny};
 
 use crate::backing::BackingFile;
+use crate::buffered::flush;
 use crate::error::FileError;
+use crate::span::Span;
 use std::alloc::Global;
 use std::fs::{Files, OpenOptions};
 use std::io;
@@ -40,8 +42,8 @@ pub fn fill<F: BackingFile>(file: &mut F, bytes: &[u8]) -> Result<(), FileError>
 // Writes these bytes into an empty file, a page at a time: of a file that one large write has made, the system may keep
 // large pages, in each of which a small write takes long.
 fn write_in_pieces<F: BackingFile>(file: &mut F, bytes: &[u8]) -> io::Result<()>
-    requires { Reads [] (F.holds file.old) }
-    ensures { OnOk result (Reads bytes.now (F.holds file.new)) }
+    requires { Has [] (F.holds file.old) }
+    ensures { OnOk result (Has bytes.now (F.holds file.new)) }
 {
     let mut rest = bytes;
     while !rest.is_empty() {
@@ -56,13 +58,14 @@ fn write_in_pieces<F: BackingFile>(file: &mut F, bytes: &[u8]) -> io::Result<()>
 // Writes these bytes at the end of a file that has so many.
 fn write_behind<F: BackingFile>(file: &mut F, at: u64, piece: &[u8]) -> io::Result<()>
     ensures { (done : List ℕ) → length done ≡ at
-        → OnOk result (Reads done (F.holds file.old)
-        → Reads (done ++ piece.now) (F.holds file.new)) }
+        → OnOk result (Has done (F.holds file.old)
+        → Has (done ++ piece.now) (F.holds file.new)) }
 {
     file.write_to(at, piece)
 }
 
-/// The file's bytes. They are synced before, so that what is read is what a crash leaves.
+/// The file's bytes, which are written back and synced, so that what is read is what a crash leaves, whatever became of syncs before. It is
+/// synced first, so that a write of another process that has failed is told, and nothing of it is pending.
 pub(crate) fn read_whole<F: BackingFile>(alloc: Global, file: &mut F) -> Result<Vec<u8>, FileError>
     ensures durable { IfOk result (λ bytes. ReadsForGood bytes.items (F.holds file.new)) }
     ensures given { IfOk result (λ bytes. Reads bytes.items (F.holds file.old)) }
@@ -71,5 +74,15 @@ pub(crate) fn read_whole<F: BackingFile>(alloc: Global, file: &mut F) -> Result<
     let len = file.len().map_err(fault)?;
     let mut bytes = vec![in alloc; 0u8; len as usize].map_err(|_| FileError::NoMemory)?;
     file.read_from(0, &mut bytes).map_err(fault)?;
+    write_back(file, &bytes).map_err(fault)?;
     Ok(bytes)
+}
+
+// Makes these bytes, which the file reads, its device's too.
+fn write_back<F: BackingFile>(file: &mut F, bytes: &[u8]) -> io::Result<()>
+    requires { ReadsOverAny bytes.now (F.holds file.old) }
+    ensures { OnOk result (ReadsForGood bytes.now (F.holds file.new)) }
+{
+    let all = [Span::new(0, bytes.len() as u64)];
+    flush(file, &all, bytes)
 }

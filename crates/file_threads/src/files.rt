@@ -1,6 +1,7 @@
 //! Threads on the image at a path.
-ghost use Rattle.std.specs.Prelude.{IfErr, IfOk, None};
+ghost use Rattle.std.specs.Prelude.{false, IfErr, IfOk, None};
 ghost use Rattle.file_threads.specs.Files.{BeginsAt, HasNoDisk, HasNoImage, HasRunAt, IsMadeAt, LeavesAt, RefusesAt};
+ghost use Rattle.image_file.specs.Beside.{KeepsBeside, LeavesBeside};
 ghost use Rattle.image_file.specs.declared.watched.Watched.{Watched as Seen};
 ghost use Rattle.sector_file.specs.ImageDisks.{device_on};
 
@@ -79,6 +80,8 @@ where
     ensures ok { IfOk result (λ r. HasRunAt (W.does work.now) D.device schema lanes (P.holds images.old path.now) (P.holds images.new path.now) r.0 r.1) }
     // A refusal of threads tells what is at the path.
     ensures refused { IfErr result (RefusesAt (W.does work.now) D.device schema lanes (P.holds images.old path.now) (P.holds images.new path.now)) }
+    // Nothing beside the path is lost.
+    ensures beside { KeepsBeside false path.now (P.holds images.old) (P.holds images.new) }
 {
     let disk = match disk_at(images, alloc, path, &schema, lanes) {
         Ok(disk) => disk,
@@ -105,7 +108,9 @@ fn give_back<D, P>(images: &mut P, path: &str, left: Recovered<D>)
 where
     D: Disk + Drop,
     P: Images<Medium = D>,
-    ensures { LeavesAt D.device left (P.holds images.new path.now) }
+    ensures left { LeavesAt D.device left (P.holds images.new path.now) }
+    ensures beside { LeavesBeside path.now (P.holds images.old) (P.holds images.new) (P.lies images.old)
+        (P.lies images.new) }
 {
     images.close(path, left.into_disk());
 }
@@ -123,6 +128,7 @@ where
     P: Images<Medium = D>,
     ensures ok { IfOk result (λ disk. BeginsAt schema.now lanes (P.holds images.old path.now) (D.device disk)) }
     ensures refused { IfErr result (HasNoDisk schema.now lanes (P.holds images.old path.now) (P.holds images.new path.now)) }
+    ensures beside { KeepsBeside false path.now (P.holds images.old) (P.holds images.new) }
 {
     let vacant = match images.is_vacant(path) {
         Ok(vacant) => vacant,
@@ -150,6 +156,7 @@ where
     P: Images<Medium = D>,
     ensures ok { IfOk result (λ disk. IsMadeAt schema.now lanes (D.device disk)) }
     ensures refused { IfErr result (HasNoImage schema.now lanes (P.holds images.old path.now) (P.holds images.new path.now)) }
+    ensures beside { KeepsBeside false path.now (P.holds images.old) (P.holds images.new) }
 {
     let new = NewImage {
         lanes,

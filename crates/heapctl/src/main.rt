@@ -5,12 +5,16 @@
 //! standard error, and all else to standard output.
 #![tactic(auto)]
 
+ghost use Rattle.std.specs.Prelude.{◌≡◌};
+ghost use Rattle.std.specs.Process.{exit_status};
+ghost use Rattle.commands.specs.Status.{status_after};
+
 use clap::Error;
 use clap::error::ErrorKind;
 use command_words::{Asked, Words, read_words};
 use commands::{
-    FAULT, WRONG_INPUT, explain, is_left_by_reader, is_something_there, obey, status_of_fault,
-    tell_kept,
+    FAULT, KeptText, ToldImages, WRONG_INPUT, WorkFault, explain, is_left_by_reader,
+    is_something_there, obey, status_of_fault, tell_kept,
 };
 use file_disk::BackingFile;
 use image_file::{FileImages, Place, Trouble, Watched};
@@ -28,7 +32,7 @@ use std::{env, io};
 struct Terminals {
     // A script is typed.
     is_typed: bool,
-    // How far workers are is told on standard error.
+    // How far workers are, and what takes long, is told on standard error.
     is_told: bool,
 }
 
@@ -48,10 +52,11 @@ where
         );
     }
     let trouble = Trouble::none();
-    let mut reader = rt.reader();
+    // A line that has no form is told of a strict script.
+    let mut reader = KeptText::new(rt.alloc(), rt.reader(), is_strict(&words));
     let mut writer = Watched::new(io::writer(rt), Place::Output, &trouble);
     let was_there = is_something_there(rt, &words);
-    let mut images = FileImages::new(rt, &trouble);
+    let mut images = ToldImages::new(rt, FileImages::new(rt, &trouble), terminals.is_told);
     let ended = obey(
         rt,
         &mut images,
@@ -62,19 +67,35 @@ where
         &mut reader,
         &mut writer,
     );
+    // Who tells of a fault may look at the image, which is claimed until here.
     drop(images);
-    match ended {
-        Ok(()) => {
-            tell_kept(rt, &words, was_there);
-            ExitCode::SUCCESS
-        }
+    match &ended {
+        Ok(()) => tell_kept(rt, &words, was_there),
         Err(fault) => {
             if !is_left_by_reader(&trouble) {
                 let _ = eprintln!(rt; "heapctl: {fault}");
-                explain(rt, &words, &asked.names, &fault, &trouble);
+                explain(rt, &words, &asked.names, reader.text(), fault, &trouble);
             }
-            ExitCode::from(status_of_fault(&fault))
         }
+    }
+    code_of(&ended)
+}
+
+fn is_strict(words: &Words<'_>) -> bool {
+    match words {
+        Words::Run { is_strict, .. } => *is_strict,
+        _ => false,
+    }
+}
+
+// The exit status that tells how it went.
+fn code_of(ended: &Result<(), WorkFault>) -> ExitCode
+    // The program ends with status 0 where its words are obeyed, and with no other fault's status than that of its own.
+    ensures { exit_status result ≡ status_after ended.now }
+{
+    match ended {
+        Ok(()) => ExitCode::SUCCESS,
+        Err(fault) => ExitCode::from(status_of_fault(fault)),
     }
 }
 

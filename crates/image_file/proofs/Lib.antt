@@ -1,3 +1,4 @@
+pub mod BesideLemmas
 mod FormatLemmas
 pub mod PlaceLemmas
 mod RefusalLemmas

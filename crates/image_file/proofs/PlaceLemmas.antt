@@ -1,16 +1,20 @@
 -- What is known of an image at a path, by the disk that it was.
-use Rattle.std.proofs.Common.{ℕ, ◌≡◌, ◌≢◌, ◌⊎◌, List, [], Option, None, Some, ap, inl, inr, refl, subst, sym, ◌∙◌}
+use Rattle.std.proofs.Common.{ℕ, ◌≡◌, ◌≢◌, ◌⊎◌, List, [], Option, None, Some, ap, arith, inl, inr, refl, subst, sym, ◌∙◌}
 use Rattle.std.specs.Prelude.{IfSome}
-use Rattle.block_disk.specs.Device.{Device, SameMoments, new_device, synced}
+use Rattle.block_disk.specs.Device.{Device, Image, LeftSince, SameMoments, new_device, synced}
+use Rattle.block_disk.specs.Images.{LeavesOnly}
 use Rattle.block_disk.proofs.Images.{only_now}
 use Rattle.guards.specs.Schema.{Declarations}
 use Rattle.image.specs.declared.layout.Layout.{Layout}
+use Rattle.recover.specs.Recovery.{IsOnTheWay, LeavesOnTheWay}
+use Rattle.recover.specs.Study.{IsStudyOf}
+use Rattle.recover.specs.declared.studied.Study.{Study}
 use Rattle.recover.specs.declared.error.RecoverError.{RecoverError}
 use Rattle.recover.specs.declared.error.RecoverError.TheVariants.{Fault}
 use Rattle.recover.specs.declared.versions.Versions.{Versions}
 use Rattle.image_file.specs.Formatting.{IsImageFor, MayBeMade, StaysOrIsMade}
 use Rattle.image_file.specs.Images.{IsLeft, IsThere, Stays}
-use Rattle.image_file.specs.Recovering.{IsRecoveredAt, IsToldOf}
+use Rattle.image_file.specs.Recovering.{IsOnTheWayAt, IsRecoveredAt, IsToldOf}
 use Rattle.image_file.specs.declared.error.ImageFault.TheVariants as images
 use Rattle.image_file.specs.declared.new_image.NewImage.{NewImage}
 
@@ -35,15 +39,53 @@ stays_both image None has was there = tt
 stays_both image (Some a) None was there = tt
 stays_both image (Some a) (Some b) was there = there ∙ sym was
 
+-- an image that was left before a recovery's first sync was answered is the old one
+early_left : (s : Study) (bytes image : List ℕ) → IsStudyOf bytes s → LeftSince 1 (synced (new_device bytes)) image → IsOnTheWay s image
+early_left s bytes image of (inl now) = inl (subst (λ (b : List ℕ). IsStudyOf b s) (sym (only_now (synced (new_device bytes)) image refl now.1)) of)
+early_left s bytes image of (inr (inl past)) = absurd (omega (arith, past.0))
+early_left s bytes image of (inr (inr none)) = elim none [ ]
+
+-- either that, or it is on the way
+late_left : (s : Study) (bytes image : List ℕ) → IsStudyOf bytes s → LeftSince 1 (synced (new_device bytes)) image ⊎ IsOnTheWay s image → IsOnTheWay s image
+late_left s bytes image of (inl early) = early_left s bytes image of early
+late_left s bytes image of (inr way) = way
+
+-- what a disk may leave that a recovery has had is on the way
+left_way : (s : Study) (found left : Device) (image : List ℕ) → found ≡ new_device found.now.bytes → IsStudyOf found.now.bytes s → LeavesOnTheWay s found left
+    → Image left.now image → IsOnTheWay s image
+left_way s found left image fresh of (inl same) there =
+    let none : left.now.pending ≡ [] = (λ i. (same.now i).pending) ∙ (λ i. (fresh i).now.pending) in
+    let is : image ≡ found.now.bytes = only_now left image none there ∙ (λ i. (same.now i).bytes) in
+    inl (subst (λ (b : List ℕ). IsStudyOf b s) (sym is) of)
+left_way s found left image fresh of (inr leaves) there =
+    let only : LeavesOnly (synced (new_device found.now.bytes)) left (IsOnTheWay s) = subst (λ (d : Device). LeavesOnly (synced d) left (IsOnTheWay s)) fresh leaves in
+    late_left s found.now.bytes image of (only.each 1 image (omega arith) (inl (only.later, there)))
+
+-- so what is at the path is on the way
+pub on_the_way : (had has : Option (List ℕ)) (found left : Device) → found ≡ new_device found.now.bytes → IsThere found.now.bytes had
+    → ((s : Study) → IsStudyOf found.now.bytes s → LeavesOnTheWay s found left) → IsLeft left.now has → IsOnTheWayAt had has
+on_the_way None has found left fresh was leaves there = tt
+on_the_way (Some a) None found left fresh was leaves there = tt
+on_the_way (Some a) (Some b) found left fresh was leaves there = λ s of.
+    let is = subst (λ (image : List ℕ). IsStudyOf image s) was of in
+    left_way s found left b fresh is (leaves s is) there
+
+-- and so it is where nothing was done
+pub same_way : (had has : Option (List ℕ)) → has ≡ had → IsOnTheWayAt had has
+same_way None has same = tt
+same_way (Some was) has same = subst (λ (h : Option (List ℕ)). IsOnTheWayAt (Some was) h) (sym same) (λ s of. inl of)
+
 -- it was recovered
 pub is_recovered : (versions : Versions) (had has : Option (List ℕ)) (found left : Device) (text : List ℕ) → found ≡ new_device found.now.bytes
-    → IsThere found.now.bytes had → IsToldOf versions found left text → left.now.pending ≡ [] → IsLeft left.now has → IsRecoveredAt versions had has text
-is_recovered versions had has found left text fresh was told durable there = record {
+    → IsThere found.now.bytes had → IsToldOf versions found left text → left.now.pending ≡ []
+    → ((s : Study) → IsStudyOf found.now.bytes s → LeavesOnly (synced found) left (IsOnTheWay s)) → IsLeft left.now has → IsRecoveredAt versions had has text
+is_recovered versions had has found left text fresh was told durable any there = record {
   image = found.now.bytes;
   was = was;
   device = left;
   told = subst (λ (d : Device). IsToldOf versions d left text) fresh told;
   left = reads_left left has durable there;
+  way = on_the_way had has found left fresh was (λ s of. inr (any s of)) there;
 }
 
 -- it was refused

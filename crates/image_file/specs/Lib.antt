@@ -1,5 +1,6 @@
 -- The promise: what public clauses state.
 pub mod Images
+pub mod Beside
 pub mod Formatting
 pub mod Telling
 pub mod Recovering

@@ -1,8 +1,8 @@
 -- What recovering an image gives and tells, beside what it makes of the device, and what is refused (docs/SCRIPTS.md, "Lines").
-use Rattle.std.specs.Prelude.{ℕ, ◌≡◌, Option, List}
+use Rattle.std.specs.Prelude.{ℕ, ◌≡◌, Option, List, IfSome}
 use Rattle.std.specs.Io.KnownBytes.{Appends}
 use Rattle.block_disk.specs.Device.{Device, new_device}
-use Rattle.recover.specs.Recovery.{IsMadeBy, IsTooOld}
+use Rattle.recover.specs.Recovery.{IsMadeBy, IsOnTheWay, IsTooOld}
 use Rattle.recover.specs.Study.{IsStudyOf}
 use Rattle.recover.specs.declared.studied.Study.{Study}
 use Rattle.recover.specs.declared.versions.Versions.{Versions}
@@ -17,6 +17,10 @@ pub record IsToldOf (versions : Versions) (old new : Device) (text : List ℕ) :
   pub made : IsMadeBy study old new
   pub text_is : text ≡ report_of study
 
+-- what is there is the image that was there, or one on recovery's way from it: recovery gives the same heap of it
+abbrev pub IsOnTheWayAt : (had has : Option (List ℕ)) → Type 0
+IsOnTheWayAt had has = IfSome had (λ was. IfSome has (λ there. (s : Study) → IsStudyOf was s → IsOnTheWay s there))
+
 -- the image that was at a path was recovered so, and what recovery makes of it is there now
 pub record IsRecoveredAt (versions : Versions) (had has : Option (List ℕ)) (text : List ℕ) : Type 0 where
   pub image : List ℕ
@@ -24,6 +28,7 @@ pub record IsRecoveredAt (versions : Versions) (had has : Option (List ℕ)) (te
   pub device : Device
   pub told : IsToldOf versions (new_device image) device text
   pub left : IsThere device.now.bytes has
+  pub way : IsOnTheWayAt had has
 
 -- and the report on it was written
 pub record RecoversAt (versions : Versions) (had has old new : Option (List ℕ)) : Type 0 where

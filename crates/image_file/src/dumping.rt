@@ -1,5 +1,6 @@
 //! Writing the heap of an image as a schema file.
 ghost use Rattle.std.specs.Prelude.{◌≡◌, IfErr, OnOk};
+ghost use Rattle.image_file.specs.Beside.{LeavesBeside};
 ghost use Rattle.image_file.specs.Dumping.{DumpsBy, DumpsThere, RefusesToDump};
 
 use crate::error::{ImageFault, NamedFault};
@@ -42,8 +43,11 @@ where
     // What is dumped is the schema file of a study of the image at the path, by the names of a schema that is the image's
     // where a file of one is named, and the image stays. It is refused for what is wrong with that image, or with that
     // file.
-    ensures { DumpsBy schema_path.entry result (P.holds images.old path.now)
+    ensures ends { DumpsBy schema_path.entry result (P.holds images.old path.now)
         (P.holds images.new path.now) (W.contents writer.old) (W.contents writer.new) }
+    // Nothing beside the path is lost.
+    ensures beside { LeavesBeside path.now (P.holds images.old) (P.holds images.new) (P.lies images.old)
+        (P.lies images.new) }
 {
     let given = match schema_at(rt, alloc, trouble, schema_path) {
         Ok(given) => given,
@@ -69,6 +73,8 @@ fn dump_there<D: Disk + Drop, P: Images<Medium = D>, W: Write>(
         (RefusesToDump given (P.holds images.old path.now) (W.contents writer.old)
         (W.contents writer.new)) }
     ensures same { P.holds images.new path.now ≡ P.holds images.old path.now }
+    ensures beside { LeavesBeside path.now (P.holds images.old) (P.holds images.new) (P.lies images.old)
+        (P.lies images.new) }
 {
     let mut disk = match look_at(images, alloc, path) {
         Ok(disk) => disk,

@@ -24,6 +24,9 @@ pub const BESIDE: &str = ".heapctl-new";
 /// What stands at the end of the path at which a replaced image is kept.
 pub const KEPT: &str = "~";
 
+// What stands at the end of the path at which it passes, on its way there.
+const PASSING: &str = ".heapctl-old";
+
 /// The images in files of the system.
 ///
 /// A new image is made in a file beside the path, which takes its place once it is whole: a stop at any time leaves what was there, or the
@@ -46,13 +49,15 @@ struct Taken<F: Drop> {
     is_there: bool,
 }
 
-// The path that was named; where the image is to be, at the end of links; where it is made; and where one that was there is kept.
+// The path that was named; where the image is to be, at the end of links; where it is made; where one that was there is kept; and by
+// what name it passes on its way there.
 #[derive(Drop)]
 struct Names {
     path: String,
     target: String,
     beside: String,
     kept: String,
+    passing: String,
 }
 
 impl<'a, F, R> FileImages<'a, F, R>
@@ -341,11 +346,13 @@ fn names_at(alloc: Global, path: &str, target: String) -> Option<Names> {
     let path = String::from_str(alloc, path).ok()?;
     let beside = format!(in alloc; "{target}{BESIDE}").ok()?;
     let kept = format!(in alloc; "{target}{KEPT}").ok()?;
+    let passing = format!(in alloc; "{target}{PASSING}").ok()?;
     Some(Names {
         path,
         target,
         beside,
         kept,
+        passing,
     })
 }
 
@@ -517,15 +524,21 @@ where
     if old.len()? == 0 {
         return Ok(());
     }
-    link_over(rt, taken.names.target.as_str(), taken.names.kept.as_str())
+    link_over(rt, &taken.names)
 }
 
-// Lets a second name lead to this file, in place of what it leads to.
-fn link_over<R: Files>(rt: &R, target: &str, kept: &str) -> io::Result<()> {
-    if let Err(error) = rt.remove_file(kept) {
+// Lets a second name lead to the old image, in place of what it leads to: it takes another name first, so that what is kept already is
+// lost only where the old image is kept in its place.
+fn link_over<R: Files>(rt: &R, names: &Names) -> io::Result<()> {
+    let passing = names.passing.as_str();
+    if let Err(error) = rt.remove_file(passing) {
         if error.kind() != ErrorKind::NotFound {
             return Err(error);
         }
     }
-    rt.hard_link(target, kept)
+    rt.hard_link(names.target.as_str(), passing)?;
+    let moved = rt.rename(passing, names.kept.as_str());
+    // It is there still where it wasn't moved, or where both names lead to one file already.
+    let _ = rt.remove_file(passing);
+    moved
 }

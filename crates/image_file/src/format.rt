@@ -6,6 +6,7 @@ ghost use Rattle.image.specs.Layout.{size_of};
 ghost use Rattle.inspect.specs.Written.{AppendsPart};
 ghost use Rattle.image_file.specs.declared.error.FormatError.TheVariants.{BadHeader, Fault};
 ghost use Rattle.store_image.specs.Formatting.{AreLimits, layout_with};
+ghost use Rattle.image_file.specs.Beside.{LeavesBeside, MakesBeside};
 ghost use Rattle.image_file.specs.Images.{IsThere};
 ghost use Rattle.image_file.specs.Formatting.{FormatsAt, IsBeforeFile, IsImageFor, IsSilent, LiesSo, MakesAt, MayBeMade, MayBlameNumbers, PrintsLess, PrintsLessOf, PrintsSize, RefusesImage, StaysOrIsMade, formatted_line, told_of_schema};
 
@@ -57,6 +58,9 @@ pub fn format_image<D: Disk + Drop, P: Images<Medium = D>, S: Read, W: Write>(
     // After a fault nothing is written, or a beginning of the size's line.
     ensures part { OnErr result (PrintsLessOf (DeclaresSchema (S.remaining reader.old) (S.remaining reader.new)) new.lanes new.capacity
         (W.contents writer.old) (W.contents writer.new)) }
+    // Nothing beside the path is lost: an image that is replaced is kept where it is to be, and else what was kept before
+    // remains.
+    ensures beside { MakesBeside new.is_kept result path.now (P.holds images.old) (P.holds images.new) }
 {
     let schema = match read_schema(alloc, reader) {
         Ok(schema) => schema,
@@ -104,6 +108,9 @@ pub fn make_image<D: Disk + Drop, P: Images<Medium = D>>(
     // A refusal leaves the old image at the path, or a whole new one of this schema.
     ensures kept { OnErr result
         (StaysOrIsMade schema.now new (P.holds images.old path.now) (P.holds images.new path.now)) }
+    // Nothing beside the path is lost: an image that is replaced is kept where it is to be, and else what was kept before
+    // remains.
+    ensures beside { MakesBeside new.is_kept result path.now (P.holds images.old) (P.holds images.new) }
 {
     let Some(layout) = Layout::of(schema, new.lanes, new.capacity) else {
         return Err(FormatError::BadHeader);
@@ -140,6 +147,7 @@ fn make_in_place<D: Disk + Drop, P: Images<Medium = D>>(
     ensures lies { OnOk result (LiesSo new (P.lies images.new path.now)) }
     ensures kept { OnErr result
         (StaysOrIsMade schema.now new (P.holds images.old path.now) (P.holds images.new path.now)) }
+    ensures beside { MakesBeside new.is_kept result path.now (P.holds images.old) (P.holds images.new) }
 {
     let (disk, layout) = match formatted(images, alloc, path, schema, new, size) {
         Ok(made) => made,
@@ -167,6 +175,8 @@ fn formatted<D: Disk + Drop, P: Images<Medium = D>>(
     ensures ok { IfOk result (λ made. IsImageFor schema.now new made.1 (D.device made.0)) }
     ensures durable { IfOk result (λ made. (D.device made.0).now.pending ≡ []) }
     ensures same { P.holds images.new path.now ≡ P.holds images.old path.now }
+    ensures beside { LeavesBeside path.now (P.holds images.old) (P.holds images.new) (P.lies images.old)
+        (P.lies images.new) }
 {
     let disk = match images.make(alloc, path, new.sectors, size) {
         Ok(disk) => disk,
@@ -248,6 +258,9 @@ where
     // After a fault nothing is written, or a beginning of the size's line.
     ensures part { OnErr result
         (PrintsLess new.lanes new.capacity (W.contents writer.old) (W.contents writer.new)) }
+    // Nothing beside the path is lost: an image that is replaced is kept where it is to be, and else what was kept before
+    // remains.
+    ensures beside { MakesBeside new.is_kept result path.now (P.holds images.old) (P.holds images.new) }
 {
     let mut schema = match fs::open(rt, schema_path) {
         Ok(file) => Watched::new(file, Place::Schema, trouble),

@@ -3,6 +3,7 @@ ghost use Rattle.std.specs.Prelude.{◌≡◌, ◌⊎◌, ◌↔◌, ℕ, List, 
 ghost use Rattle.block_disk.specs.Device.{Device, new_device};
 ghost use Rattle.sector_disk.specs.declared.size.SectorSize.{SectorSize as Size};
 ghost use Rattle.sector_file.specs.ImageDisks.{room_for};
+ghost use Rattle.image_file.specs.Beside.{IsKept, KeepsBeside, LeavesBeside, LiesOn, kept_at};
 ghost use Rattle.image_file.specs.Images.{BeginsThere, IsLeft, IsThere};
 
 use crate::error::FileFault;
@@ -29,18 +30,24 @@ pub trait Images {
     fn is_vacant(&mut self, path: &str) -> Result<bool, FileFault>
         ensures ok { IfOk result
             (λ vacant. IfSome (holds self.old path.now) (λ image. IsTrue vacant ↔ (image ≡ []))) }
-        ensures same { holds self.new path.now ≡ holds self.old path.now };
+        ensures same { holds self.new path.now ≡ holds self.old path.now }
+        ensures beside { LeavesBeside path.now (holds self.old) (holds self.new) (lies self.old)
+            (lies self.new) };
 
     /// How many bytes the image at the path has, and how it lies.
     fn shape(&mut self, path: &str) -> Result<(u64, Option<SectorSize>), FileFault>
         ensures ok { IfOk result
             (λ shape. IfSome (lies self.old path.now) (λ sectors. sectors ≡ shape.1)) }
-        ensures same { holds self.new path.now ≡ holds self.old path.now };
+        ensures same { holds self.new path.now ≡ holds self.old path.now }
+        ensures beside { LeavesBeside path.now (holds self.old) (holds self.new) (lies self.old)
+            (lies self.new) };
 
     /// The bytes of the image at the path.
     fn read(&mut self, alloc: Global, path: &str) -> Result<Vec<u8>, FileFault>
         ensures ok { IfOk result (λ image. IsThere image.items (holds self.old path.now)) }
-        ensures same { holds self.new path.now ≡ holds self.old path.now };
+        ensures same { holds self.new path.now ≡ holds self.old path.now }
+        ensures beside { LeavesBeside path.now (holds self.old) (holds self.new) (lies self.old)
+            (lies self.new) };
 
     /// What the image at the path begins with, as far as its header says that it goes. Nothing can be written to it, and others may read it
     /// meanwhile.
@@ -49,7 +56,9 @@ pub trait Images {
     fn look(&mut self, alloc: Global, path: &str) -> Result<Vec<u8>, FileFault>
         // What is looked at is what the image at the path begins with.
         ensures ok { IfOk result (λ image. BeginsThere image.items (holds self.old path.now)) }
-        ensures same { holds self.new path.now ≡ holds self.old path.now };
+        ensures same { holds self.new path.now ≡ holds self.old path.now }
+        ensures beside { LeavesBeside path.now (holds self.old) (holds self.new) (lies self.old)
+            (lies self.new) };
 
     /// The disk of the image at the path, which nobody else has until it is dropped.
     ///
@@ -60,11 +69,15 @@ pub trait Images {
         // A disk that is opened at a path has the bytes of the image there.
         ensures ok { IfOk result
             (λ disk. IsThere (Self.Medium.device disk).now.bytes (holds self.old path.now)) }
-        ensures err { OnErr result (holds self.new path.now ≡ holds self.old path.now) };
+        ensures err { OnErr result (holds self.new path.now ≡ holds self.old path.now) }
+        ensures beside { LeavesBeside path.now (holds self.old) (holds self.new) (lies self.old)
+            (lies self.new) };
 
     /// Gives back the disk of the image at the path: one that was opened there, or that has replaced what was there.
     fn close(&mut self, path: &str, disk: Self::Medium)
-        ensures { IsLeft (Self.Medium.device disk).now (holds self.new path.now) };
+        ensures left { IsLeft (Self.Medium.device disk).now (holds self.new path.now) }
+        ensures beside { LeavesBeside path.now (holds self.old) (holds self.new) (lies self.old)
+            (lies self.new) };
 
     /// A disk of zeros for a new image at the path, which lies so and has room for so many bytes. What is there stays, and is kept from
     /// others until the new one has replaced it, or is given up.
@@ -81,7 +94,10 @@ pub trait Images {
         ensures ok { IfOk result
             (λ disk. Self.Medium.device disk ≡ new_device (replicate (room_for sectors size) 0)) }
         // Making a disk leaves the image at the path.
-        ensures same { holds self.new path.now ≡ holds self.old path.now };
+        ensures same { holds self.new path.now ≡ holds self.old path.now }
+        // Making a disk loses nothing beside the path.
+        ensures beside { LeavesBeside path.now (holds self.old) (holds self.new) (lies self.old)
+            (lies self.new) };
 
     /// Puts this disk in the place of what is at the path. It is the one that was made last for this path, and to lie so; else that is a
     /// `Fault`. Where `is_kept`, an image that was there stays beside it, at the path with `~` at its end.
@@ -95,18 +111,32 @@ pub trait Images {
         // After a replacing the image at the path is what a crash may leave of the disk.
         ensures ok { OnOk result
             (IsLeft (Self.Medium.device disk.now).now (holds self.new path.now)) }
-        ensures kind { OnOk result (IfSome (lies self.new path.now) (λ there. there ≡ sectors)) }
+        ensures kind { OnOk result (LiesOn sectors (lies self.new path.now)) }
+        // An image that is to be kept is at the path with `~` once another has replaced it; where none is to be kept, or none
+        // was there, what was kept before remains.
+        ensures kept { OnOk result
+            (IsKept is_kept (holds self.old path.now) (holds self.old (kept_at path.now))
+            (holds self.new (kept_at path.now))) }
         // A failed replacing leaves the old image at the path, or the whole new one.
-        ensures err { OnErr result ((holds self.new path.now ≡ holds self.old path.now) ⊎ IsLeft (Self.Medium.device disk.now).now (holds self.new path.now)) };
+        ensures err { OnErr result ((holds self.new path.now ≡ holds self.old path.now) ⊎ IsLeft (Self.Medium.device disk.now).now (holds self.new path.now)) }
+        ensures kind_or_not { OnErr result
+            ((lies self.new path.now ≡ lies self.old path.now) ⊎ LiesOn sectors (lies self.new path.now)) }
+        // A replacing, failed or not, loses nothing beside the path: what is kept there remains, or is the old image where that
+        // is to be kept, and what is elsewhere remains.
+        ensures beside { KeepsBeside is_kept path.now (holds self.old) (holds self.new) };
 
     /// Removes what was made last for this path, unless it has replaced what was there.
     fn give_up(&mut self, path: &str)
         // Giving a disk up leaves the image at the path.
-        ensures { holds self.new path.now ≡ holds self.old path.now };
+        ensures same { holds self.new path.now ≡ holds self.old path.now }
+        // Giving a disk up loses nothing beside the path.
+        ensures beside { LeavesBeside path.now (holds self.old) (holds self.new) (lies self.old)
+            (lies self.new) };
 }
 
-/// A disk in memory that holds what the image at the path begins with, so that no call reaches the image.
-pub(crate) fn look_at<D: Disk + Drop, P: Images<Medium = D>>(
+/// A disk in memory that holds what the image at the path begins with, as far as its header says that it goes, so that no call reaches the
+/// image. Refused as of [`look`](Images::look).
+pub fn look_at<D: Disk + Drop, P: Images<Medium = D>>(
     images: &mut P,
     alloc: Global,
     path: &str,
@@ -114,6 +144,8 @@ pub(crate) fn look_at<D: Disk + Drop, P: Images<Medium = D>>(
     ensures ok { IfOk result
         (λ (disk : Device). BeginsThere disk.now.bytes (P.holds images.old path.now)) }
     ensures same { P.holds images.new path.now ≡ P.holds images.old path.now }
+    ensures beside { LeavesBeside path.now (P.holds images.old) (P.holds images.new) (P.lies images.old)
+        (P.lies images.new) }
 {
     match images.look(alloc, path) {
         Ok(image) => Ok(VolatileDisk::holding(image)),

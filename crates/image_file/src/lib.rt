@@ -28,7 +28,7 @@ pub use dumping::dump_at;
 pub use error::{FileFault, FormatError, ImageFault, NamedFault};
 pub use file_images::{BESIDE, FileImages, KEPT};
 pub use format::{format_at, format_image, make_image};
-pub use images::Images;
+pub use images::{Images, look_at};
 pub use named_drawing::draw_named_at;
 pub use names::schema_at;
 pub use new_image::NewImage;

@@ -9,8 +9,9 @@ ghost use Rattle.recover.specs.declared.error.RecoverError.TheVariants.{Fault};
 ghost use Rattle.recover.specs.declared.studied.Study.{Study};
 ghost use Rattle.inspect.specs.ReportText.{report_text};
 ghost use Rattle.image_file.specs.declared.error.ImageFault.TheVariants.{Image};
+ghost use Rattle.image_file.specs.Beside.{LeavesBeside};
 ghost use Rattle.image_file.specs.Images.{Stays};
-ghost use Rattle.image_file.specs.Recovering.{IsRecoveredAt, IsToldOf, RecoversAt};
+ghost use Rattle.image_file.specs.Recovering.{IsOnTheWayAt, IsRecoveredAt, IsToldOf, RecoversAt};
 ghost use Rattle.image_file.specs.Telling.{MayBeRefusedBy, TellsLessOfVersions};
 
 use crate::error::ImageFault;
@@ -100,6 +101,9 @@ pub fn recover_at<D: Disk + Drop, P: Images<Medium = D>, W: Write>(
     ensures kept { IfErr result
         (λ error. error ≢ Image Fault → Stays (P.holds images.old path.now)
         (P.holds images.new path.now)) }
+    // After any refusal, a fault too, what is at the path is the image that was there, or one on recovery's way from it,
+    // of which recovery gives the same heap.
+    ensures way { OnErr result (IsOnTheWayAt (P.holds images.old path.now) (P.holds images.new path.now)) }
     // A refusal other than a fault has written nothing.
     ensures silent { IfErr result
         (λ error. error ≢ Image Fault → Appends (W.contents writer.old) (W.contents writer.new) []) }
@@ -108,6 +112,9 @@ pub fn recover_at<D: Disk + Drop, P: Images<Medium = D>, W: Write>(
         (TellsLessOfVersions versions (W.contents writer.old) (W.contents writer.new)) }
     // An image is refused as old only where version 1 isn't taken.
     ensures too_old { IfErr result (MayBeRefusedBy versions) }
+    // Nothing beside the path is lost.
+    ensures beside { LeavesBeside path.now (P.holds images.old) (P.holds images.new) (P.lies images.old)
+        (P.lies images.new) }
 {
     let told = match recovered_at(images, alloc, versions, path) {
         Ok(told) => told,
@@ -131,7 +138,10 @@ fn recovered_at<D: Disk + Drop, P: Images<Medium = D>>(
     ensures kept { IfErr result
         (λ error. error ≢ Image Fault → Stays (P.holds images.old path.now)
         (P.holds images.new path.now)) }
+    ensures way { OnErr result (IsOnTheWayAt (P.holds images.old path.now) (P.holds images.new path.now)) }
     ensures too_old { IfErr result (MayBeRefusedBy versions) }
+    ensures beside { LeavesBeside path.now (P.holds images.old) (P.holds images.new) (P.lies images.old)
+        (P.lies images.new) }
 {
     let disk = match images.open(alloc, path) {
         Ok(disk) => disk,

@@ -1,5 +1,6 @@
 //! Showing what an image holds.
 ghost use Rattle.inspect.specs.StudyText.{study_text};
+ghost use Rattle.image_file.specs.Beside.{LeavesBeside};
 ghost use Rattle.image_file.specs.Showing.{ShowsBy};
 
 use crate::error::ImageFault;
@@ -26,8 +27,11 @@ pub fn show_at<D: Disk + Drop, P: Images<Medium = D>, W: Write>(
 ) -> Result<(), ImageFault>
     // What is shown is the text of a study of the image at the path, and the image stays. It is refused for what is
     // wrong with that image.
-    ensures { ShowsBy study_text result (P.holds images.old path.now) (P.holds images.new path.now)
+    ensures ends { ShowsBy study_text result (P.holds images.old path.now) (P.holds images.new path.now)
         (W.contents writer.old) (W.contents writer.new) }
+    // Nothing beside the path is lost.
+    ensures beside { LeavesBeside path.now (P.holds images.old) (P.holds images.new) (P.lies images.old)
+        (P.lies images.new) }
 {
     let mut disk = match look_at(images, alloc, path) {
         Ok(disk) => disk,

@@ -1,14 +1,11 @@
 -- What is told of an image's fields by their names (docs/SCRIPTS.md, "The program's words").
-use Rattle.std.specs.Prelude.{ℕ, ◌≡◌, ◌≢◌, Option, None, Some, List, [], ◌∷◌, ◌++◌, Result, Ok, Err, codes, slice_get}
+use Rattle.std.specs.Prelude.{ℕ, ◌≡◌, Option, Some, List, [], ◌∷◌, ◌++◌, Result, Ok, Err, codes, slice_get}
 use Rattle.std.specs.Borrow.{Bor}
 use Rattle.std.specs.Fmt.{decimal}
 use Rattle.std.specs.Io.KnownBytes.{Appends}
 use Rattle.guards.specs.Schema.{Declarations, names_of}
-use Rattle.image_file.specs.Images.{IsThere}
+use Rattle.image_file.specs.Images.{BeginsThere}
 use Rattle.image_file.specs.Naming.{IsNamedBy}
-use Rattle.image_file.specs.declared.error.ImageFault.TheVariants as images
-use Rattle.image_file.specs.declared.error.NamedFault.{NamedFault}
-use Rattle.image_file.specs.declared.error.NamedFault.TheVariants as named
 use Rattle.image_schema.specs.OfImage.{FitsImage, named_as}
 use Rattle.recover.specs.Study.{IsStudyOf}
 use Rattle.recover.specs.declared.studied.Study.{Study}
@@ -57,7 +54,7 @@ pub record IsTold (given : Option Declarations) (names : List (Bor (List ℕ))) 
 -- those of the image that is there
 pub record IsHeldTold (given : Option Declarations) (names : List (Bor (List ℕ))) (had : Option (List ℕ)) (text : List ℕ) : Type 0 where
   pub image : List ℕ
-  pub was : IsThere image had
+  pub begins : BeginsThere image had
   pub told : IsTold given names image text
 
 -- and by the names of the schema file, where one is named
@@ -101,7 +98,7 @@ RefusesValues given names image values.Write = ⊥
 -- of the one that is there
 pub record HasNoFieldThere (given : Option Declarations) (names : List (Bor (List ℕ))) (had : Option (List ℕ)) (place : ℕ) : Type 0 where
   pub image : List ℕ
-  pub was : IsThere image had
+  pub begins : BeginsThere image had
   pub refused : RefusesOfStudy given names image place
 
 abbrev pub RefusesHeldValues : (given : Option Declarations) (names : List (Bor (List ℕ))) (had : Option (List ℕ)) → ValueFault → Type 0

@@ -1,5 +1,6 @@
 //! Setting fields of an image, by their names: the lines of a section of its own are played over it.
 ghost use Rattle.std.specs.Prelude.{◌≡◌, ◌<◌, ◌++◌, [], None, length, set, string_bytes, IfErr, IfOk, IfSome, IsTrue, OnOk};
+ghost use Rattle.image_file.specs.Beside.{LeavesBeside, LiesOn, StaysBeside};
 ghost use Rattle.image_file.specs.declared.error.ImageFault.TheVariants as images;
 ghost use Rattle.image_file.specs.declared.error.NamedFault.TheVariants.{Image};
 ghost use Rattle.image_schema.specs.OfImage.{IsStudied};
@@ -69,8 +70,11 @@ where
     // After `set` recovery of the image at the path gives the heap that recovery of the old image gave, with the assigned
     // fields changed and no other: by the lines of one section, which is acknowledged before anything is printed. A
     // refusal leaves the image.
-    ensures { SetsAt schema_path.entry texts.now result (P.holds images.old path.now) (P.holds images.new path.now)
+    ensures ends { SetsAt schema_path.entry texts.now result (P.holds images.old path.now) (P.holds images.new path.now)
         (W.contents writer.old) (W.contents writer.new) }
+    // Nothing beside the path is lost: what is kept there remains, and the image lies as it did, in one place or in two.
+    ensures beside { StaysBeside path.now (P.holds images.old) (P.holds images.new) (P.lies images.old)
+        (P.lies images.new) }
 {
     let given = match schema_at(rt, alloc, trouble, schema_path) {
         Ok(given) => given,
@@ -91,8 +95,10 @@ fn set_image<D: Disk + Drop, P: Images<Medium = D>, W: Write>(
     texts: &[&str],
     writer: &mut W,
 ) -> Result<(), SetFault>
-    ensures { SetsHeld given texts.now (P.holds images.old path.now) (P.holds images.new path.now)
+    ensures ends { SetsHeld given texts.now (P.holds images.old path.now) (P.holds images.new path.now)
         (W.contents writer.old) (W.contents writer.new) result }
+    ensures beside { StaysBeside path.now (P.holds images.old) (P.holds images.new) (P.lies images.old)
+        (P.lies images.new) }
 {
     match place_for(images, alloc, path) {
         Ok((disk, sectors)) => set_on(images, alloc, path, disk, sectors, given, texts, writer),
@@ -114,8 +120,11 @@ fn set_on<D: Disk + Drop, P: Images<Medium = D>, W: Write>(
     texts: &[&str],
     writer: &mut W,
 ) -> Result<(), SetFault>
-    ensures { SetsHeld given texts.now (P.holds images.old path.now) (P.holds images.new path.now)
+    requires { LiesOn sectors (P.lies images.old path.now) }
+    ensures ends { SetsHeld given texts.now (P.holds images.old path.now) (P.holds images.new path.now)
         (W.contents writer.old) (W.contents writer.new) result }
+    ensures beside { StaysBeside path.now (P.holds images.old) (P.holds images.new) (P.lies images.old)
+        (P.lies images.new) }
 {
     let played = match set_there(images, alloc, path, given, texts) {
         Ok(played) => played,
@@ -144,6 +153,8 @@ fn set_there<D: Disk + Drop, P: Images<Medium = D>>(
     ensures ok { IfOk result (λ played. SetsThere given texts.now (P.holds images.old path.now) played.image.items played.text.items) }
     ensures refused { IfErr result (RefusesThere given texts.now (P.holds images.old path.now)) }
     ensures same { P.holds images.new path.now ≡ P.holds images.old path.now }
+    ensures beside { LeavesBeside path.now (P.holds images.old) (P.holds images.new) (P.lies images.old)
+        (P.lies images.new) }
 {
     match images.read(alloc, path) {
         Ok(image) => {

@@ -2,14 +2,16 @@
 ghost use Rattle.std.specs.Prelude.{◌≡◌, false, string_bytes, IfErr, IfOk, IsTrue, OnOk};
 ghost use Rattle.image_schema.specs.OfImage.{IsStudied};
 ghost use Rattle.image_scripts.specs.Values.{GetsBy, HasLine, HasLines, IsHeldTold, IsNoField, IsTold, IsToldOfStudy, RefusesHeldValues, RefusesNames, RefusesStudied, RefusesValues};
+ghost use Rattle.image_file.specs.Beside.{LeavesBeside};
 ghost use Rattle.image_file.specs.declared.error.ImageFault.TheVariants as images;
 ghost use Rattle.image_file.specs.declared.error.NamedFault.TheVariants.{Image};
 ghost use Rattle.image_scripts.specs.declared.error.ValueFault.TheVariants.{Named};
 
 use crate::error::ValueFault;
-use block_disk::{Disk, MemDisk};
+use block_disk::Disk;
+use file_disk::VolatileDisk;
 use guards::Schema;
-use image_file::{ImageFault, Images, NamedFault, Trouble, schema_at};
+use image_file::{ImageFault, Images, NamedFault, Trouble, look_at, schema_at};
 use image_schema::{NamingError, schema_of};
 use recover::{RecoverError, Study, study};
 use scripts::put;
@@ -19,8 +21,8 @@ use std::io::{Read, Write};
 use std::rt::Files;
 
 /// Writes a line `NAME=VALUE` for each of these fields of the image at the path, with the value that recovery of that image gives: what
-/// the program's word `get` does. Names are those of the schema file, where one is named, or else `f0`, `f1` and so on. Nobody else has
-/// the image while it is read.
+/// the program's word `get` does. Names are those of the schema file, where one is named, or else `f0`, `f1` and so on. The image is only
+/// looked at.
 ///
 /// Refusals, in this order:
 /// - `Named`: the schema file is refused, or can't be read; the image can't be had, or is refused; the schema isn't the image's;
@@ -47,8 +49,11 @@ where
     // What is written are the values that recovery of the image at the path gives to the named fields, in their order, and
     // the image stays. A name is refused only where that image has no field of it. A refusal writes nothing, or a
     // beginning of the lines where the writer fails.
-    ensures { GetsBy schema_path.entry names.now result (P.holds images.old path.now) (P.holds images.new path.now)
+    ensures ends { GetsBy schema_path.entry names.now result (P.holds images.old path.now) (P.holds images.new path.now)
         (W.contents writer.old) (W.contents writer.new) }
+    // Nothing beside the path is lost.
+    ensures beside { LeavesBeside path.now (P.holds images.old) (P.holds images.new) (P.lies images.old)
+        (P.lies images.new) }
 {
     let given = match schema_at(rt, alloc, trouble, schema_path) {
         Ok(given) => given,
@@ -64,7 +69,7 @@ where
     }
 }
 
-// The lines of the image at the path, which is only read.
+// The lines of the image at the path, which is only looked at.
 fn held_values<D: Disk + Drop, P: Images<Medium = D>>(
     images: &mut P,
     alloc: Global,
@@ -75,13 +80,11 @@ fn held_values<D: Disk + Drop, P: Images<Medium = D>>(
     ensures ok { IfOk result (λ text. IsHeldTold given names.now (P.holds images.old path.now) (string_bytes text)) }
     ensures refused { IfErr result (RefusesHeldValues given names.now (P.holds images.old path.now)) }
     ensures same { P.holds images.new path.now ≡ P.holds images.old path.now }
+    ensures beside { LeavesBeside path.now (P.holds images.old) (P.holds images.new) (P.lies images.old)
+        (P.lies images.new) }
 {
-    match images.read(alloc, path) {
-        Ok(image) => {
-            let text = values_of(alloc, &image, given, names);
-            drop(image);
-            text
-        }
+    match look_at(images, alloc, path) {
+        Ok(disk) => values_on(alloc, disk, given, names),
         Err(why) => {
             drop(given);
             Err(ValueFault::Named(NamedFault::Image(ImageFault::from(why))))
@@ -89,20 +92,17 @@ fn held_values<D: Disk + Drop, P: Images<Medium = D>>(
     }
 }
 
-// The lines of an image.
-fn values_of(
+// The lines of the image on this disk.
+fn values_on(
     alloc: Global,
-    image: &[u8],
+    disk: VolatileDisk,
     given: Option<Schema>,
     names: &[&str],
 ) -> Result<String, ValueFault>
-    ensures ok { IfOk result (λ text. IsTold given names.now image.now (string_bytes text)) }
-    ensures refused { IfErr result (RefusesValues given names.now image.now) }
+    ensures ok { IfOk result (λ text. IsTold given names.now disk.now.bytes (string_bytes text)) }
+    ensures refused { IfErr result (RefusesValues given names.now disk.now.bytes) }
 {
-    let Ok(mut disk) = MemDisk::from_bytes(alloc, image) else {
-        drop(given);
-        return Err(refused(RecoverError::NoMemory));
-    };
+    let mut disk = disk;
     let studied = study(alloc, &mut disk);
     drop(disk);
     match studied {

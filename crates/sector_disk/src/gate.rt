@@ -71,12 +71,28 @@ pub(crate) fn turn_gate<S: Sectors>(
     Ok(())
 }
 
-/// Makes the gate say so, durably. Until then it may say either.
+/// Makes the gate say so, durably. Until then it may say either. What has failed is tried once more, at once: who opens the device next may be
+/// given what was written, and not what the device has, and could do nothing about it (DECISIONS.md).
 pub(crate) fn put_gate<S: Sectors>(
     sectors: &mut S,
     size: SectorSize,
     turn: bool,
 ) -> Result<(), Fault>
+    requires size { S.of_size sectors.old ≡ size }
+    requires fits { place_of size 2 ≤ length (S.device sectors.old).now.bytes }
+    ensures durable { OnOk result ((S.device sectors.new).now.pending ≡ []) }
+    ensures turned { OnOk result (turn_of size (S.device sectors.new).now.bytes ≡ turn) }
+    ensures writes_only { WritesOnly (one_sector size 1 ∷ []) size (S.of_size sectors.new)
+        (S.device sectors.old) (S.device sectors.new) }
+{
+    match put_gate_once(sectors, size, turn) {
+        Ok(()) => Ok(()),
+        Err(_) => put_gate_once(sectors, size, turn),
+    }
+}
+
+// Tries so once.
+fn put_gate_once<S: Sectors>(sectors: &mut S, size: SectorSize, turn: bool) -> Result<(), Fault>
     requires size { S.of_size sectors.old ≡ size }
     requires fits { place_of size 2 ≤ length (S.device sectors.old).now.bytes }
     ensures durable { OnOk result ((S.device sectors.new).now.pending ≡ []) }

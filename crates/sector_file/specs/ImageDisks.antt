@@ -2,6 +2,7 @@
 use Rattle.std.specs.Int.{div_ceil}
 use Rattle.std.specs.Prelude.{ℕ, Option, None, Some}
 use Rattle.block_disk.specs.Device.{Device}
+use Rattle.file_disk.specs.Backing.{ReadsForGood}
 use Rattle.sector_disk.specs.declared.size.SectorSize.{SectorSize}
 use Rattle.sector_disk.specs.Size.{bytes_in, place_of}
 use Rattle.sector_file.specs.declared.image_disk.ImageDisk.{ImageDisk}
@@ -11,6 +12,11 @@ use Rattle.sector_file.specs.declared.image_disk.ImageDisk.TheVariants.{Plain, P
 abbrev pub device_on : {F : Type 0} → ImageDisk F → Device
 device_on (Plain disk) = disk.device
 device_on (Placed disk) = disk.device
+
+-- the file's own bytes are what its device has: a crash leaves what the disk reads
+abbrev pub IsKeptAsFound : {F : Type 0} → ImageDisk F → Type 0
+IsKeptAsFound (Plain disk) = ReadsForGood disk.device.now.bytes disk.file
+IsKeptAsFound (Placed disk) = Unit {0}
 
 -- where it lies in two places, how many bytes a sector of theirs has
 abbrev pub sectors_on : {F : Type 0} → ImageDisk F → Option SectorSize

@@ -2,7 +2,7 @@
 ghost use Rattle.std.specs.Prelude.{◌≡◌, ◌+◌, ◌^◌, ◌<◌, ◌≤◌, length, option_map, IfOk, IfSome, IsErrOf, OnErr, OnOk};
 ghost use Rattle.block_disk.specs.Device.{SameMoments, synced, written};
 ghost use Rattle.block_disk.specs.Since.{IsSameOrTorn};
-ghost use Rattle.file_disk.specs.Backing.{ReadsAsBefore, ReadsForGood, TornFile, put_at, settled};
+ghost use Rattle.file_disk.specs.Backing.{ReadsForGood, TornFile, Unsettled, put_at, settled};
 ghost use Rattle.sector_disk.specs.Readable.{IsLost};
 ghost use Rattle.sector_disk.specs.Size.{bytes_in, place_of, sector};
 ghost use Rattle.sector_disk.specs.declared.error.SectorError.TheVariants.{Unreadable};
@@ -21,7 +21,8 @@ use std::marker::Model;
 /// file that gives other bytes later makes no wrong answer.
 ///
 /// What they may claim of a crash rests on the file: that `fdatasync` makes durable what was written before it, and that a write
-/// leaves the sectors alone that it isn't one of.
+/// leaves the sectors alone that it isn't one of. Of what is found it rests on more: no write and no sync of another open has failed since the
+/// file system was mounted, after which the system may give what the device hasn't. Nothing is written back (DECISIONS.md).
 #[derive(Drop)]
 pub struct FileSectors<F: BackingFile + Drop> {
     file: F,
@@ -47,8 +48,7 @@ impl<F: BackingFile + Drop> Model for FileSectors<F> {
 }
 
 impl<F: BackingFile + Drop> FileSectors<F> {
-    /// The sectors of this file on which a disk of so many lies in two places. The file is synced first, so that what is read is what a
-    /// crash leaves.
+    /// The sectors of this file on which a disk of so many lies in two places. The file is synced first.
     ///
     /// `Fault`, `TooSmall` and `NoMemory`, as they come. A gate that can't be read is none: then it is the first area's turn.
     pub fn found(
@@ -265,7 +265,7 @@ impl<F: BackingFile + Drop> Sectors for FileSectors<F> {
         // A flush that succeeds has settled the file.
         ensures file { OnOk result (self.new.file ≡ option_map settled self.old.file) }
         // A flush that fails leaves what the file reads.
-        ensures unsettled { OnErr result (ReadsAsBefore self.old.file self.new.file) }
+        ensures unsettled { OnErr result (Unsettled self.old.file self.new.file) }
     {
         if self.file.settle().is_err() {
             return Err(Fault);

@@ -73,6 +73,57 @@ impl<F: BackingFile + Drop> Read for PlacedBytes<F> {
     }
 }
 
+/// All bytes of the image in this file: its own, or those of the disk in two places that it is. The file needs no right to be written, and
+/// nothing is.
+///
+/// `Fault` and `NoMemory`, as they come.
+pub fn whole_image<F: BackingFile + Drop>(
+    alloc: Global,
+    mut file: F,
+) -> Result<Vec<u8>, PlacesError> {
+    match label_of(&mut file) {
+        Ok(Some(label)) => match open_places(alloc, file, label) {
+            Ok(disk) => whole_disk(alloc, disk),
+            Err(why) => Err(why),
+        },
+        Ok(None) => whole_file(alloc, file),
+        Err(_) => {
+            drop(file);
+            Err(PlacesError::Fault)
+        }
+    }
+}
+
+fn whole_disk<D: Disk + Drop>(alloc: Global, mut disk: D) -> Result<Vec<u8>, PlacesError> {
+    let Ok(mut bytes) = vec![in alloc; 0u8; disk.size() as usize] else {
+        drop(disk);
+        return Err(PlacesError::NoMemory);
+    };
+    let read = disk.read_at(0, &mut bytes);
+    drop(disk);
+    match read {
+        Ok(()) => Ok(bytes),
+        Err(_) => Err(PlacesError::Fault),
+    }
+}
+
+fn whole_file<F: BackingFile + Drop>(alloc: Global, mut file: F) -> Result<Vec<u8>, PlacesError> {
+    let Ok(len) = file.len() else {
+        drop(file);
+        return Err(PlacesError::Fault);
+    };
+    let Ok(mut bytes) = vec![in alloc; 0u8; len as usize] else {
+        drop(file);
+        return Err(PlacesError::NoMemory);
+    };
+    let read = file.read_from(0, &mut bytes);
+    drop(file);
+    match read {
+        Ok(()) => Ok(bytes),
+        Err(_) => Err(PlacesError::Fault),
+    }
+}
+
 // What a disk answers, as a file says it.
 fn told(answer: Result<(), DiskError>) -> io::Result<()> {
     match answer {

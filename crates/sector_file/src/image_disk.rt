@@ -2,7 +2,7 @@
 ghost use Rattle.std.specs.Prelude.{◌≡◌, IfOk, replicate};
 ghost use Rattle.block_disk.specs.Device.{new_device};
 ghost use Rattle.sector_disk.specs.Size.{place_of};
-ghost use Rattle.sector_file.specs.ImageDisks.{device_on, room_for, sectors_for, sectors_on};
+ghost use Rattle.sector_file.specs.ImageDisks.{IsKeptAsFound, device_on, room_for, sectors_for, sectors_on};
 
 use crate::file_sectors::FileSectors;
 use crate::labels::label_of;
@@ -21,11 +21,14 @@ pub enum ImageDisk<F: BackingFile + Drop> {
 }
 
 impl<F: BackingFile + Drop> ImageDisk<F> {
-    /// The disk of this file, which is one in two places where it begins with a label and has all its sectors. Nothing is written.
+    /// The disk of this file, which is one in two places where it begins with a label and has all its sectors; then nothing is written. The
+    /// file's own bytes are written back as they are read, and synced.
     ///
     /// `Fault` and `NoMemory`, as they come.
     pub fn found(alloc: Global, mut file: F) -> Result<ImageDisk<F>, PlacesError>
-        ensures { IfOk result (λ disk. device_on disk ≡ new_device (device_on disk).now.bytes) }
+        ensures ok { IfOk result (λ disk. device_on disk ≡ new_device (device_on disk).now.bytes) }
+        // Once an image in one place is open, a crash leaves what was read of it, whatever became of syncs before.
+        ensures durable { IfOk result (λ disk. IsKeptAsFound disk) }
     {
         match label_of(&mut file) {
             Ok(Some(label)) => match open_places(alloc, file, label) {

@@ -38,6 +38,8 @@ pub(crate) struct Medium {
     // How many writes and syncs it makes before it makes no call any more; 0: any number.
     left: Cell<u64>,
     is_dead: Cell<bool>,
+    // Which of them from now on fails, and does nothing (1: the next; 0: none).
+    fails_in: Cell<u64>,
 }
 
 impl Medium {
@@ -47,6 +49,7 @@ impl Medium {
             content: Cell::new(EMPTY),
             left: Cell::new(0),
             is_dead: Cell::new(false),
+            fails_in: Cell::new(0),
         }
     }
 
@@ -58,6 +61,18 @@ impl Medium {
     /// Makes it die in the write or sync of this number from now on.
     pub(crate) fn die_in(&self, call: u64) {
         self.left.set(call);
+    }
+
+    /// Makes the write or sync of this number from now on fail, alone.
+    pub(crate) fn fail_in(&self, call: u64) {
+        self.fails_in.set(call);
+    }
+
+    // Whether a write or sync fails.
+    fn fails(&self) -> bool {
+        let left = self.fails_in.get();
+        self.fails_in.set(left.saturating_sub(1));
+        left == 1
     }
 
     /// It comes back from a crash: what was in flight is as chance has it.
@@ -157,6 +172,9 @@ impl BackingFile for SectorFile<'_> {
         if from % BYTES != 0 || bytes.len() % BYTES != 0 {
             return Err(dead());
         }
+        if self.medium.fails() {
+            return Err(dead());
+        }
         let makes = self.medium.makes();
         let mut content = self.medium.content.get();
         for (i, byte) in bytes.iter().enumerate() {
@@ -177,7 +195,7 @@ impl BackingFile for SectorFile<'_> {
     }
 
     fn settle(&mut self) -> io::Result<()> {
-        if !self.medium.makes() {
+        if self.medium.fails() || !self.medium.makes() {
             return Err(dead());
         }
         let mut content = self.medium.content.get();

@@ -3,6 +3,7 @@ use crate::chance::Chance;
 use crate::medium::Medium;
 use crate::truth::{Truth, bytes_of, change};
 use block_disk::Disk;
+use file_disk::BackingFile;
 use sector_disk::SectorSize;
 use sector_file::ImageDisk;
 use std::alloc::Global;
@@ -10,24 +11,36 @@ use std::alloc::Global;
 // The bytes of two sectors.
 const LEN: usize = 1024;
 
+// Those of a sector, of which the second is the gate.
+const SECTOR: usize = 512;
+
+// What is done with the gate before a file is opened.
+#[derive(Clone, Copy, PartialEq, Eq)]
+enum Gate {
+    // Nothing.
+    Left,
+    // It is written with the bytes that it reads, and synced; the file dies in one of both calls.
+    WrittenBack,
+}
+
 // How many crashes of these files, eight each, lost a byte; `None` where there was no memory.
-fn wrong(alloc: Global, files: u64) -> Option<u64> {
+fn wrong(alloc: Global, gate: Gate, files: u64) -> Option<u64> {
     let mut chance = Chance::new(5);
     let mut wrong: u64 = 0;
     for _ in 0..files {
-        wrong = wrong.saturating_add(live(alloc, &mut chance)?);
+        wrong = wrong.saturating_add(live(alloc, gate, &mut chance)?);
     }
     Some(wrong)
 }
 
 // How many of one file's crashes did.
-fn live(alloc: Global, chance: &mut Chance) -> Option<u64> {
+fn live(alloc: Global, gate: Gate, chance: &mut Chance) -> Option<u64> {
     let medium = Medium::empty();
     let made = ImageDisk::blank(alloc, medium.file(), Some(SectorSize::Bytes512), LEN as u64);
     let is_made = made.is_ok();
     drop(made);
     let wrong = if is_made {
-        live_on(alloc, &medium, chance)
+        live_on(alloc, &medium, gate, chance)
     } else {
         None
     };
@@ -35,15 +48,27 @@ fn live(alloc: Global, chance: &mut Chance) -> Option<u64> {
     wrong
 }
 
-fn live_on(alloc: Global, medium: &Medium, chance: &mut Chance) -> Option<u64> {
+fn live_on(alloc: Global, medium: &Medium, gate: Gate, chance: &mut Chance) -> Option<u64> {
     let mut truth = Truth::zeros(alloc, LEN)?;
-    let wrong = live_by(alloc, medium, &mut truth, chance);
+    let wrong = live_by(alloc, medium, gate, &mut truth, chance);
     drop(truth);
     wrong
 }
 
-fn live_by(alloc: Global, medium: &Medium, truth: &mut Truth, chance: &mut Chance) -> Option<u64> {
+fn live_by(
+    alloc: Global,
+    medium: &Medium,
+    gate: Gate,
+    truth: &mut Truth,
+    chance: &mut Chance,
+) -> Option<u64> {
     for _ in 0..8 {
+        if gate == Gate::WrittenBack {
+            write_back(medium, chance);
+            if !is_still(alloc, medium, truth)? {
+                return Some(1);
+            }
+        }
         if !is_right(alloc, medium, truth, chance)? {
             return Some(1);
         }
@@ -78,6 +103,27 @@ fn is_right(
     Some(true)
 }
 
+// Writes the gate back, and dies of it.
+fn write_back(medium: &Medium, chance: &mut Chance) {
+    let mut gate = [0; SECTOR];
+    let mut file = medium.file();
+    medium.die_in(1 + chance.below(2));
+    if file.read_from(SECTOR as u64, &mut gate).is_ok() {
+        let _ = file.write_to(SECTOR as u64, &gate);
+        let _ = file.settle();
+    }
+    drop(file);
+    medium.come_back(chance);
+}
+
+// Whether what is found is all that was written.
+fn is_still(alloc: Global, medium: &Medium, truth: &Truth) -> Option<bool> {
+    let mut found = vec![in alloc; 0u8; LEN].ok()?;
+    let is_still = read_back(alloc, medium, &mut found) && truth.allows(&found, true);
+    drop(found);
+    Some(is_still)
+}
+
 fn read_back(alloc: Global, medium: &Medium, out: &mut [u8]) -> bool {
     match ImageDisk::found(alloc, medium.file()) {
         Ok(mut disk) => {
@@ -102,5 +148,51 @@ fn write_some<D: Disk>(disk: &mut D, truth: &mut Truth, chance: &mut Chance) -> 
 
 #[test]
 fn no_crash_of_a_file_loses_a_byte_that_is_not_in_flight(rt: HostRuntime) {
-    assert_eq!(rt; wrong(rt.alloc(), 100), Some(0));
+    assert_eq!(rt; wrong(rt.alloc(), Gate::Left, 100), Some(0));
+}
+
+fn loses(alloc: Global, gate: Gate) -> bool {
+    match wrong(alloc, gate, 100) {
+        Some(count) => count > 0,
+        None => false,
+    }
+}
+
+// A crash has left the other area half written, and one that comes while the gate is in flight may show that. So no opening writes it.
+#[test]
+fn a_gate_that_an_opening_writes_back_loses_bytes(rt: HostRuntime) {
+    assert!(rt; loses(rt.alloc(), Gate::WrittenBack));
+}
+
+// A sync writes two sectors of the area, syncs the file, writes the gate and syncs again. Whether it is right where the call of this number
+// fails: the gate's two are made again, and the others are told.
+fn is_made_again(alloc: Global, call: u64) -> bool {
+    let medium = Medium::empty();
+    let made = ImageDisk::blank(alloc, medium.file(), Some(SectorSize::Bytes512), LEN as u64);
+    match made {
+        Ok(mut disk) => {
+            let is_written = disk.write_at(0, &[7; LEN]).is_ok();
+            medium.fail_in(call);
+            let is_synced = disk.sync().is_ok();
+            drop(disk);
+            let is_right = !is_synced || is_found(alloc, &medium);
+            drop(medium);
+            is_written && is_right && is_synced == (call > 3)
+        }
+        Err(_) => false,
+    }
+}
+
+// Whether a crash leaves what was written.
+fn is_found(alloc: Global, medium: &Medium) -> bool {
+    medium.come_back(&mut Chance::new(3));
+    let mut found = [0; LEN];
+    read_back(alloc, medium, &mut found) && found == [7; LEN]
+}
+
+#[test]
+fn a_turn_of_the_gate_that_fails_once_is_made_again(rt: HostRuntime) {
+    let alloc = rt.alloc();
+    assert!(rt; is_made_again(alloc, 1) && is_made_again(alloc, 2) && is_made_again(alloc, 3));
+    assert!(rt; is_made_again(alloc, 4) && is_made_again(alloc, 5));
 }

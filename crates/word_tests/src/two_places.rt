@@ -64,6 +64,31 @@ fn a_script_is_played_over_one(rt: HostRuntime) {
     assert!(rt; begins(&rt, "played", b"MONI4096") == Some((LARGE, true)));
 }
 
+// Fields that are set leave it in two places.
+const SET: &[Line] = &[
+    (
+        FORMAT_PLACED,
+        Some("set_there"),
+        "",
+        Does::Change(FORMATTED),
+    ),
+    (
+        &["set", "f0=5"],
+        Some("set_there"),
+        "",
+        Does::Change(
+            b"kept 0 0\nundone 0\nheap 10 20\nok\nok\nok\nlogged 3\nwrote 1\nacknowledged 1 0\n",
+        ),
+    ),
+    (&["get", "f0"], Some("set_there"), "", Does::Tell(b"f0=5\n")),
+];
+
+#[test]
+fn fields_of_one_are_set(rt: HostRuntime) {
+    assert!(rt; first_other(&rt, SET).is_none());
+    assert!(rt; begins(&rt, "set_there", b"MONI4096") == Some((LARGE, true)));
+}
+
 const ROUNDS: &[&str] = &["drive", "--rounds", "20"];
 
 const PLAIN: &[Line] = &[(

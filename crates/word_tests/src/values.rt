@@ -1,6 +1,6 @@
 //! The words `get` and `set`, and strict scripts.
 
-use crate::playing::{Does, FORMAT, FORMATTED, Fails, Line, fault_of, first_other, play};
+use crate::playing::{Does, FORMAT, FORMATTED, Fails, LINES, Line, fault_of, first_other, play};
 use file_disk::BackingFile;
 use std::fs;
 use std::fs::{Files, OpenFile};
@@ -86,6 +86,33 @@ const VALUES: &[Line] = &[
 #[test]
 fn values_are_told_and_set(rt: HostRuntime) {
     assert!(rt; first_other(&rt, VALUES).is_none());
+}
+
+const TO_READ: &[Line] = &[(FORMAT, Some("read_only"), "", Does::Change(FORMATTED))];
+
+const READ: &[Line] = &[
+    (
+        &["get", "f0"],
+        Some("read_only"),
+        "",
+        Does::Tell(b"f0=10\n"),
+    ),
+    (&["show"], Some("read_only"), "", Does::Tell(LINES)),
+];
+
+// Lets nobody write the file.
+fn set_read_only<R: Files>(rt: &R, path: &str) -> Option<bool> {
+    let mut permissions = rt.metadata(path).ok()?.permissions();
+    permissions.set_readonly(true);
+    let is_set = rt.set_permissions(path, permissions).is_ok();
+    Some(is_set)
+}
+
+#[test]
+fn values_are_told_of_a_file_that_may_only_be_read(rt: HostRuntime) {
+    assert!(rt; first_other(&rt, TO_READ).is_none());
+    assert!(rt; set_read_only(&rt, "read_only") == Some(true));
+    assert!(rt; first_other(&rt, READ).is_none());
 }
 
 const MARKED: &[u8] = b"object o\nfield kept o o 1\ntransient mark o o 3\n";

@@ -67,6 +67,65 @@ fn an_image_that_is_replaced_is_kept(rt: HostRuntime) {
     assert!(rt; told_of_kept(&rt) == Some([true; 3]));
 }
 
+// Whether there is no file at any path that a new image has used on its way.
+fn is_tidy<R: Files>(rt: &R, made: &str, passing: &str) -> bool {
+    rt.metadata(made).is_err() && rt.metadata(passing).is_err()
+}
+
+// Whether an image is kept; and whether fields that are set, a script that is played, and one that is refused leave it.
+fn told_of_kept_beside<F, R>(rt: &R) -> Option<[bool; 3]>
+where
+    F: BackingFile + OpenFile + Read + Drop,
+    R: Files<File = F> + AllocGlobal + Clock + Eprint + Threads + Wait + Sync,
+{
+    fs::write(rt, "schema", SCHEMA).ok()?;
+    let is_made = is_done(rt, FORMAT, "beside")? && is_done(rt, OTHER, "beside")?;
+    let kept = fs::read(rt, "beside~").ok()?;
+    let is_set = is_done(rt, &["set", "f0=5"], "beside")? && are_same(rt, "beside~", &kept);
+    let is_run = is_done(rt, &["run"], "beside")? && are_same(rt, "beside~", &kept);
+    let is_refused = !is_done(rt, &["set", "none=5"], "beside")? && are_same(rt, "beside~", &kept);
+    drop(kept);
+    Some([
+        is_made && is_set,
+        is_run && is_refused,
+        is_tidy(rt, "beside.heapctl-new", "beside.heapctl-old"),
+    ])
+}
+
+#[test]
+fn words_leave_the_image_that_is_kept(rt: HostRuntime) {
+    assert!(rt; told_of_kept_beside(&rt) == Some([true; 3]));
+}
+
+// Whether an image is kept in place of another file, and where both paths lead to one file already.
+fn told_of_kept_over<F, R>(rt: &R) -> Option<[bool; 3]>
+where
+    F: BackingFile + OpenFile + Read + Drop,
+    R: Files<File = F> + AllocGlobal + Clock + Eprint + Threads + Wait + Sync,
+{
+    fs::write(rt, "schema", SCHEMA).ok()?;
+    fs::write(rt, "over~", b"notes of mine").ok()?;
+    let is_made = is_done(rt, FORMAT, "over")? && are_same(rt, "over~", b"notes of mine");
+    let first = fs::read(rt, "over").ok()?;
+    let is_kept = is_done(rt, OTHER, "over")? && are_same(rt, "over~", &first);
+    drop(first);
+    rt.remove_file("over~").ok()?;
+    rt.hard_link("over", "over~").ok()?;
+    let second = fs::read(rt, "over").ok()?;
+    let is_again = is_done(rt, FORMAT, "over")? && are_same(rt, "over~", &second);
+    drop(second);
+    Some([
+        is_made && is_kept,
+        is_again,
+        is_tidy(rt, "over.heapctl-new", "over.heapctl-old"),
+    ])
+}
+
+#[test]
+fn an_image_is_kept_over_another_file(rt: HostRuntime) {
+    assert!(rt; told_of_kept_over(&rt) == Some([true; 3]));
+}
+
 // How these words end on this path, and whether they write nothing.
 fn ended<F, R>(rt: &R, words: &[&str], image: &str) -> Option<(Result<(), WorkFault>, bool)>
 where

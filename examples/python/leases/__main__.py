@@ -1,6 +1,6 @@
 """A server of named leases with fencing tokens, over HTTP. No crash loses what it has answered.
 
-    python3 examples/python/leases FILE [--port PORT]
+    python3 examples/python/leases FILE [--port PORT] [--existing]
 
     curl -X POST   'localhost:8000/leases/nightly?holder=7&seconds=30'    acquires: 200 with the token; 409 while another holder has it
     curl -X PUT    'localhost:8000/leases/nightly?token=1&seconds=30'     renews: 200; 404 where that token doesn't hold it
@@ -9,6 +9,9 @@
 
 A holder is a number of 64 bits that the client chooses. A client that got no answer, since the server was killed, asks again with the same
 number, and is answered the token that it has. 400 tells what is wrong with a request, 503 that it may be made again later.
+
+With --existing the file has to have leases already. Start it so from the second time on: on a volume that isn't mounted a new file would
+begin with token 1 again, and whoever compares tokens would take an old holder for the last one.
 """
 from __future__ import annotations
 
@@ -128,8 +131,9 @@ def main() -> None:
     words = argparse.ArgumentParser(description="a server of named leases with fencing tokens")
     words.add_argument("file")
     words.add_argument("--port", type=int, default=8000)
+    words.add_argument("--existing", action="store_true", help="don't make the file where there is none")
     told = words.parse_args()
-    with zelamiku.open(told.file, table=Table, lanes=WORKERS + 1) as heap:
+    with zelamiku.open(told.file, table=Table, lanes=WORKERS + 1, create=not told.existing) as heap:
         leases = Leases(heap)
         with Server(told.port, leases) as server:
             signal.signal(signal.SIGTERM, lambda *_: threading.Thread(target=server.shutdown).start())

@@ -14,7 +14,7 @@ import zelamiku
 SLOTS = 1_000
 NAME_WORDS = 6
 NAME_BYTES = 8 * NAME_WORDS
-# A section has 1,000 records, and a slot that is given back costs three.
+# A section has 1,000 records, and a slot that is given back costs three, and as many where it is taken back.
 MOST_SWEPT = 100
 
 
@@ -53,7 +53,8 @@ class Leases:
     def __init__(self, heap: zelamiku.Heap) -> None:
         self._heap = heap
         self._table: Table = heap.table
-        # Which slot a name has. Whoever holds the table's monitor uses it.
+        # Which slot a name has. Whoever holds the table's monitor uses it. A section changes it last: an exception takes back what the section
+        # has stored in the heap, and knows nothing of a dictionary.
         self._slot_of: dict[str, int] = {}
         with heap.synchronized(self._table):
             now = time.monotonic_ns()
@@ -73,15 +74,19 @@ class Leases:
             slot = self._slot_of.get(name)
             if slot is not None and self._is_held(slot):
                 return self._extended(name, slot, seconds) if table.holder[slot] == holder else None
+            over: list[str] = []
             if slot is None:
-                slot = self._taken()
+                slot, over = self._taken()
                 for index, word in enumerate(words):
                     table.name[slot * NAME_WORDS + index] = word
-                self._slot_of[name] = slot
             table.last_token += 1
             table.token[slot] = table.last_token
             table.holder[slot] = holder
-            return self._extended(name, slot, seconds)
+            lease = self._extended(name, slot, seconds)
+            for each in over:
+                del self._slot_of[each]
+            self._slot_of[name] = slot
+            return lease
 
     def renew(self, name: str, token: int, seconds: float) -> Lease | None:
         """The lease, for so long from now on; None where it isn't held by this token."""
@@ -97,7 +102,8 @@ class Leases:
             slot = self._slot_of.get(name)
             if slot is None or self._table.token[slot] != token:
                 return False
-            self._free(name, slot)
+            self._free(slot)
+            del self._slot_of[name]
             return True
 
     def all(self) -> list[Lease]:
@@ -129,23 +135,23 @@ class Leases:
     def _lease(self, name: str, slot: int) -> Lease:
         return Lease(name, self._table.token[slot], (self._table.until[slot] - time.monotonic_ns()) / 1e9)
 
-    def _taken(self) -> int:
+    def _taken(self) -> tuple[int, list[str]]:
+        """A slot, and the names of leases that it has freed for it."""
         slot = self._table.slots.take()
         if slot is not None:
-            return slot
-        over = [(name, slot) for name, slot in self._slot_of.items() if not self._is_held(slot)]
+            return slot, []
+        over = [name for name, slot in self._slot_of.items() if not self._is_held(slot)][:MOST_SWEPT]
         if not over:
             raise Full
-        for name, slot in over[:MOST_SWEPT]:
-            self._free(name, slot)
+        for name in over:
+            self._free(self._slot_of[name])
         slot = self._table.slots.take()
         assert slot is not None
-        return slot
+        return slot, over
 
-    def _free(self, name: str, slot: int) -> None:
+    def _free(self, slot: int) -> None:
         self._table.token[slot] = 0
         self._table.slots.give(slot)
-        del self._slot_of[name]
 
 
 def _words(name: str) -> list[int]:

@@ -1,5 +1,6 @@
 """What the table of leases and the server answer."""
 import http.client
+import itertools
 import json
 import subprocess
 import sys
@@ -7,8 +8,10 @@ import tempfile
 import time
 import unittest
 from pathlib import Path
+from unittest import mock
 
 import zelamiku
+from zelamiku.session import Lane
 
 HERE = Path(__file__).parent
 sys.path.insert(0, str(HERE))
@@ -100,7 +103,73 @@ class Tables(OnFile):
             self.assertEqual(len(Leases(heap).all()), SLOTS)
 
 
+class Broken(Exception):
+    """What a store raises that fails."""
+
+
+class Reverts(OnFile):
+    def broken_at(self, number: int, work) -> bool:
+        """Does the work, and fails at the store of this number, from 0 on. Whether it came to that."""
+        store, count = Lane.store, itertools.count()
+
+        def fails(lane, field, bits):
+            if next(count) == number:
+                raise Broken
+            store(lane, field, bits)
+
+        with mock.patch.object(Lane, "store", fails):
+            try:
+                work()
+            except Broken:
+                return True
+        return False
+
+    def test_an_exception_at_any_store_leaves_table_and_names_as_they_were(self):
+        with self.open() as heap:
+            leases = Leases(heap)
+            leases.acquire("one", 7, 60)
+            for work in (lambda: leases.acquire("two", 8, 60), lambda: leases.release("one", 1)):
+                before = dict(leases._slot_of)
+                for number in itertools.count():
+                    if not self.broken_at(number, work):
+                        break
+                    self.assertEqual(leases._slot_of, before)
+                    self.assertEqual(Leases(heap)._slot_of, before)
+                self.assertGreaterEqual(number, 1)
+                self.assertNotEqual(leases._slot_of, before)
+                self.assertEqual(Leases(heap)._slot_of, leases._slot_of)
+
+    def test_and_where_slots_of_those_whose_time_is_over_are_freed(self):
+        with self.open() as heap:
+            leases = Leases(heap)
+            for number in range(SLOTS):
+                leases.acquire(f"name {number}", 1, 0.001)
+            time.sleep(0.002)
+            for number in (0, MOST_SWEPT // 2, MOST_SWEPT - 1, MOST_SWEPT, MOST_SWEPT + 7):
+                self.assertTrue(self.broken_at(number, lambda: leases.acquire("one more", 8, 60)))
+                self.assertEqual(len(leases._slot_of), SLOTS)
+                # An opening would find all of them.
+                with heap.synchronized(heap.table):
+                    self.assertEqual([slot for slot in range(SLOTS) if not heap.table.token[slot]], [])
+            self.assertIsNotNone(leases.acquire("one more", 8, 60))
+            self.assertEqual(len(leases._slot_of), SLOTS - MOST_SWEPT + 1)
+
+
 class Servers(OnFile):
+    def test_one_of_leases_that_are_there_makes_no_file(self):
+        words = [sys.executable, str(HERE), self.path, "--port", "0", "--existing"]
+        told = subprocess.run(words, capture_output=True, text=True, timeout=60, check=False)
+        self.assertEqual((told.returncode, told.stdout), (1, ""))
+        self.assertIn(f"leases: {self.path}: there is no heap", told.stderr)
+        self.assertFalse(Path(self.path).exists())
+        for _ in range(2):
+            # The first one makes it.
+            server = subprocess.Popen(words if Path(self.path).exists() else words[:-1], stdout=subprocess.PIPE, text=True)
+            self.addCleanup(server.communicate)
+            self.assertIn("has 0 leases", server.stdout.readline())
+            server.terminate()
+            self.assertEqual(server.wait(30), 0)
+
     def test_requests(self):
         server = subprocess.Popen([sys.executable, str(HERE), self.path, "--port", "0"], stdout=subprocess.PIPE, text=True)
         self.addCleanup(server.communicate)

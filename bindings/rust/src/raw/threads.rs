@@ -1,7 +1,10 @@
 //! The functions of `zelamiku_threads.h`. Handles are numbers, and a call on any number answers: so each call here is safe.
 use super::{Dropped, Field, Handle, Sight, Told, OK};
 use std::ffi::{c_char, c_void, CStr, CString};
+use std::mem::{offset_of, size_of};
+use std::os::unix::ffi::OsStrExt;
 use std::panic::{catch_unwind, AssertUnwindSafe};
+use std::path::Path;
 use std::sync::atomic::{
     AtomicU32, AtomicU64,
     Ordering::{Relaxed, Release, SeqCst},
@@ -10,6 +13,10 @@ use std::sync::Arc;
 
 pub const NO_DEADLINE: u64 = u64::MAX;
 pub const ALL_SECTIONS: u64 = u64::MAX;
+/// The most waits that a heap tells: one for each lane.
+const MOST_LANES: usize = 32;
+// Bytes of a path in a message.
+const MOST_OF_PATH: usize = 500;
 
 /// A heap of this process, by its number.
 #[repr(transparent)]
@@ -18,7 +25,7 @@ pub struct HeapNumber(u64);
 
 /// A thread's use of a heap, by its number.
 #[repr(transparent)]
-#[derive(Clone, Copy, Debug, Default)]
+#[derive(Clone, Copy, Debug, Default, PartialEq, Eq, PartialOrd, Ord)]
 pub struct ThreadNumber(u64);
 
 /// What a log hook is told: a level, and a line.
@@ -34,6 +41,11 @@ pub struct Plan<'a> {
     /// In microseconds.
     pub linger: u32,
     pub upgrades: bool,
+    pub must_exist: bool,
+    pub reverts: bool,
+    pub keeps_slice: bool,
+    /// 0: none.
+    pub fingerprint: u64,
     /// It has to live until no thread has a call of the heap any more.
     pub log: Option<&'a Arc<Log>>,
 }
@@ -48,6 +60,10 @@ struct RawPlan {
     ring: u32,
     linger: u32,
     upgrades: u32,
+    must_exist: u32,
+    reverts: u32,
+    keeps_slice: u32,
+    fingerprint: u64,
     log: Option<extern "C" fn(*mut c_void, u32, *const c_char)>,
     log_of: *mut c_void,
 }
@@ -81,12 +97,24 @@ pub struct Stats {
     pub awaiting: u32,
     pub entering: u32,
     pub last_cause: u32,
+    pub is_astray: u32,
+    pub reserved: u32,
+}
+
+/// A thread that sleeps for a monitor.
+#[repr(C)]
+#[derive(Clone, Copy, Default)]
+pub struct Wait {
+    pub lane: u32,
+    pub object: u32,
+    pub owner: u32,
+    pub in_circle: u32,
 }
 
 // The library was built for these sizes, and zelamiku_threads.h has them.
-const _: () = assert!(std::mem::size_of::<HeapNumber>() == 8 && std::mem::size_of::<ThreadNumber>() == 8);
-const _: () = assert!(std::mem::size_of::<RawPlan>() == 56 && std::mem::size_of::<Report>() == 344);
-const _: () = assert!(std::mem::size_of::<Stats>() == 80);
+const _: () = assert!(size_of::<HeapNumber>() == 8 && size_of::<ThreadNumber>() == 8);
+const _: () = assert!(size_of::<RawPlan>() == 72 && size_of::<Report>() == 344);
+const _: () = assert!(size_of::<Stats>() == 88 && size_of::<Wait>() == 16);
 
 // What a section's end asks of its heap, and what the thread that has a lane keeps of it: zelamiku_inline.h has them.
 #[repr(C)]
@@ -106,15 +134,27 @@ struct Own {
     session: Handle,
     news: *const News,
     records: u32,
+    has_stored: u32,
+    last_stored: AtomicU64,
+    is_plain: u32,
 }
 
+// Where the library has each of them. It reads and writes the same memory: the table's name has the number of this layout, and changes with it.
+const _: () = assert!(offset_of!(News, waiting) == 0 && offset_of!(News, has_work) == 256 && offset_of!(News, enough) == 260);
+const _: () = assert!(offset_of!(Own, number) == 0 && offset_of!(Own, open) == 8 && offset_of!(Own, ended) == 16);
+const _: () = assert!(offset_of!(Own, locks) == 24 && offset_of!(Own, is_busy) == 28 && offset_of!(Own, session) == 32);
+const _: () = assert!(offset_of!(Own, news) == 48 && offset_of!(Own, records) == 56 && offset_of!(Own, has_stored) == 60);
+const _: () = assert!(offset_of!(Own, last_stored) == 64 && offset_of!(Own, is_plain) == 72);
+
 extern "C" {
+    // The number is that of the layout of `Own` and `News`: a library of another one doesn't link.
+    #[link_name = "zelamiku_seats_3"]
     static mut zelamiku_seats: [u8; 0];
     fn zelamiku_thread_exited(thread: ThreadNumber, object: u32) -> u32;
     fn zelamiku_heap_message() -> *const c_char;
     fn zelamiku_heap_error() -> i32;
     // An older name is of a library whose plans are shorter.
-    #[link_name = "zelamiku_heap_open_rings"]
+    #[link_name = "zelamiku_heap_open_2"]
     fn zelamiku_heap_open(heap: *mut HeapNumber, path: *const c_char, plan: *const RawPlan, report: *mut Report) -> u32;
     fn zelamiku_heap_dropped(heap: HeapNumber, from: usize, dropped: *mut Dropped, count: usize, told: *mut usize) -> u32;
     fn zelamiku_heap_close(heap: HeapNumber) -> u32;
@@ -122,6 +162,8 @@ extern "C" {
     fn zelamiku_heap_abandon(heap: HeapNumber) -> u32;
     fn zelamiku_heap_copy(heap: HeapNumber, path: *const c_char) -> u32;
     fn zelamiku_heap_stats(heap: HeapNumber, stats: *mut Stats) -> u32;
+    fn zelamiku_heap_waits(heap: HeapNumber, waits: *mut Wait, count: usize, told: *mut usize) -> u32;
+    fn zelamiku_heap_await_round(heap: HeapNumber, seen: u64, deadline: u64, rounds: *mut u64) -> u32;
     fn zelamiku_now() -> u64;
     fn zelamiku_thread_begin(thread: *mut ThreadNumber, heap: HeapNumber) -> u32;
     fn zelamiku_thread_end(thread: ThreadNumber) -> u32;
@@ -132,12 +174,14 @@ extern "C" {
     fn zelamiku_thread_load(thread: ThreadNumber, field: u32, value: *mut u64) -> u32;
     fn zelamiku_thread_store(thread: ThreadNumber, field: u32, value: u64) -> u32;
     fn zelamiku_thread_wait(thread: ThreadNumber, object: u32) -> u32;
-    fn zelamiku_thread_notify(thread: ThreadNumber, object: u32, woken: *mut u32) -> u32;
-    fn zelamiku_thread_notify_all(thread: ThreadNumber, object: u32, woken: *mut u32) -> u32;
+    fn zelamiku_thread_notify(thread: ThreadNumber, object: u32, lane: *mut u32) -> u32;
+    fn zelamiku_thread_notify_all(thread: ThreadNumber, object: u32, lanes: *mut u64) -> u32;
+    fn zelamiku_thread_revert(thread: ThreadNumber) -> u32;
     fn zelamiku_thread_take(thread: ThreadNumber, head: u32, slots: u32, slot: *mut u32) -> u32;
     fn zelamiku_thread_give(thread: ThreadNumber, head: u32, slots: u32, slot: u32) -> u32;
     fn zelamiku_thread_look(thread: ThreadNumber, object: u32, sight: *mut Sight) -> u32;
     fn zelamiku_thread_lane(thread: ThreadNumber) -> u32;
+    fn zelamiku_thread_earlier(thread: ThreadNumber) -> u64;
     fn zelamiku_thread_sections(thread: ThreadNumber) -> u64;
     fn zelamiku_thread_durable(thread: ThreadNumber) -> u64;
     fn zelamiku_thread_await_until(thread: ThreadNumber, sections: u64, deadline: u64, is_durable: *mut bool) -> u32;
@@ -170,13 +214,15 @@ calls! {
     try_enter(self: &mut Self, object: u32) -> u32 = zelamiku_thread_try_enter;
     enter_until(self: &mut Self, object: u32, deadline: u64) -> u32 = zelamiku_thread_enter_until;
     wait(self: &mut Self, object: u32) -> u32 = zelamiku_thread_wait;
-    notify(self: &mut Self, object: u32, woken: &mut u32) -> u32 = zelamiku_thread_notify;
-    notify_all(self: &mut Self, object: u32, woken: &mut u32) -> u32 = zelamiku_thread_notify_all;
+    notify(self: &mut Self, object: u32, lane: &mut u32) -> u32 = zelamiku_thread_notify;
+    notify_all(self: &mut Self, object: u32, lanes: &mut u64) -> u32 = zelamiku_thread_notify_all;
+    revert(self: &mut Self) -> u32 = zelamiku_thread_revert;
     take(self: &mut Self, head: u32, slots: u32, slot: &mut u32) -> u32 = zelamiku_thread_take;
     give(self: &mut Self, head: u32, slots: u32, slot: u32) -> u32 = zelamiku_thread_give;
     look(self: &mut Self, object: u32, sight: &mut Sight) -> u32 = zelamiku_thread_look;
     await_until(self: &mut Self, sections: u64, deadline: u64, is_durable: &mut bool) -> u32 = zelamiku_thread_await_until;
     lane(self: &Self) -> u32 = zelamiku_thread_lane;
+    earlier(self: &Self) -> u64 = zelamiku_thread_earlier;
     sections(self: &Self) -> u64 = zelamiku_thread_sections;
     durable(self: &Self) -> u64 = zelamiku_thread_durable;
 }
@@ -191,9 +237,15 @@ impl ThreadNumber {
         unsafe { std::ptr::addr_of_mut!(zelamiku_seats).cast::<u8>().add(128 + (self.0 & 2_096_896) as usize).cast() }
     }
 
+    /// Whether a section is open.
     #[inline]
-    fn is_open(&self) -> bool {
+    pub fn is_open(&self) -> bool {
         unsafe { (*self.own()).open.load(Relaxed) == self.0 }
+    }
+
+    /// Whether its heap goes on, as far as is known: what is at its end doesn't, nor what is just looked at for being closed.
+    pub fn goes_on(&self) -> bool {
+        unsafe { (*self.own()).number.load(SeqCst) == self.0 }
     }
 
     // The lane is busy before it is looked whether the heap has ended.
@@ -215,6 +267,11 @@ impl ThreadNumber {
         let own = self.own();
         unsafe {
             (*own).open.store(0, Relaxed);
+            // Before the section's end is counted: whoever sees its count sees whether it has stored.
+            if (*own).has_stored != 0 {
+                (*own).last_stored.store((*own).ended.load(Relaxed) + 1, Relaxed);
+                (*own).has_stored = 0;
+            }
             (*own).ended.store((*own).ended.load(Relaxed) + 1, SeqCst);
             if (*(*own).news).has_work.load(SeqCst) == 0 || (*own).records >= (*(*own).news).enough {
                 return false;
@@ -228,7 +285,9 @@ impl ThreadNumber {
     pub fn enter(&mut self, object: u32) -> u32 {
         let own = self.own();
         unsafe {
-            if !(self.is_open() || self.begins()) || super::zelamiku_try_enter(&mut (*own).session, object) != OK {
+            // The library's own functions keep what a section changes, where the heap reverts.
+            let may = if self.is_open() { (*own).is_plain == 1 } else { self.begins() };
+            if !may || super::zelamiku_try_enter(&mut (*own).session, object) != OK {
                 return zelamiku_thread_enter(*self, object);
             }
             (*own).locks += 1;
@@ -267,10 +326,12 @@ impl ThreadNumber {
     #[inline]
     pub fn store(&mut self, field: u32, value: u64) -> u32 {
         unsafe {
-            if !self.is_open() || super::zelamiku_store(&mut (*self.own()).session, field, value) != OK {
+            let own = self.own();
+            if !self.is_open() || (*own).is_plain != 1 || super::zelamiku_store(&mut (*own).session, field, value) != OK {
                 return zelamiku_thread_store(*self, field, value);
             }
-            (*self.own()).records += 1;
+            (*own).records += 1;
+            (*own).has_stored = 1;
         }
         OK
     }
@@ -285,6 +346,23 @@ impl HeapNumber {
     pub fn begin(&self, thread: &mut ThreadNumber) -> u32 {
         // SAFETY: the number is borrowed for the call.
         unsafe { zelamiku_thread_begin(thread, *self) }
+    }
+
+    /// Sleeps until more rounds have ended than those, and counts them.
+    pub fn await_round(&self, rounds: &mut u64) -> u32 {
+        let seen = *rounds;
+        // SAFETY: the number is borrowed for the call.
+        unsafe { zelamiku_heap_await_round(*self, seen, NO_DEADLINE, rounds) }
+    }
+
+    /// The threads that sleep for a monitor.
+    pub fn waits(&self, waits: &mut Vec<Wait>) -> u32 {
+        waits.resize(MOST_LANES, Wait::default());
+        let mut told = 0;
+        // SAFETY: the pointers are those of a vector and a number that are borrowed for the call.
+        let status = unsafe { zelamiku_heap_waits(*self, waits.as_mut_ptr(), MOST_LANES, &mut told) };
+        waits.truncate(if status == OK { told } else { 0 });
+        status
     }
 
     /// The sections that recovery dropped, so many.
@@ -316,6 +394,10 @@ pub fn open(heap: &mut HeapNumber, path: &CStr, plan: &Plan<'_>, report: &mut Re
         ring: plan.ring,
         linger: plan.linger,
         upgrades: plan.upgrades.into(),
+        must_exist: plan.must_exist.into(),
+        reverts: plan.reverts.into(),
+        keeps_slice: plan.keeps_slice.into(),
+        fingerprint: plan.fingerprint,
         log: plan.log.map(|_| tell as extern "C" fn(*mut c_void, u32, *const c_char)),
         log_of: plan
             .log
@@ -325,13 +407,17 @@ pub fn open(heap: &mut HeapNumber, path: &CStr, plan: &Plan<'_>, report: &mut Re
     unsafe { zelamiku_heap_open(heap, path.as_ptr(), &raw, report) }
 }
 
-/// The text of this thread's last call that failed, and the system's number of its cause, 0 where it had none.
-pub fn last_failure() -> (String, i32) {
+/// The text of this thread's last call that failed, without the path that it begins with, and the system's number of its cause, 0 where it
+/// had none.
+pub fn last_failure(path: &Path) -> (String, i32) {
     // SAFETY: the text is the thread's own until its next call.
-    let text = unsafe { CStr::from_ptr(zelamiku_heap_message()) };
-    let text = text.to_string_lossy().into_owned();
+    let text = unsafe { CStr::from_ptr(zelamiku_heap_message()) }.to_bytes();
+    // Of a path that is long the text has the end.
+    let path = path.as_os_str().as_bytes();
+    let path = &path[path.len().saturating_sub(MOST_OF_PATH)..];
+    let rest = text.strip_prefix(path).and_then(|rest| rest.strip_prefix(b": ")).unwrap_or(text);
     // SAFETY: the call has no pointers.
-    (text, unsafe { zelamiku_heap_error() })
+    (String::from_utf8_lossy(rest).into_owned(), unsafe { zelamiku_heap_error() })
 }
 
 /// Nanoseconds of the clock of deadlines.
@@ -341,6 +427,6 @@ pub fn now() -> u64 {
 }
 
 /// A path as the library takes it; none where it has a zero byte.
-pub fn text_of(path: &std::path::Path) -> Option<CString> {
-    CString::new(std::os::unix::ffi::OsStrExt::as_bytes(path.as_os_str())).ok()
+pub fn text_of(path: &Path) -> Option<CString> {
+    CString::new(path.as_os_str().as_bytes()).ok()
 }

@@ -14,16 +14,27 @@ pub enum ErrorKind {
     File,
     /// Another process has the heap of the file, or this one has it open already; or the file was replaced or removed while it was opened.
     Busy,
-    /// The file has other bytes than a heap's. It was left as it is.
+    /// The file has other bytes than a heap's; or, with [`Options::existing`](super::Options::existing), there is no file, or it is empty.
+    /// Nothing was made, and the file was left as it is.
     NotAHeap,
-    /// The file has a heap, and not the one that was asked for: the cause is the first difference. It was left as it is.
+    /// The file has a heap, and not the one that was asked for: [`Error::difference`] tells the first difference. It was left as it is.
     OtherHeap,
     /// The heap can't be made, or the file's can't be recovered: the cause is the library's refusal.
     Opening,
+    /// The library that is linked is of another release than this crate: build the program anew, with both of one. No file was touched.
+    OtherLibrary,
     /// All lanes are in use: a session is free once another one is dropped.
     NoneLeft,
     /// A call was refused, and nothing was done: the cause is the library's refusal. The heap and the session go on.
     Refused,
+    /// The work of a [`synchronized`](super::Session::synchronized) has failed, and what its section had stored is there still, whole or a
+    /// part of a change: the section had freed a monitor by then, so that others may have seen it. The [source](std::error::Error::source)
+    /// is the work's own [`Error`]. The section has ended, or is that of an outer work; the heap goes on.
+    Unreverted,
+    /// A nested work of the section has failed, which has taken it back, and its error wasn't handed on. Nothing was done: the section stores
+    /// nothing more, and ends as one that has stored nothing. The [source](std::error::Error::source) is the nested work's own [`Error`]. The
+    /// heap goes on.
+    Reverted,
     /// A write to the file failed, as on a full disk. Nothing is lost: it is made again by the next call that waits for it, and by the
     /// helper each second. What isn't acknowledged isn't durable yet.
     Write,
@@ -36,8 +47,9 @@ pub enum ErrorKind {
     Sync,
     /// The heap has stopped, mostly for want of memory: the cause is the library's refusal. What was acknowledged stays. Open it again.
     Stopped,
-    /// A thread panicked in a section, or let a section go without its end. The heap has stopped as a crash stops it: that section is
-    /// dropped when the heap is opened again, with all that depends on it. Anything else that had ended was made durable.
+    /// A thread panicked in a section that couldn't be taken back, or let a section go without its end; or
+    /// [`Heap::abandon`](super::Heap::abandon). The heap has stopped as a crash stops it: that section is dropped when the heap is opened
+    /// again, with all that depends on it. Anything else that had ended was made durable.
     Panicked,
     /// The process was forked since the heap was opened: it is the parent's.
     Forked,
@@ -58,47 +70,75 @@ impl ErrorKind {
             ErrorKind::Closed | ErrorKind::Sync | ErrorKind::Stopped | ErrorKind::Panicked | ErrorKind::Forked
         )
     }
+}
 
-    fn text(self) -> &'static str {
-        match self {
-            ErrorKind::File => "the file can't be used",
-            ErrorKind::Busy => "its heap is open already, in this process or in another, or it was replaced or removed",
-            ErrorKind::NotAHeap => "it has no heap, and isn't empty: it was left as it is",
-            ErrorKind::OtherHeap => "its heap isn't the one that was asked for",
-            ErrorKind::Opening => "its heap can't be opened",
-            ErrorKind::NoneLeft => "all lanes are in use",
-            ErrorKind::Refused => "refused",
-            ErrorKind::Write => "a write failed, and will be made again",
-            ErrorKind::Running => "a section is open, or a session waits",
-            ErrorKind::Closed => "the heap was closed or stopped",
-            ErrorKind::Sync => {
-                "a sync failed, and the heap was let go; mount the file system again before it is opened"
-            }
-            ErrorKind::Stopped => "the heap has stopped; it may be opened again",
-            ErrorKind::Panicked => "a thread panicked in a section, and the heap has stopped; it may be opened again",
-            ErrorKind::Forked => "the process was forked, and its parent has the heap",
-        }
+/// In what a file's heap differs from the one that was asked for: the first difference found, and both numbers.
+#[derive(Clone, Copy, Debug, PartialEq, Eq)]
+pub struct Difference {
+    /// What differs.
+    pub part: Part,
+    /// What the file's heap has there.
+    pub has: u64,
+    /// What was asked for.
+    pub planned: u64,
+}
+
+/// A part of a heap in which two heaps may differ.
+#[non_exhaustive]
+#[derive(Clone, Copy, Debug, PartialEq, Eq)]
+pub enum Part {
+    /// The file's heap has fewer lanes.
+    Lanes,
+    /// How many objects there are.
+    Objects,
+    /// How many fields there are.
+    Fields,
+    /// Which object has the field of this number.
+    Owner(u32),
+    /// Which object guards the field of this number.
+    Guard(u32),
+    /// Whether the field of this number is transient: 1 or 0.
+    Transient(u32),
+    /// The [fingerprint](super::Options::fingerprint).
+    Fingerprint,
+}
+
+impl Difference {
+    fn of(report: &threads::Report) -> Option<Difference> {
+        let part = match report.difference {
+            1 => Part::Lanes,
+            2 => Part::Objects,
+            3 => Part::Fields,
+            4 => Part::Owner(report.field),
+            5 => Part::Guard(report.field),
+            6 => Part::Transient(report.field),
+            7 => Part::Fingerprint,
+            _ => return None,
+        };
+        let (has, planned) = (report.has, report.planned);
+        Some(Difference { part, has, planned })
     }
 }
 
-#[derive(Clone)]
 enum Cause {
-    None,
+    // What the text says.
+    Told,
     Refusal(Refusal),
-    // For a record of the file's image: its lane, and its place in it.
-    Record(Refusal, u32, u64),
-    System(Arc<io::Error>),
-    // What differs.
-    Told(Arc<str>),
+    System(io::Error),
+    Difference(Difference),
+    // Of `Unreverted` and `Reverted`.
+    Work(Error),
 }
 
 struct Inner {
     kind: ErrorKind,
     path: Arc<Path>,
     cause: Cause,
+    // What was called, what went wrong, and the cure.
+    text: String,
 }
 
-/// Why a call failed: the kind, the path of the heap's file, and the cause.
+/// Why a call failed: the kind, the path of the heap's file, and the cause. It reads as `PATH: CALL: CAUSE; CURE`.
 ///
 /// ```
 /// use std::error::Error;
@@ -107,82 +147,130 @@ struct Inner {
 /// assert_eq!(error.kind(), ErrorKind::File);
 /// assert_eq!(error.path().to_str(), Some("/no such folder/heap"));
 /// assert!(error.source().is_some());
-/// assert!(error.to_string().starts_with("/no such folder/heap: the file can't be used: "));
+/// assert!(error.to_string().starts_with("/no such folder/heap: open: it can't be opened: No such file"));
 /// ```
 #[derive(Clone)]
 pub struct Error(Arc<Inner>);
 
+// The library's texts name what a program in C has. It has that by these names in Rust.
+const WORDS: [(&str, &str); 5] = [
+    ("zelamiku_heap_stop", "Heap::stop"),
+    ("with upgrades = 1", "with Options::upgrades(true)"),
+    ("with reverts = 1", "with Options::reverts(true)"),
+    ("without must_exist", "without Options::existing"),
+    ("the heap was abandoned", "a thread has panicked in a section, or the heap was abandoned"),
+];
+
+fn in_rust(text: String) -> String {
+    WORDS.iter().fold(text, |text, (c, rust)| text.replace(c, rust))
+}
+
 impl Error {
-    fn new(kind: ErrorKind, path: &Arc<Path>, cause: Cause) -> Error {
-        Error(Arc::new(Inner {
-            kind,
-            path: Arc::clone(path),
-            cause,
-        }))
+    fn new(kind: ErrorKind, path: &Arc<Path>, cause: Cause, text: String) -> Error {
+        let path = Arc::clone(path);
+        Error(Arc::new(Inner { kind, path, cause, text }))
     }
 
-    pub(super) fn bare(kind: ErrorKind, path: &Arc<Path>) -> Error {
-        Error::new(kind, path, Cause::None)
+    /// Of what this crate refuses by itself.
+    pub(super) fn told(kind: ErrorKind, path: &Arc<Path>, text: impl Into<String>) -> Error {
+        Error::new(kind, path, Cause::Told, text.into())
     }
 
-    pub(super) fn refused(kind: ErrorKind, path: &Arc<Path>, refusal: Refusal) -> Error {
-        Error::new(kind, path, Cause::Refusal(refusal))
+    /// Of options that no heap can be made of.
+    pub(super) fn no_heap(path: &Arc<Path>, refusal: Option<Refusal>, text: &str) -> Error {
+        let cause = refusal.map_or(Cause::Told, Cause::Refusal);
+        Error::new(ErrorKind::Opening, path, cause, format!("open: {text}"))
     }
 
-    pub(super) fn for_record(path: &Arc<Path>, refusal: Refusal, lane: u32, place: u64) -> Error {
-        Error::new(ErrorKind::Opening, path, Cause::Record(refusal, lane, place))
-    }
-
-    pub(super) fn system(kind: ErrorKind, path: &Arc<Path>, error: io::Error) -> Error {
-        Error::new(kind, path, Cause::System(Arc::new(error)))
-    }
-
-    pub(super) fn told(kind: ErrorKind, path: &Arc<Path>, text: String) -> Error {
-        Error::new(kind, path, Cause::Told(text.into()))
-    }
-
-    // Of a call that was refused so on a heap that was opened, which is one of this thread's last.
+    /// Of a call that was refused so on a heap that was opened, which is one of this thread's last.
     #[cold]
     pub(super) fn of(path: &Arc<Path>, refusal: Refusal) -> Error {
         let kind = match refusal {
             Refusal::NoneLeft => ErrorKind::NoneLeft,
             Refusal::Device => ErrorKind::Write,
             Refusal::Running | Refusal::Unfinished => ErrorKind::Running,
-            Refusal::Closed | Refusal::Nothing => ErrorKind::Closed,
+            Refusal::Closed => ErrorKind::Closed,
+            // Another heap has the place of this one, which was closed.
+            Refusal::Nothing => return Error::told(ErrorKind::Closed, path, Refusal::Closed.to_string()),
             Refusal::Lost => ErrorKind::Sync,
             Refusal::Fault | Refusal::Failed | Refusal::Stopped => ErrorKind::Stopped,
             Refusal::Abandoned => ErrorKind::Panicked,
             Refusal::Forked => ErrorKind::Forked,
             _ => ErrorKind::Refused,
         };
-        match kind {
-            ErrorKind::Write | ErrorKind::Sync => Error::by_system(kind, path, refusal),
-            ErrorKind::Refused | ErrorKind::Stopped => Error::refused(kind, path, refusal),
-            _ => Error::bare(kind, path),
+        Error::last(kind, path, refusal)
+    }
+
+    /// Of a work that has failed by this, and whose section's stores stay.
+    pub(super) fn unreverted(path: &Arc<Path>, error: Error) -> Error {
+        let text = format!("{}; what the section had stored stays: it had freed a monitor before", error.text_at(path));
+        Error::new(ErrorKind::Unreverted, path, Cause::Work(error), text)
+    }
+
+    /// Of a section that was taken back, since a nested work has failed by this.
+    #[cold]
+    pub(super) fn reverted(path: &Arc<Path>, error: &Error) -> Error {
+        let text = format!("the section was taken back, since a nested work has failed: {}", error.text_at(path));
+        Error::new(ErrorKind::Reverted, path, Cause::Work(error.clone()), text)
+    }
+
+    // What it says where this path is told before.
+    fn text_at(&self, path: &Path) -> String {
+        if self.path() == path {
+            self.0.text.clone()
+        } else {
+            self.to_string()
         }
     }
 
-    // Of an open, and the lane and place of the record that it may have been for; none where it succeeded.
-    pub(super) fn of_opening(path: &Arc<Path>, status: u32, record: (u32, u64)) -> Option<Error> {
+    /// Of a write of a round that was awaited, in the thread's last call.
+    pub(super) fn of_write(path: &Arc<Path>) -> Error {
+        let (text, number) = threads::last_failure(path);
+        let text = text.replace("await a round", "await");
+        let cure = "it is made again by the next that waits, and each second: await the sections again";
+        Error::new(ErrorKind::Write, path, Cause::System(io::Error::from_raw_os_error(number)), format!("{text}; {cure}"))
+    }
+
+    /// Of a future whose heap can't have the thread that would wake it.
+    pub(super) fn no_thread(path: &Arc<Path>, error: io::Error) -> Error {
+        let text = format!("await: the thread that wakes tasks can't be started: {error}; await the sections again");
+        Error::new(ErrorKind::Refused, path, Cause::System(error), text)
+    }
+
+    /// Of a control that has come to its end, with which its heap has stopped.
+    pub(super) fn worn(path: &Arc<Path>) -> Error {
+        Error::last(ErrorKind::Stopped, path, Refusal::Worn)
+    }
+
+    /// Of an open, and what it has told; none where it succeeded.
+    pub(super) fn of_opening(path: &Arc<Path>, status: u32, report: &threads::Report) -> Option<Error> {
         if status == raw::OK {
             return None;
         }
         Some(match Refusal::from(status) {
-            Refusal::Busy => Error::bare(ErrorKind::Busy, path),
-            Refusal::NotFormatted => Error::bare(ErrorKind::NotAHeap, path),
-            Refusal::OtherHeap => Error::told(ErrorKind::OtherHeap, path, what_differs(path)),
-            refusal @ (Refusal::Device | Refusal::Lost) => Error::by_system(ErrorKind::File, path, refusal),
-            refusal @ (Refusal::BadRecord | Refusal::IllegalLog) => Error::for_record(path, refusal, record.0, record.1),
-            refusal => Error::refused(ErrorKind::Opening, path, refusal),
+            Refusal::OtherHeap => Error::other_heap(path, report),
+            refusal @ Refusal::Busy => Error::last(ErrorKind::Busy, path, refusal),
+            refusal @ Refusal::NotFormatted => Error::last(ErrorKind::NotAHeap, path, refusal),
+            refusal @ (Refusal::Device | Refusal::Lost) => Error::last(ErrorKind::File, path, refusal),
+            refusal => Error::last(ErrorKind::Opening, path, refusal),
         })
     }
 
-    // By what the system said to this thread last, or by the refusal where it said nothing.
-    fn by_system(kind: ErrorKind, path: &Arc<Path>, refusal: Refusal) -> Error {
-        match threads::last_failure() {
-            (_, 0) => Error::refused(kind, path, refusal),
-            (_, number) => Error::system(kind, path, io::Error::from_raw_os_error(number)),
-        }
+    fn other_heap(path: &Arc<Path>, report: &threads::Report) -> Error {
+        let (text, _) = threads::last_failure(path);
+        let cause = Difference::of(report).map_or(Cause::Told, Cause::Difference);
+        Error::new(ErrorKind::OtherHeap, path, cause, in_rust(text))
+    }
+
+    // Of this thread's last call that failed: the library has a text of it.
+    fn last(kind: ErrorKind, path: &Arc<Path>, refusal: Refusal) -> Error {
+        let (text, number) = threads::last_failure(path);
+        let cause = match kind {
+            ErrorKind::Refused | ErrorKind::Opening | ErrorKind::Stopped => Cause::Refusal(refusal),
+            _ if number == 0 => Cause::Told,
+            _ => Cause::System(io::Error::from_raw_os_error(number)),
+        };
+        Error::new(kind, path, cause, in_rust(text))
     }
 
     /// What kind of failure it is.
@@ -197,7 +285,7 @@ impl Error {
         self.0.kind
     }
 
-    /// The path of the heap's file, as it was given to `open`.
+    /// The path of the heap's file, as it was given to `open`; of a copy that failed, the copy's.
     ///
     /// ```
     /// # use zelamiku::service::Heap;
@@ -209,7 +297,8 @@ impl Error {
         &self.0.path
     }
 
-    /// The library's refusal, where one is the cause.
+    /// The library's refusal, where one is the cause: of [`ErrorKind::Refused`], [`ErrorKind::Opening`] and [`ErrorKind::Stopped`]. Of
+    /// [`ErrorKind::Unreverted`] and [`ErrorKind::Reverted`] it is that of the work's own error.
     ///
     /// ```
     /// # use zelamiku::service::Heap;
@@ -221,30 +310,37 @@ impl Error {
     /// ```
     #[must_use]
     pub fn refusal(&self) -> Option<Refusal> {
+        match &self.0.cause {
+            Cause::Refusal(refusal) => Some(*refusal),
+            Cause::Work(error) => error.refusal(),
+            _ => None,
+        }
+    }
+
+    /// In what the file's heap differs from the one that was asked for: of [`ErrorKind::OtherHeap`].
+    ///
+    /// ```
+    /// # use zelamiku::service::{Difference, Heap, Part};
+    /// # let path = std::env::temp_dir().join(format!("zelamiku-difference-{}", std::process::id()));
+    /// # let _ = std::fs::remove_file(&path);
+    /// Heap::options().objects(1).field(0, 0, 100).open(&path)?.close()?;
+    /// let error = Heap::options().objects(2).field(0, 0, 100).open(&path).unwrap_err();
+    /// assert_eq!(error.difference(), Some(Difference { part: Part::Objects, has: 1, planned: 2 }));
+    /// # std::fs::remove_file(path)?;
+    /// # Ok::<(), Box<dyn std::error::Error>>(())
+    /// ```
+    #[must_use]
+    pub fn difference(&self) -> Option<Difference> {
         match self.0.cause {
-            Cause::Refusal(refusal) | Cause::Record(refusal, ..) => Some(refusal),
+            Cause::Difference(difference) => Some(difference),
             _ => None,
         }
     }
 }
 
-// What the library says of a heap that isn't the plan's, without the path.
-fn what_differs(path: &Path) -> String {
-    let (text, _) = threads::last_failure();
-    let beginning = format!("{}: ", path.display());
-    text.strip_prefix(&beginning).unwrap_or(&text).to_owned()
-}
-
 impl fmt::Display for Error {
     fn fmt(&self, f: &mut fmt::Formatter<'_>) -> fmt::Result {
-        write!(f, "{}: {}", self.0.path.display(), self.0.kind.text())?;
-        match &self.0.cause {
-            Cause::None => Ok(()),
-            Cause::Refusal(refusal) => write!(f, ": {refusal}"),
-            Cause::Record(refusal, lane, place) => write!(f, ": {refusal}: lane {lane}, place {place}"),
-            Cause::System(error) => write!(f, ": {error}"),
-            Cause::Told(text) => write!(f, ": {text}"),
-        }
+        write!(f, "{}: {}", self.0.path.display(), self.0.text)
     }
 }
 
@@ -257,9 +353,10 @@ impl fmt::Debug for Error {
 impl std::error::Error for Error {
     fn source(&self) -> Option<&(dyn std::error::Error + 'static)> {
         match &self.0.cause {
-            Cause::Refusal(refusal) | Cause::Record(refusal, ..) => Some(refusal),
-            Cause::System(error) => Some(error.as_ref()),
-            Cause::None | Cause::Told(_) => None,
+            Cause::Refusal(refusal) => Some(refusal),
+            Cause::System(error) => Some(error),
+            Cause::Work(error) => Some(error),
+            Cause::Told | Cause::Difference(_) => None,
         }
     }
 }

@@ -1,4 +1,5 @@
-//! What a heap tells a program that watches it: lines for its log, and counts.
+//! What a heap tells a program that watches it: lines for its log, counts, and who waits.
+use crate::lane;
 use crate::raw::threads::{self, Log};
 use std::fmt;
 use std::sync::Arc;
@@ -96,6 +97,9 @@ pub struct Stats {
     pub entering: u32,
     /// Why the last round came.
     pub last_cause: Cause,
+    /// The path doesn't lead to the heap's file any more: it was removed, or another file has its name. What the heap does goes to the file
+    /// that it has open, which the next open of the path doesn't find. The log is told once.
+    pub is_astray: bool,
 }
 
 impl From<threads::Stats> for Stats {
@@ -123,6 +127,33 @@ impl From<threads::Stats> for Stats {
                 8 => Cause::Left,
                 _ => Cause::Closing,
             },
+            is_astray: told.is_astray != 0,
+        }
+    }
+}
+
+/// A session that sleeps for a monitor.
+#[non_exhaustive]
+#[derive(Clone, Copy, Debug, PartialEq, Eq)]
+pub struct Wait {
+    /// The session's lane.
+    pub lane: u32,
+    /// Whose monitor it sleeps for.
+    pub object: u32,
+    /// The lane of the session that has the monitor. `None` where it is free again and the session is about to wake, or where it can't be
+    /// told: all lanes are in sections then, and none of them sleeps.
+    pub owner: Option<u32>,
+    /// Whether it waits for a session that waits for another, and so on back to itself.
+    pub is_in_circle: bool,
+}
+
+impl From<threads::Wait> for Wait {
+    fn from(told: threads::Wait) -> Wait {
+        Wait {
+            lane: told.lane,
+            object: told.object,
+            owner: lane(told.owner),
+            is_in_circle: told.in_circle != 0,
         }
     }
 }

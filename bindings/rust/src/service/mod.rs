@@ -6,13 +6,17 @@
 //! # let folder = std::env::temp_dir().join(format!("zelamiku-five-{}", std::process::id()));
 //! # std::fs::create_dir_all(&folder)?;
 //! # std::env::set_current_dir(&folder)?;
-//! const ACCOUNT: u32 = 0; // an object: a monitor
-//! const BALANCE: u32 = 0; // a field of it: 64 bits, which its monitor guards
+//! const DESK: u32 = 0; // an object: a monitor
+//! const NEXT: u32 = 0; // a field of it: 64 bits, which its monitor guards
 //!
-//! let heap = Heap::options().lanes(8).objects(3).field(BALANCE, ACCOUNT, 100).open("accounts.heap")?;
-//! let mut session = heap.session()?;
-//! session.synchronized(ACCOUNT, |s| { let b = s.load(BALANCE)?; s.store(BALANCE, b - 10) })?;
-//! session.durable()?; // returns when no crash loses it
+//! let heap = Heap::options().lanes(8).objects(1).field(NEXT, DESK, 1).open("tickets.heap")?; // made or recovered
+//! let mut session = heap.session()?; // one for each thread
+//! let ticket = session.synchronized(DESK, |desk| {
+//!     let ticket = desk.load(NEXT)?;
+//!     desk.store(NEXT, ticket + 1)?;
+//!     Ok(ticket)
+//! })?;
+//! session.durable()?; // returns when no crash loses it: nobody gets this ticket again
 //! heap.close()?;
 //! # std::fs::remove_dir_all(&folder)?;
 //! # Ok::<(), Box<dyn std::error::Error>>(())
@@ -20,7 +24,8 @@
 //!
 //! Threads enter monitors, load and store the fields that they guard, wait and notify, as Java's do. What a session does from its first
 //! monitor to the moment that it holds none is a section. After a crash each section is there whole or not at all, with all that it
-//! depends on; once [`Session::durable`] has answered, no crash loses what the session had ended.
+//! depends on; once [`Session::durable`] has answered, no crash loses what the session had ended. A section whose work answers an error
+//! or panics is taken back ([`Session::synchronized`]).
 //!
 //! The helper, a thread of the library, makes rounds while there is work, and makes their calls on the file; without work it sleeps, and no
 //! thread that waits spins but for a moment. A round comes when a thread waits for one ([`Session::durable`], or a lane without room), when
@@ -28,20 +33,22 @@
 //! one thread waits beside others that don't, a round takes only as much as its calls' time pays for.
 //!
 //! [`ErrorKind`] says of each failure whether the heap goes on.
-use crate::raw::threads::{self, HeapNumber};
+use crate::raw::{self, threads, threads::HeapNumber};
 use crate::{Field, Found, Pool, Refusal, Report};
 use std::fmt;
 use std::path::Path;
 use std::sync::Arc;
 use std::time::Duration;
 
+mod durable;
 mod error;
 mod log;
 mod opening;
 mod session;
 
-pub use error::{Error, ErrorKind};
-pub use log::{Cause, Level, Stats};
+pub use durable::Durable;
+pub use error::{Difference, Error, ErrorKind, Part};
+pub use log::{Cause, Level, Stats, Wait};
 pub use session::{Held, Session};
 
 use log::Hook;
@@ -79,10 +86,14 @@ pub struct Options {
     ring: u32,
     // The numbers that `field` was told, with their places.
     misplaced: Option<(u32, usize)>,
-    // Of a pool that can't be.
-    refused: Option<Refusal>,
+    // A pool that can't be, and why.
+    refused: Option<(Pool, Refusal)>,
     linger: Duration,
     upgrades: bool,
+    must_exist: bool,
+    reverts: bool,
+    keeps_slice: bool,
+    fingerprint: u64,
     hook: Option<Hook>,
 }
 
@@ -114,7 +125,7 @@ impl Options {
     /// How many records a lane's ring holds, 4,096 to 65,536; 16,384 where it isn't said. Each takes 24 bytes of memory. A session goes on
     /// until its ring or its log is full, while a round's calls are made: so a larger one is of use where syncs are slow and few threads
     /// wait for their sections. Each opening chooses it anew; one larger than the log is made as large as that. [`ErrorKind::Opening`] by
-    /// [`Refusal::Ring`](crate::Refusal::Ring) where it is out of these limits.
+    /// [`Refusal::Ring`] where it is out of these limits.
     ///
     /// ```
     /// let options = zelamiku::service::Heap::options().ring(65_536);
@@ -166,7 +177,7 @@ impl Options {
         self.must_be_next(pool.head());
         match pool.fields(object) {
             Ok(fields) => self.fields.extend(fields),
-            Err(refusal) => self.refused = self.refused.or(Some(refusal)),
+            Err(refusal) => self.refused = self.refused.or(Some((pool, refusal))),
         }
         self
     }
@@ -228,7 +239,7 @@ impl Options {
     }
 
     /// Whether a heap of an older version is upgraded in place; it isn't where this isn't said, and is refused by
-    /// [`Refusal::OldVersion`](crate::Refusal::OldVersion). A library from before can't open it any more afterwards.
+    /// [`Refusal::OldVersion`]. A library from before can't open it any more afterwards.
     ///
     /// ```
     /// let options = zelamiku::service::Heap::options().upgrades(true);
@@ -238,8 +249,106 @@ impl Options {
         self
     }
 
-    /// Tells the hook what the heap has to say: one line a call, without its end. It is called by the helper's thread, or by one that opens,
-    /// closes or copies, and calls nothing of this heap. A panic of it ends there.
+    /// Opens a heap that is there, and makes none: a file that isn't there, is empty or has no heap is refused by [`ErrorKind::NotAHeap`],
+    /// and no file is made or changed. So a service whose volume isn't mounted doesn't begin with a fresh heap. Where there is no file the
+    /// error's [source](std::error::Error::source) is the system's `NotFound`.
+    ///
+    /// ```
+    /// use zelamiku::service::{ErrorKind, Heap};
+    /// # let path = std::env::temp_dir().join(format!("zelamiku-existing-{}", std::process::id()));
+    /// # let _ = std::fs::remove_file(&path);
+    /// let error = Heap::options().objects(1).field(0, 0, 100).existing().open(&path).unwrap_err();
+    /// assert_eq!(error.kind(), ErrorKind::NotAHeap);
+    /// assert!(!path.exists());
+    /// ```
+    pub fn existing(mut self) -> Options {
+        self.must_exist = true;
+        self
+    }
+
+    /// A number of the program's own that the heap keeps from its making on, by which an open is refused whose fields are numbered
+    /// otherwise: [`ErrorKind::OtherHeap`], where the heap has another one ([`Part::Fingerprint`]). It lies in a transient field after the
+    /// program's own, of which there are up to 16,383 then. A heap that was made without one is opened as without it, and one that has one
+    /// is refused by [`Part::Fields`] where this isn't said. 0 is none.
+    ///
+    /// ```
+    /// # use zelamiku::service::{ErrorKind, Heap};
+    /// # let path = std::env::temp_dir().join(format!("zelamiku-fingerprint-{}", std::process::id()));
+    /// # let _ = std::fs::remove_file(&path);
+    /// let options = Heap::options().objects(1).field(0, 0, 100);
+    /// options.clone().fingerprint(7).open(&path)?.close()?;
+    /// options.clone().fingerprint(7).open(&path)?.close()?;
+    /// assert_eq!(options.fingerprint(8).open(&path).unwrap_err().kind(), ErrorKind::OtherHeap);
+    /// # std::fs::remove_file(path)?;
+    /// # Ok::<(), Box<dyn std::error::Error>>(())
+    /// ```
+    pub fn fingerprint(mut self, number: u64) -> Options {
+        self.fingerprint = number;
+        self
+    }
+
+    /// The [`fingerprint`](Options::fingerprint) of these names in this order: of the fields, or of objects and fields, and with each what
+    /// else is to be the same in each program that opens the heap, as `"alice.balance: cents"`. So a program that has renamed, exchanged or
+    /// inserted a field is refused, and doesn't take one for another.
+    ///
+    /// It is the FNV-1a hash, of 64 bits, of the names' UTF-8 with a byte `ff`, which no name has, between each two; and 1 where that is 0.
+    /// Of `["alice", "bob"]` it is `0xe79b_2629_bc40_13b3`.
+    ///
+    /// ```
+    /// # use zelamiku::service::{ErrorKind, Heap};
+    /// # let path = std::env::temp_dir().join(format!("zelamiku-names-{}", std::process::id()));
+    /// # let _ = std::fs::remove_file(&path);
+    /// let options = Heap::options().objects(2).field(0, 0, 100).field(1, 1, 100);
+    /// options.clone().names(&["alice", "bob"]).open(&path)?.close()?;
+    /// let error = options.names(&["bob", "alice"]).open(&path).unwrap_err();
+    /// assert_eq!(error.kind(), ErrorKind::OtherHeap);
+    /// # std::fs::remove_file(path)?;
+    /// # Ok::<(), Box<dyn std::error::Error>>(())
+    /// ```
+    pub fn names(self, names: &[&str]) -> Options {
+        self.fingerprint(hash_of(names))
+    }
+
+    /// Whether a section can be taken back, as it is where this isn't said: where the work of a [`synchronized`](Session::synchronized)
+    /// fails or panics, and by [`Held::revert`]. A section has room for fewer stores then: of its 1,000 records one is kept for the old value
+    /// of each field that it stores to, so it stores to 499 fields under one monitor; and the heap takes 24 bytes of memory a lane and field.
+    /// With `false` a section has room for 998 stores, what a work has stored that fails stays, and a panic in a section stops the heap.
+    ///
+    /// ```
+    /// # use zelamiku::service::Heap;
+    /// # let path = std::env::temp_dir().join(format!("zelamiku-without-{}", std::process::id()));
+    /// # let _ = std::fs::remove_file(&path);
+    /// let heap = Heap::options().objects(1).field(0, 0, 100).reverts(false).open(&path)?;
+    /// let mut session = heap.session()?;
+    /// let failed = session.synchronized(0, |s| {
+    ///     s.store(0, 90)?;
+    ///     s.load(7) // there is no such field
+    /// });
+    /// assert!(failed.is_err());
+    /// assert_eq!(session.synchronized(0, |s| s.load(0))?, 90);
+    /// # std::fs::remove_file(path)?;
+    /// # Ok::<(), Box<dyn std::error::Error>>(())
+    /// ```
+    pub fn reverts(mut self, reverts: bool) -> Options {
+        self.reverts = reverts;
+        self
+    }
+
+    /// Whether threads keep the time slice that the system gives them. Where this isn't said the helper, and each thread from the first time
+    /// that it waits for a round, ask for one of 0.1 milliseconds, which the thread has from then on: so a sync that ends is seen sooner on
+    /// busy processors.
+    ///
+    /// ```
+    /// let options = zelamiku::service::Heap::options().keeps_slice(true);
+    /// ```
+    pub fn keeps_slice(mut self, keeps: bool) -> Options {
+        self.keeps_slice = keeps;
+        self
+    }
+
+    /// Tells the hook what the heap has to say: one line a call, without its end. It is called by the helper's thread, by one that opens,
+    /// closes, copies or waits for a round, or by one that has slept for a monitor for a second, and calls nothing of this heap. A panic of
+    /// it ends there.
     ///
     /// ```
     /// let options = zelamiku::service::Heap::options().log(|level, line| eprintln!("{level:?}: {line}"));
@@ -255,7 +364,8 @@ impl Options {
     /// The file's heap has to be this one: of as many objects and fields, each with this owner, guard and mark of a transient field,
     /// and of at least as many lanes.
     ///
-    /// [`ErrorKind::File`], [`ErrorKind::Busy`], [`ErrorKind::NotAHeap`], [`ErrorKind::OtherHeap`], [`ErrorKind::Opening`].
+    /// [`ErrorKind::File`], [`ErrorKind::Busy`], [`ErrorKind::NotAHeap`], [`ErrorKind::OtherHeap`], [`ErrorKind::Opening`],
+    /// [`ErrorKind::OtherLibrary`].
     ///
     /// ```
     /// use zelamiku::service::{ErrorKind, Heap};
@@ -269,17 +379,29 @@ impl Options {
     /// ```
     pub fn open(self, path: impl AsRef<Path>) -> Result<Heap, Error> {
         let path: Arc<Path> = path.as_ref().into();
+        match self.mistake() {
+            Some((refusal, text)) => Err(Error::no_heap(&path, refusal, &text)),
+            None => Heap::open(path, self),
+        }
+    }
+
+    // What the library can't see.
+    fn mistake(&self) -> Option<(Option<Refusal>, String)> {
         if let Some((number, place)) = self.misplaced {
-            let text = format!("field {number} was declared where field {place} comes next");
-            return Err(Error::told(ErrorKind::Opening, &path, text));
+            return Some((None, format!("field {number} was declared where field {place} comes next")));
+        }
+        if let Some((pool, refusal)) = self.refused {
+            let text = format!("the pool at field {} has {} slots; it may have 1 to 16,383", pool.head(), pool.slots());
+            return Some((Some(refusal), text));
         }
         // To the library 0 is as good as nothing said.
-        let is_none = self.lanes == 0 || self.capacity == Some(0);
-        let no_ring = (self.ring == 0).then_some(Refusal::Ring);
-        if let Some(refusal) = self.refused.or(no_ring).or(is_none.then_some(Refusal::BadHeader)) {
-            return Err(Error::refused(ErrorKind::Opening, &path, refusal));
-        }
-        Heap::open(path, self)
+        let numbers = [
+            (Some(self.lanes), Refusal::BadHeader, "lanes is 0; it may be 1 to 32"),
+            (self.capacity, Refusal::BadHeader, "capacity is 0; it may be 2,000 to 1,048,576"),
+            (Some(self.ring), Refusal::Ring, "ring is 0; it may be 4,096 to 65,536"),
+        ];
+        let none = numbers.into_iter().find(|(number, ..)| *number == Some(0));
+        none.map(|(_, refusal, text)| (Some(refusal), text.to_owned()))
     }
 }
 
@@ -326,19 +448,28 @@ impl Heap {
             refused: None,
             linger: Duration::from_millis(5),
             upgrades: false,
+            must_exist: false,
+            reverts: true,
+            keeps_slice: false,
+            fingerprint: 0,
             hook: None,
         }
     }
 
     fn open(path: Arc<Path>, options: Options) -> Result<Heap, Error> {
+        if let Some(text) = opening::other_release(raw::version()) {
+            return Err(Error::told(ErrorKind::OtherLibrary, &path, text));
+        }
         let Some(text) = threads::text_of(&path) else {
-            return Err(Error::told(ErrorKind::File, &path, "the path has a zero byte".into()));
+            return Err(Error::told(ErrorKind::File, &path, "open: the path has a zero byte"));
         };
         let fields: Vec<_> = options.fields.iter().map(|field| (*field).into()).collect();
         let mut opening = Opening {
             path,
             heap: HeapNumber::default(),
+            reverts: options.reverts,
             hook: options.hook.map(Box::new),
+            waiter: Arc::default(),
         };
         let plan = threads::Plan {
             fields: &fields,
@@ -349,12 +480,15 @@ impl Heap {
             ring: options.ring,
             linger: u32::try_from(options.linger.as_micros()).unwrap_or(u32::MAX).max(1),
             upgrades: options.upgrades,
+            must_exist: options.must_exist,
+            reverts: options.reverts,
+            keeps_slice: options.keeps_slice,
+            fingerprint: options.fingerprint,
             log: opening.hook.as_deref().map(Hook::log),
         };
         let mut told = threads::Report::default();
         let status = threads::open(&mut opening.heap, &text, &plan, &mut told);
-        let record = (told.told.bad_lane, told.told.bad_place);
-        if let Some(error) = Error::of_opening(&opening.path, status, record) {
+        if let Some(error) = Error::of_opening(&opening.path, status, &told) {
             return Err(error);
         }
         let found = told.told.found;
@@ -536,7 +670,7 @@ impl Heap {
         let path: Arc<Path> = path.as_ref().into();
         match threads::text_of(&path) {
             Some(text) => self.opening.answer_at(&path, self.opening.heap.copy(&text)),
-            None => Err(Error::told(ErrorKind::Write, &path, "the path has a zero byte".into())),
+            None => Err(Error::told(ErrorKind::Write, &path, "copy: the path has a zero byte")),
         }
     }
 
@@ -560,6 +694,48 @@ impl Heap {
         self.opening.answer(self.opening.heap.stats(&mut stats))?;
         Ok(stats.into())
     }
+
+    /// The sessions that sleep for a monitor now, by their lanes: for which, who has it, and whether they wait for each other in a circle,
+    /// in which nobody goes on. The heap doesn't break up a circle. It tells each to the [log](Options::log), once, where a session has slept
+    /// for a second. It fails by each final kind.
+    ///
+    /// ```
+    /// # use zelamiku::service::Heap;
+    /// # let path = std::env::temp_dir().join(format!("zelamiku-waits-{}", std::process::id()));
+    /// # let _ = std::fs::remove_file(&path);
+    /// # let heap = Heap::options().objects(1).field(0, 0, 100).open(&path)?;
+    /// let (mut session, mut other) = (heap.session()?, heap.session()?);
+    /// let (lane, other_lane) = (session.lane(), other.lane());
+    /// let guard = session.enter(0)?;
+    /// let thread = std::thread::spawn(move || other.synchronized(0, |s| s.load(0)));
+    /// let waits = loop {
+    ///     let waits = heap.waits()?;
+    ///     if !waits.is_empty() {
+    ///         break waits;
+    ///     }
+    /// };
+    /// assert_eq!((waits[0].lane, waits[0].object, waits[0].owner), (other_lane, 0, Some(lane)));
+    /// assert!(!waits[0].is_in_circle);
+    /// drop(guard);
+    /// # assert_eq!(thread.join().unwrap()?, 100);
+    /// # std::fs::remove_file(path)?;
+    /// # Ok::<(), Box<dyn std::error::Error>>(())
+    /// ```
+    pub fn waits(&self) -> Result<Vec<Wait>, Error> {
+        let mut waits = Vec::new();
+        self.opening.answer(self.opening.heap.waits(&mut waits))?;
+        Ok(waits.into_iter().map(Wait::from).collect())
+    }
+}
+
+// FNV-1a of 64 bits. UTF-8 has the byte between two names nowhere.
+fn hash_of(names: &[&str]) -> u64 {
+    let names: Vec<&[u8]> = names.iter().map(|name| name.as_bytes()).collect();
+    let hash = names.join(&0xff).into_iter().fold(0xcbf2_9ce4_8422_2325, |hash: u64, byte| {
+        (hash ^ u64::from(byte)).wrapping_mul(0x100_0000_01b3)
+    });
+    // 0 is none.
+    hash.max(1)
 }
 
 impl Drop for Heap {
@@ -567,5 +743,6 @@ impl Drop for Heap {
         if self.close().is_err_and(|error| !error.kind().is_final()) {
             self.stop();
         }
+        self.opening.waiter.end();
     }
 }

@@ -1,9 +1,10 @@
 //! A session of a service, and the monitors that it holds.
-use super::error::Error;
+use super::durable::{Durable, Lent};
+use super::error::{Error, ErrorKind};
 use super::opening::Opening;
 use crate::raw::threads::{self, ThreadNumber};
 use crate::raw::{self, OK};
-use crate::{Pool, Refusal, Sight};
+use crate::{lane, Pool, Refusal, Sight};
 use std::fmt;
 use std::mem::ManuallyDrop;
 use std::sync::Arc;
@@ -35,12 +36,19 @@ use std::time::Instant;
 pub struct Session {
     opening: Arc<Opening>,
     thread: ThreadNumber,
+    lane: u32,
+    // Its futures have it too.
+    lent: Arc<Lent>,
+    // The sections that the lane had ended when the session began.
+    earlier: u64,
+    // By what the open section was taken back, or the last one.
+    failed: Option<Error>,
 }
 
 impl fmt::Debug for Session {
     fn fmt(&self, f: &mut fmt::Formatter<'_>) -> fmt::Result {
         f.debug_struct("Session")
-            .field("lane", &self.thread.lane())
+            .field("lane", &self.lane)
             .field("sections", &self.sections())
             .finish_non_exhaustive()
     }
@@ -50,7 +58,18 @@ impl Session {
     pub(super) fn begin(opening: Arc<Opening>) -> Result<Session, Error> {
         let mut thread = ThreadNumber::default();
         opening.answer(opening.heap.begin(&mut thread))?;
-        Ok(Session { opening, thread })
+        let lent = Arc::new(Lent {
+            opening: Arc::clone(&opening),
+            thread,
+        });
+        Ok(Session {
+            opening,
+            lent,
+            lane: thread.lane(),
+            earlier: thread.earlier(),
+            thread,
+            failed: None,
+        })
     }
 
     // What a call of the library came to.
@@ -90,6 +109,20 @@ impl Session {
     /// ```
     #[inline]
     pub fn enter(&mut self, object: u32) -> Result<Held<'_>, Error> {
+        self.begin_section();
+        self.take(object)
+    }
+
+    // No guard is held, since each has the session.
+    #[inline]
+    fn begin_section(&mut self) {
+        if self.failed.is_some() {
+            self.failed = None;
+        }
+    }
+
+    #[inline]
+    fn take(&mut self, object: u32) -> Result<Held<'_>, Error> {
         let status = self.thread.enter(object);
         self.answer(status)?;
         Ok(self.hold(object))
@@ -112,6 +145,7 @@ impl Session {
     /// # Ok::<(), Box<dyn std::error::Error>>(())
     /// ```
     pub fn try_enter(&mut self, object: u32) -> Result<Option<Held<'_>>, Error> {
+        self.begin_section();
         let status = self.thread.try_enter(object);
         self.held_or_none(object, status)
     }
@@ -132,6 +166,7 @@ impl Session {
     /// # Ok::<(), Box<dyn std::error::Error>>(())
     /// ```
     pub fn enter_until(&mut self, object: u32, deadline: Instant) -> Result<Option<Held<'_>>, Error> {
+        self.begin_section();
         let status = self.thread.enter_until(object, time_of(deadline));
         self.held_or_none(object, status)
     }
@@ -153,27 +188,44 @@ impl Session {
         }
     }
 
-    /// Does the work while the object's monitor is held. With the outermost monitor a section ends: also where the work answers an
-    /// error, as Java's does where it throws. What was stored by then stays stored, so look before you store, or store back.
+    /// Does the work while the object's monitor is held. With the outermost monitor a section ends.
+    ///
+    /// Where the work answers an error, or panics, the section is taken back first: each field has the value again that it had before the
+    /// section's first store to it, and each slot of a pool is taken or free as before. Then the monitor is given back, the section ends as
+    /// one that has stored nothing, and the error is answered, or the panic goes on. The heap goes on too. Notifications aren't taken back.
+    ///
+    /// In a nested `synchronized` it is the whole section that is taken back, with what the outer work has stored. So hand its error on: a
+    /// section that goes on stores nothing more ([`ErrorKind::Reverted`] of each call that would), and the outer work fails by that too where
+    /// it ends well. Half of a change is never kept.
+    ///
+    /// A wait ends what can be taken back. Where only this monitor is held, the wait ends the section: what was stored before it stays. With
+    /// another monitor held, or once a nested monitor was given back, what was stored under the monitor that was freed can't be taken back,
+    /// and the rest of the section isn't either: the work's error is the [source](std::error::Error::source) of one of
+    /// [`ErrorKind::Unreverted`] then, and a panic stops the heap ([`ErrorKind::Panicked`]). With
+    /// [`Options::reverts(false)`](super::Options::reverts) nothing is taken back: what was stored before the error stays, and a panic
+    /// stops the heap.
     ///
     /// It fails as [`enter`](Session::enter) and the work do.
     ///
     /// ```
     /// # use zelamiku::service::Heap;
-    /// # let path = std::env::temp_dir().join(format!("zelamiku-synchronized-{}", std::process::id()));
+    /// # let path = std::env::temp_dir().join(format!("zelamiku-reverts-{}", std::process::id()));
     /// # let _ = std::fs::remove_file(&path);
-    /// # let heap = Heap::options().objects(2).field(0, 0, 100).field(1, 1, 0).open(&path)?;
+    /// # let heap = Heap::options().objects(2).field(0, 0, 90).field(1, 1, 110).open(&path)?;
     /// # let mut session = heap.session()?;
-    /// // One section of two monitors: it is there whole or not at all.
-    /// session.synchronized(0, |from| {
-    ///     let balance = from.load(0)?;
-    ///     from.store(0, balance - 10)?;
-    ///     from.synchronized(1, |to| {
-    ///         let balance = to.load(1)?;
-    ///         to.store(1, balance + 10)
+    /// let mut transfer = |from, to, amount| {
+    ///     session.synchronized(from, |s| {
+    ///         let balance = s.load(from)?;
+    ///         s.store(from, balance - amount)?;
+    ///         s.synchronized(to, |s| {
+    ///             let balance = s.load(to)?;
+    ///             s.store(to, balance + amount)
+    ///         })
     ///     })
-    /// })?;
-    /// # assert_eq!(session.synchronized(1, |to| to.load(1))?, 10);
+    /// };
+    /// transfer(0, 1, 10)?;
+    /// transfer(0, 7, 10).unwrap_err(); // there is no such account
+    /// assert_eq!(session.synchronized(0, |s| s.load(0))?, 80);
     /// # std::fs::remove_file(path)?;
     /// # Ok::<(), Box<dyn std::error::Error>>(())
     /// ```
@@ -183,6 +235,12 @@ impl Session {
         object: u32,
         work: impl FnOnce(&mut Held<'_>) -> Result<T, Error>,
     ) -> Result<T, Error> {
+        self.begin_section();
+        self.within(object, work)
+    }
+
+    #[inline]
+    fn within<T>(&mut self, object: u32, work: impl FnOnce(&mut Held<'_>) -> Result<T, Error>) -> Result<T, Error> {
         let status = self.thread.enter(object);
         self.answer(status)?;
         // Nothing but a panic of the work drops it.
@@ -191,14 +249,96 @@ impl Session {
             object,
             was_panicking: false,
         };
-        let answer = work(&mut held);
+        let answer = match work(&mut held) {
+            Ok(answer) => held.session.goes_on().map(|()| answer),
+            Err(error) => Err(held.session.taken_back(error)),
+        };
         let left = ManuallyDrop::new(held).leave();
         let answer = answer?;
         left?;
         Ok(answer)
     }
 
-    /// How many sections this session has ended.
+    // Whether the section may store, or end well: not once a nested work has failed, which has taken it back.
+    #[inline]
+    fn goes_on(&self) -> Result<(), Error> {
+        match &self.failed {
+            None => Ok(()),
+            Some(error) => Err(Error::reverted(&self.opening.path, error)),
+        }
+    }
+
+    // What a section comes to whose work has failed by this error, which may be of another heap.
+    #[cold]
+    #[inline(never)]
+    fn taken_back(&mut self, error: Error) -> Error {
+        if !self.opening.reverts {
+            return error;
+        }
+        let status = self.thread.revert();
+        if status == OK {
+            self.failed.get_or_insert_with(|| error.clone());
+            return error;
+        }
+        // At the heap's end the section is dropped by the next opening. And an inner work has told it already where it left several.
+        let is_told = error.kind() == ErrorKind::Unreverted || self.refused(status).kind().is_final();
+        if is_told {
+            error
+        } else {
+            Error::unreverted(&self.opening.path, error)
+        }
+    }
+
+    // Whether nothing is left of what the open section has stored, in which a thread has panicked.
+    #[cold]
+    fn is_taken_back(&mut self) -> bool {
+        let is_taken_back = self.opening.reverts && self.thread.revert() == OK;
+        if is_taken_back {
+            self.failed = Some(Error::told(ErrorKind::Reverted, &self.opening.path, "it has panicked"));
+        }
+        is_taken_back
+    }
+
+    /// The session's lane, from 0 on: the log of the file that has its sections. Another session may have it before and after this one.
+    ///
+    /// ```
+    /// # use zelamiku::service::Heap;
+    /// # let path = std::env::temp_dir().join(format!("zelamiku-lane-{}", std::process::id()));
+    /// # let _ = std::fs::remove_file(&path);
+    /// # let heap = Heap::options().lanes(2).objects(1).field(0, 0, 0).open(&path)?;
+    /// let sessions = [heap.session()?, heap.session()?];
+    /// assert_ne!(sessions[0].lane(), sessions[1].lane());
+    /// # std::fs::remove_file(path)?;
+    /// # Ok::<(), Box<dyn std::error::Error>>(())
+    /// ```
+    #[must_use]
+    pub fn lane(&self) -> u32 {
+        self.lane
+    }
+
+    /// How many sections its lane had ended, in this opening of the heap, before the session began. A report counts a lane's sections: so
+    /// a [`Dropped`](crate::Dropped) of this lane, in the report of the next opening, is this session's section number
+    /// `dropped.section - earlier`, if that is 1 or more and no later session had the lane by then.
+    ///
+    /// ```
+    /// # use zelamiku::service::Heap;
+    /// # let path = std::env::temp_dir().join(format!("zelamiku-earlier-{}", std::process::id()));
+    /// # let _ = std::fs::remove_file(&path);
+    /// # let heap = Heap::options().lanes(1).objects(1).field(0, 0, 0).open(&path)?;
+    /// let mut first = heap.session()?;
+    /// first.synchronized(0, |s| s.store(0, 1))?;
+    /// drop(first);
+    /// let second = heap.session()?; // of the same lane, as there is only one
+    /// assert_eq!((second.sections(), second.earlier()), (0, 1));
+    /// # std::fs::remove_file(path)?;
+    /// # Ok::<(), Box<dyn std::error::Error>>(())
+    /// ```
+    #[must_use]
+    pub fn earlier(&self) -> u64 {
+        self.earlier
+    }
+
+    /// How many sections this session has ended. One whose end the heap's end has cut off isn't among them.
     ///
     /// ```
     /// # use zelamiku::service::Heap;
@@ -241,7 +381,8 @@ impl Session {
     /// a section that one of them depends on is open.
     ///
     /// [`ErrorKind::Write`] where a write failed, which leaves the session as it was: ask again. Each final kind, where the heap stopped
-    /// before they were durable.
+    /// before they were durable, and where its end has cut off a section of this session: one whose guard was dropped after the heap's end
+    /// is lost, and this says so. [`ErrorKind::Running`] where a guard was forgotten (`mem::forget`), whose section is open still.
     ///
     /// ```
     /// # use zelamiku::service::Heap;
@@ -284,6 +425,50 @@ impl Session {
         self.await_until(time_of(deadline))
     }
 
+    /// What [`durable`](Session::durable) waits for, for a task: a future that is done once all sections are durable that this session has
+    /// ended by now. It asks for a round at once, borrows nothing, and is awaited on any executor. The session goes on meanwhile: so one
+    /// session serves many clients, and a round makes durable what all of them wait for. [`Durable::wait`] is for a thread without a task.
+    ///
+    /// The first one of a heap starts a thread, which wakes all of them, and ends with the heap.
+    ///
+    /// ```
+    /// use std::future::Future;
+    /// use std::task::{Context, Poll, Wake, Waker};
+    /// # use zelamiku::service::Heap;
+    /// # let path = std::env::temp_dir().join(format!("zelamiku-durable-async-{}", std::process::id()));
+    /// # let _ = std::fs::remove_file(&path);
+    ///
+    /// struct Unpark(std::thread::Thread);
+    /// impl Wake for Unpark {
+    ///     fn wake(self: std::sync::Arc<Self>) {
+    ///         self.0.unpark();
+    ///     }
+    /// }
+    ///
+    /// // An executor of one task. Those of tokio and futures do as well.
+    /// fn block_on<T>(future: impl Future<Output = T>) -> T {
+    ///     let (mut future, waker) = (std::pin::pin!(future), Waker::from(std::sync::Arc::new(Unpark(std::thread::current()))));
+    ///     loop {
+    ///         match future.as_mut().poll(&mut Context::from_waker(&waker)) {
+    ///             Poll::Ready(answer) => return answer,
+    ///             Poll::Pending => std::thread::park(),
+    ///         }
+    ///     }
+    /// }
+    ///
+    /// let heap = Heap::options().objects(1).field(0, 0, 0).open(&path)?;
+    /// let mut session = heap.session()?;
+    /// session.synchronized(0, |s| s.store(0, 1))?;
+    /// let durable = session.durable_async();
+    /// session.synchronized(0, |s| s.store(0, 2))?; // of another client
+    /// block_on(durable)?; // the first client's answer may leave
+    /// # std::fs::remove_file(path)?;
+    /// # Ok::<(), Box<dyn std::error::Error>>(())
+    /// ```
+    pub fn durable_async(&self) -> Durable {
+        Durable::of(&self.lent)
+    }
+
     fn await_until(&mut self, deadline: u64) -> Result<bool, Error> {
         let mut is_durable = false;
         let status = self.thread.await_until(threads::ALL_SECTIONS, deadline, &mut is_durable);
@@ -319,22 +504,23 @@ fn time_of(deadline: Instant) -> u64 {
 
 impl Drop for Session {
     fn drop(&mut self) {
-        if Refusal::from(self.thread.end()) == Refusal::Unfinished {
+        if self.thread.is_open() {
             // A guard was forgotten: nobody will give its monitor back.
             let _ = self.opening.heap.abandon();
-            let _ = self.thread.end();
         }
     }
 }
 
-/// A monitor that a session holds. It is given back when this is dropped, and with the outermost the section ends.
+/// A monitor that a session holds. It is given back when this is dropped, and with the outermost the section ends: with what it has stored by
+/// then, also where an early return drops it. [`revert`](Held::revert) takes that back before; [`Session::synchronized`] does it by itself.
 ///
-/// A panic while it is held stops the heap, as a crash would: the section is dropped when the heap is opened again, so that nobody ever
-/// sees a half of it. All other threads' calls answer [`ErrorKind::Panicked`] from then on. One that is forgotten (`mem::forget`) does
-/// the same once its session is dropped.
+/// A panic while it is held takes the section back, and the monitor is given back then: nobody ever sees a half of it, and the heap goes on.
+/// What can't be taken back ([`Session::synchronized`] says when) stops the heap, as a crash would: the section is dropped when the heap is
+/// opened again, and all other threads' calls answer [`ErrorKind::Panicked`] from then on. A guard that is forgotten (`mem::forget`) does
+/// that too, once its session is dropped.
 ///
 /// ```
-/// use zelamiku::service::{ErrorKind, Heap};
+/// use zelamiku::service::Heap;
 /// # let path = std::env::temp_dir().join(format!("zelamiku-panic-{}", std::process::id()));
 /// # let _ = std::fs::remove_file(&path);
 /// let heap = Heap::options().objects(1).field(0, 0, 5).open(&path)?;
@@ -345,9 +531,6 @@ impl Drop for Session {
 ///     panic!("in the middle of a section");
 /// });
 /// assert!(thread.join().is_err());
-/// assert_eq!(heap.session().unwrap_err().kind(), ErrorKind::Panicked);
-/// drop(heap);
-/// let heap = Heap::options().objects(1).field(0, 0, 5).open(&path)?;
 /// assert_eq!(heap.session()?.synchronized(0, |s| s.load(0))?, 5);
 /// # std::fs::remove_file(path)?;
 /// # Ok::<(), Box<dyn std::error::Error>>(())
@@ -389,7 +572,8 @@ impl Held<'_> {
     }
 
     /// Stores a field whose guard is held. [`ErrorKind::Refused`] by `UnknownField`, `NotHeld`, or `SectionFull` where the section
-    /// would have more than 1,000 records: nothing was stored then, and what was stored before stays.
+    /// would have more than 1,000 records, with those that take it back ([`Options::reverts`](super::Options::reverts)): nothing was stored
+    /// then, and what was stored before is there. [`ErrorKind::Reverted`] where the section was taken back, since a nested work has failed.
     ///
     /// ```
     /// # use zelamiku::service::Heap;
@@ -405,14 +589,15 @@ impl Held<'_> {
     /// ```
     #[inline]
     pub fn store(&mut self, field: u32, value: u64) -> Result<(), Error> {
+        self.session.goes_on()?;
         let status = self.session.thread.store(field, value);
         self.session.answer(status)
     }
 
     /// Takes a slot of the pool, whose object's monitor is held; none where no slot is free. It costs the section two records.
     ///
-    /// [`ErrorKind::Refused`] by `NotHeld`, `SectionFull`, and by `Damaged` or `UnknownField` where the heap has no such pool: nothing was
-    /// stored then.
+    /// [`ErrorKind::Refused`] by `NotHeld`, `SectionFull`, and by `Damaged` or `UnknownField` where the heap has no such pool, and
+    /// [`ErrorKind::Reverted`]: nothing was stored then.
     ///
     /// ```
     /// # use zelamiku::{service::Heap, Pool};
@@ -427,6 +612,7 @@ impl Held<'_> {
     /// # Ok::<(), Box<dyn std::error::Error>>(())
     /// ```
     pub fn take(&mut self, pool: Pool) -> Result<Option<u32>, Error> {
+        self.session.goes_on()?;
         let mut slot = raw::NO_SLOT;
         let status = self.session.thread.take(pool.head, pool.slots, &mut slot);
         match Refusal::from(status) {
@@ -457,6 +643,7 @@ impl Held<'_> {
     /// # Ok::<(), Box<dyn std::error::Error>>(())
     /// ```
     pub fn give(&mut self, pool: Pool, slot: u32) -> Result<(), Error> {
+        self.session.goes_on()?;
         let status = self.session.thread.give(pool.head, pool.slots, slot);
         self.session.answer(status)
     }
@@ -482,7 +669,7 @@ impl Held<'_> {
     /// ```
     #[inline]
     pub fn enter(&mut self, object: u32) -> Result<Held<'_>, Error> {
-        self.session.enter(object)
+        self.session.take(object)
     }
 
     /// Does the work while one more monitor is held, as [`Session::synchronized`] does.
@@ -504,15 +691,15 @@ impl Held<'_> {
         object: u32,
         work: impl FnOnce(&mut Held<'_>) -> Result<T, Error>,
     ) -> Result<T, Error> {
-        self.session.synchronized(object, work)
+        self.session.within(object, work)
     }
 
     /// Frees this monitor, by all its locks, sleeps until another session notifies it, and takes it again by as many (JLS 17.2.1). It
     /// isn't woken by anything else. Where no other monitor is held the section ends with it, and the next one begins when it goes on:
     /// what was loaded before may be otherwise by then.
     ///
-    /// [`ErrorKind::Refused`] by `Behind`, `SectionFull`, `NoFat` or `Worn`, and [`ErrorKind::Write`] where a round that was waited for
-    /// can't write: the monitor is held as before. Each final kind: it isn't.
+    /// [`ErrorKind::Refused`] by `Behind`, `SectionFull`, `NoFat` or `Worn`, [`ErrorKind::Write`] where a round that was waited for can't
+    /// write, and [`ErrorKind::Reverted`] where a nested work has failed: the monitor is held as before. Each final kind: it isn't.
     ///
     /// ```
     /// # use zelamiku::service::Heap;
@@ -537,12 +724,14 @@ impl Held<'_> {
     /// # Ok::<(), Box<dyn std::error::Error>>(())
     /// ```
     pub fn wait(&mut self) -> Result<(), Error> {
+        self.session.goes_on()?;
         let status = self.session.thread.wait(self.object);
         self.session.answer(status)
     }
 
-    /// Wakes one session that waits for this monitor; whether there was one. It goes on once the monitor is free. Which of several isn't
-    /// promised, as Java promises nothing (JLS 17.2.2): one of them may never be it. Where each is to have its turn, wake all.
+    /// Wakes one session that waits for this monitor, and answers its [lane](Session::lane); `None` where none waits. It goes on once the
+    /// monitor is free. Which of several isn't promised, as Java promises nothing (JLS 17.2.2): one of them may never be it. Where each is
+    /// to have its turn, wake all.
     ///
     /// ```
     /// # use zelamiku::service::Heap;
@@ -550,18 +739,19 @@ impl Held<'_> {
     /// # let _ = std::fs::remove_file(&path);
     /// # let heap = Heap::options().objects(1).field(0, 0, 0).open(&path)?;
     /// # let mut session = heap.session()?;
-    /// assert_eq!(session.synchronized(0, |s| s.notify())?, false);
+    /// assert_eq!(session.synchronized(0, |s| s.notify())?, None);
     /// # std::fs::remove_file(path)?;
     /// # Ok::<(), Box<dyn std::error::Error>>(())
     /// ```
-    pub fn notify(&mut self) -> Result<bool, Error> {
-        let mut woken = 0;
+    pub fn notify(&mut self) -> Result<Option<u32>, Error> {
+        let mut woken = raw::NOBODY;
         let status = self.session.thread.notify(self.object, &mut woken);
         self.session.answer(status)?;
-        Ok(woken > 0)
+        Ok(lane(woken))
     }
 
-    /// Wakes all sessions that wait for this monitor, and answers how many. In which order they go on isn't promised.
+    /// Wakes all sessions that wait for this monitor, and answers their [lanes](Session::lane), the least first. In which order they go on
+    /// isn't promised.
     ///
     /// ```
     /// # use zelamiku::service::Heap;
@@ -569,18 +759,53 @@ impl Held<'_> {
     /// # let _ = std::fs::remove_file(&path);
     /// # let heap = Heap::options().objects(1).field(0, 0, 0).open(&path)?;
     /// # let mut session = heap.session()?;
-    /// assert_eq!(session.synchronized(0, |s| s.notify_all())?, 0);
+    /// assert!(session.synchronized(0, |s| s.notify_all())?.is_empty());
     /// # std::fs::remove_file(path)?;
     /// # Ok::<(), Box<dyn std::error::Error>>(())
     /// ```
-    pub fn notify_all(&mut self) -> Result<u32, Error> {
+    pub fn notify_all(&mut self) -> Result<Vec<u32>, Error> {
         let mut woken = 0;
         let status = self.session.thread.notify_all(self.object, &mut woken);
         self.session.answer(status)?;
-        Ok(woken)
+        Ok((0..raw::NOBODY).filter(|lane| woken >> lane & 1 == 1).collect())
     }
 
-    /// Gives the monitor back, as dropping it does, and tells whether the heap goes on.
+    /// Takes back what the section has stored so far, under this monitor and all others: each field has the value again that it had before
+    /// the section's first store to it, and each slot of a pool is taken or free as before. The monitors stay held, and the section goes
+    /// on. It is for a work that ends well and has come to nothing; [`Session::synchronized`] does it where its work fails.
+    ///
+    /// [`ErrorKind::Refused`] by `NotHeld` where the section has freed a monitor under which it had stored, by a wait or by giving a nested
+    /// one back: nothing is taken back then. By `WrongKind` where the heap was opened with
+    /// [`Options::reverts(false)`](super::Options::reverts). Each final kind.
+    ///
+    /// ```
+    /// # use zelamiku::service::Heap;
+    /// # let path = std::env::temp_dir().join(format!("zelamiku-revert-{}", std::process::id()));
+    /// # let _ = std::fs::remove_file(&path);
+    /// # let heap = Heap::options().objects(2).field(0, 0, 100).field(1, 1, 0).open(&path)?;
+    /// # let mut session = heap.session()?;
+    /// let is_paid = session.synchronized(0, |from| {
+    ///     let balance = from.load(0)?;
+    ///     from.store(0, balance - 10)?;
+    ///     if from.synchronized(1, |to| to.load(1))? == 0 {
+    ///         from.revert()?; // to an account that was closed nothing is paid
+    ///         return Ok(false);
+    ///     }
+    ///     Ok(true)
+    /// })?;
+    /// assert!(!is_paid);
+    /// assert_eq!(session.synchronized(0, |s| s.load(0))?, 100);
+    /// # std::fs::remove_file(path)?;
+    /// # Ok::<(), Box<dyn std::error::Error>>(())
+    /// ```
+    pub fn revert(&mut self) -> Result<(), Error> {
+        let status = self.session.thread.revert();
+        self.session.answer(status)
+    }
+
+    /// Gives the monitor back, as dropping it does, and tells what can't be told there. Each final kind: the section hasn't ended, and the
+    /// next opening drops it. [`ErrorKind::Reverted`]: a nested work has failed, so nothing that the section had stored is there; the monitor
+    /// was given back.
     ///
     /// ```
     /// # use zelamiku::service::Heap;
@@ -595,7 +820,9 @@ impl Held<'_> {
     /// ```
     #[inline]
     pub fn exit(self) -> Result<(), Error> {
-        ManuallyDrop::new(self).leave()
+        let mut held = ManuallyDrop::new(self);
+        held.leave()?;
+        held.session.goes_on()
     }
 
     // Gives one lock back. One that a wait has lost with its heap isn't there any more, and is refused.
@@ -608,10 +835,12 @@ impl Held<'_> {
 
 impl Drop for Held<'_> {
     fn drop(&mut self) {
-        if !self.was_panicking && std::thread::panicking() {
+        let is_unwound = !self.was_panicking && std::thread::panicking();
+        if is_unwound && !self.session.is_taken_back() {
             let _ = self.session.opening.heap.abandon();
         } else {
-            // A guard can't say that the heap has stopped: the session's next call does.
+            // A guard can't say that the heap's end has cut off its section. The session does: its `durable` and `durable_by` from then on, and
+            // each call that would enter.
             let _ = self.leave();
         }
     }

@@ -10,10 +10,11 @@
 //! The queue is lists of slots that a pool gives out, linked through a heap's fields: `queue.rs`.
 mod queue;
 
+use std::io::{self, Write};
 use std::process::ExitCode;
 use std::sync::atomic::{AtomicBool, Ordering};
 use std::thread;
-use zelamiku::service::{Error, Heap, Session};
+use zelamiku::service::{Heap, Session};
 
 const CONSUMERS: u32 = 3;
 
@@ -31,7 +32,7 @@ fn tell(found: &[queue::Found], has_each_slot: bool) -> Result<(), Failure> {
     }
     for (producer, found) in (0..).zip(found) {
         let queue::Found { put, done, sum, open } = found;
-        println!("found {producer} put {put} done {done}");
+        writeln!(io::stdout(), "found {producer} put {put} done {done}")?;
         let is_open = (done + 1..=*put)
             .map(|number| payload(producer, number))
             .eq(open.iter().copied());
@@ -43,29 +44,29 @@ fn tell(found: &[queue::Found], has_each_slot: bool) -> Result<(), Failure> {
     Ok(())
 }
 
-fn produce(mut session: Session, producer: u32, put_before: u64, most: u64) -> Result<(), Error> {
+fn produce(mut session: Session, producer: u32, put_before: u64, most: u64) -> Result<(), Failure> {
     let mut number = put_before;
     while number < most {
         number = queue::put(&mut session, producer, |number| payload(producer, number))?;
         session.durable()?;
-        println!("put {producer} {number}");
+        writeln!(io::stdout(), "put {producer} {number}")?;
     }
     Ok(())
 }
 
-fn consume(mut session: Session, mut last: u32, is_over: &AtomicBool) -> Result<(), Error> {
+fn consume(mut session: Session, mut last: u32, is_over: &AtomicBool) -> Result<(), Failure> {
     while let Some(job) = queue::take(&mut session, last, || is_over.load(Ordering::SeqCst))? {
         // Here a job would be done as far as that can be done twice: after a crash it is handed out again.
         queue::finish(&mut session, job)?;
         session.durable()?;
-        println!("done {} {}", job.producer, job.number);
+        writeln!(io::stdout(), "done {} {}", job.producer, job.number)?;
         last = job.producer;
     }
     Ok(())
 }
 
 // What a thread's work answers. One that has failed leaves others that would wait for it: they are told.
-fn tell_others(heap: &Heap, answer: Result<(), Error>) -> Result<(), Error> {
+fn tell_others(heap: &Heap, answer: Result<(), Failure>) -> Result<(), Failure> {
     if answer.is_err() {
         heap.stop();
     }
@@ -97,7 +98,7 @@ fn work(heap: &Heap, own: &mut Session, found: &[queue::Found], most: u64) -> Re
             .map(|producer| producer.join().expect("no panic"))
             .collect();
         is_over.store(true, Ordering::SeqCst);
-        let woken = queue::wake_all(own);
+        let woken = queue::wake_all(own).map_err(Failure::from);
         let consumed: Vec<_> = consumers
             .into_iter()
             .map(|consumer| consumer.join().expect("no panic"))
@@ -106,9 +107,8 @@ fn work(heap: &Heap, own: &mut Session, found: &[queue::Found], most: u64) -> Re
             .into_iter()
             .chain(consumed)
             .chain([woken])
-            .collect::<Result<(), Error>>()
-    })?;
-    Ok(())
+            .collect()
+    })
 }
 
 fn run(path: &str, jobs: Option<u64>) -> Result<(), Failure> {

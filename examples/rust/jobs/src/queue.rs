@@ -88,14 +88,11 @@ pub fn look(session: &mut Session) -> Result<(Vec<Found>, bool), Error> {
         let found = (0..PRODUCERS)
             .map(|producer| look_at(queue, producer, &mut slots))
             .collect::<Result<_, _>>()?;
-        // All that are free, which go back in the same section: to the world it never happened.
-        let used = slots.len();
+        // All that are free, which are taken back in the same section: to the world it never happened.
         while let Some(slot) = queue.take(SLOTS)? {
             slots.push(slot);
         }
-        for slot in slots[used..].iter().rev() {
-            queue.give(SLOTS, *slot)?;
-        }
+        queue.revert()?;
         slots.sort_unstable();
         Ok((found, slots.into_iter().eq(0..SLOTS.slots())))
     })
@@ -191,8 +188,7 @@ pub fn finish(session: &mut Session, job: Job) -> Result<(), Error> {
             queue.give(SLOTS, slot)?;
         }
         queue.store(in_hand(job.producer), 0)?;
-        queue.notify_all()?;
-        Ok(())
+        queue.notify_all().map(|_| ())
     })
 }
 

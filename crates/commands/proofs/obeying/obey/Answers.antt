@@ -1,14 +1,17 @@
+use Rattle.std.specs.Prelude.{not}
 use Rattle.std.proofs.Common.{Option, Result, refl, sym, subst}
+use Rattle.image_file.specs.Beside.{MakesBeside}
 use Rattle.sector_disk.specs.declared.size.SectorSize.{SectorSize}
 use Rattle.recover.specs.declared.versions.Versions.TheVariants.{Current, Both}
+use Rattle.commands.specs.Beside.{Spares}
 use Rattle.commands.specs.Obeying.{Formats, Obeys, Recovers}
 use Rattle.commands.specs.declared.fault.WorkFault.{WorkFault}
 use Rattle.command_words.specs.declared.words.Words.{Words}
-use Rattle.commands.proofs.ObeyLemmas.{made, on, recovered}
+use Rattle.commands.proofs.ObeyLemmas.{made, made_beside, on, recovered}
 use Rattle.commands.proofs.obeying.obey.Goals as goal
 
-pub returns-in-Run : goal.returns-in-Run
-returns-in-Run o c =
+pub returns-in-Run-clause-ends : goal.returns-in-Run-clause-ends
+returns-in-Run-clause-ends o c =
     let had = o.P.Images.holds c.args.images.now in
     let has = o.P.Images.holds c.play.new.images in
     let lies = o.P.Images.lies c.play.new.images in
@@ -16,10 +19,10 @@ returns-in-Run o c =
     let unread = o.S.Read.remaining c.play.new.reader in
     let written = o.W.Write.contents c.args.writer.now in
     let now = o.W.Write.contents c.play.new.writer in
-    subst (λ (w : Words). Obeys o.D.Disk.device w c.args.names.now c.play.result had has lies read unread written now) (sym c.in-Run.is) c.play.ensures
+    subst (λ (w : Words). Obeys o.D.Disk.device w c.args.names.now c.play.result had has lies read unread written now) (sym c.in-Run.is) c.play.ensures.ends
 
-pub returns-in-Format : goal.returns-in-Format
-returns-in-Format o c =
+pub returns-in-Format-clause-ends : goal.returns-in-Format-clause-ends
+returns-in-Format-clause-ends o c =
     let had = o.P.Images.holds c.args.images.now in
     let has = o.P.Images.holds c.format_at.new.images in
     let lies = o.P.Images.lies c.format_at.new.images in
@@ -38,8 +41,8 @@ returns-in-Format o c =
           (made asked c.format_at.result (had path) (has path) (lies path) written now c.format_at.ensures.ok c.format_at.ensures.kept c.format_at.ensures.bad_header c.format_at.ensures.silent c.format_at.ensures.part)),
     )
 
-pub returns-in-Show : goal.returns-in-Show
-returns-in-Show o c =
+pub returns-in-Show-clause-ends : goal.returns-in-Show-clause-ends
+returns-in-Show-clause-ends o c =
     let had = o.P.Images.holds c.args.images.now in
     let has = o.P.Images.holds c.show_at.new.images in
     let lies = o.P.Images.lies c.show_at.new.images in
@@ -48,11 +51,11 @@ returns-in-Show o c =
     let now = o.W.Write.contents c.show_at.new.writer in
     subst (λ (w : Words). Obeys o.D.Disk.device w c.args.names.now c.on_image.result had has lies read read written now) (sym c.in-Show.is) (
       refl,
-      (c.show_at.result, c.on_image.ensures, c.show_at.ensures),
+      (c.show_at.result, c.on_image.ensures, c.show_at.ensures.ends),
     )
 
-pub returns-in-Draw : goal.returns-in-Draw
-returns-in-Draw o c =
+pub returns-in-Draw-clause-ends : goal.returns-in-Draw-clause-ends
+returns-in-Draw-clause-ends o c =
     let had = o.P.Images.holds c.args.images.now in
     let has = o.P.Images.holds c.draw_named_at.new.images in
     let lies = o.P.Images.lies c.draw_named_at.new.images in
@@ -61,11 +64,11 @@ returns-in-Draw o c =
     let now = o.W.Write.contents c.draw_named_at.new.writer in
     subst (λ (w : Words). Obeys o.D.Disk.device w c.args.names.now c.on_named.result had has lies read read written now) (sym c.in-Draw.is) (
       refl,
-      (c.draw_named_at.result, c.on_named.ensures, c.draw_named_at.ensures),
+      (c.draw_named_at.result, c.on_named.ensures, c.draw_named_at.ensures.ends),
     )
 
-pub returns-in-Dump : goal.returns-in-Dump
-returns-in-Dump o c =
+pub returns-in-Dump-clause-ends : goal.returns-in-Dump-clause-ends
+returns-in-Dump-clause-ends o c =
     let had = o.P.Images.holds c.args.images.now in
     let has = o.P.Images.holds c.dump_at.new.images in
     let lies = o.P.Images.lies c.dump_at.new.images in
@@ -74,11 +77,11 @@ returns-in-Dump o c =
     let now = o.W.Write.contents c.dump_at.new.writer in
     subst (λ (w : Words). Obeys o.D.Disk.device w c.args.names.now c.on_named-in-Dump.result had has lies read read written now) (sym c.in-Dump.is) (
       refl,
-      (c.dump_at.result, c.on_named-in-Dump.ensures, c.dump_at.ensures),
+      (c.dump_at.result, c.on_named-in-Dump.ensures, c.dump_at.ensures.ends),
     )
 
-pub returns-in-Recover : goal.returns-in-Recover
-returns-in-Recover o c =
+pub returns-in-Recover-clause-ends : goal.returns-in-Recover-clause-ends
+returns-in-Recover-clause-ends o c =
     let had = o.P.Images.holds c.args.images.now in
     let has = o.P.Images.holds c.recover_at.new.images in
     let lies = o.P.Images.lies c.recover_at.new.images in
@@ -89,11 +92,11 @@ returns-in-Recover o c =
     subst (λ (w : Words). Obeys o.D.Disk.device w c.args.names.now c.on_image-in-Recover.result had has lies read read written now) (sym c.in-Recover.is) (
       refl,
       subst (λ (r : Result (Unit {0}) WorkFault). Recovers Current r (had path) (has path) written now) (sym c.on_image-in-Recover.ensures)
-          (recovered Current c.recover_at.result (had path) (has path) written now c.recover_at.ensures.ok c.recover_at.ensures.kept c.recover_at.ensures.part c.recover_at.ensures.silent c.recover_at.ensures.too_old),
+          (recovered Current c.recover_at.result (had path) (has path) written now c.recover_at.ensures.ok c.recover_at.ensures.kept c.recover_at.ensures.way c.recover_at.ensures.part c.recover_at.ensures.silent c.recover_at.ensures.too_old),
     )
 
-pub returns-in-Upgrade : goal.returns-in-Upgrade
-returns-in-Upgrade o c =
+pub returns-in-Upgrade-clause-ends : goal.returns-in-Upgrade-clause-ends
+returns-in-Upgrade-clause-ends o c =
     let had = o.P.Images.holds c.args.images.now in
     let has = o.P.Images.holds c.recover_at-in-Upgrade.new.images in
     let lies = o.P.Images.lies c.recover_at-in-Upgrade.new.images in
@@ -104,21 +107,21 @@ returns-in-Upgrade o c =
     subst (λ (w : Words). Obeys o.D.Disk.device w c.args.names.now c.on_image-in-Upgrade.result had has lies read read written now) (sym c.in-Upgrade.is) (
       refl,
       subst (λ (r : Result (Unit {0}) WorkFault). Recovers Both r (had path) (has path) written now) (sym c.on_image-in-Upgrade.ensures)
-          (recovered Both c.recover_at-in-Upgrade.result (had path) (has path) written now c.recover_at-in-Upgrade.ensures.ok c.recover_at-in-Upgrade.ensures.kept c.recover_at-in-Upgrade.ensures.part c.recover_at-in-Upgrade.ensures.silent c.recover_at-in-Upgrade.ensures.too_old),
+          (recovered Both c.recover_at-in-Upgrade.result (had path) (has path) written now c.recover_at-in-Upgrade.ensures.ok c.recover_at-in-Upgrade.ensures.kept c.recover_at-in-Upgrade.ensures.way c.recover_at-in-Upgrade.ensures.part c.recover_at-in-Upgrade.ensures.silent c.recover_at-in-Upgrade.ensures.too_old),
     )
 
-pub returns-in-Drive : goal.returns-in-Drive
-returns-in-Drive o c =
+pub returns-in-Drive-clause-ends : goal.returns-in-Drive-clause-ends
+returns-in-Drive-clause-ends o c =
     let had = o.P.Images.holds c.args.images.now in
     let has = o.P.Images.holds c.drive-driven.new.images in
     let lies = o.P.Images.lies c.drive-driven.new.images in
     let read = o.S.Read.remaining c.args.reader.now in
     let written = o.W.Write.contents c.args.writer.now in
     let now = o.W.Write.contents c.drive-driven.new.writer in
-    subst (λ (w : Words). Obeys o.D.Disk.device w c.args.names.now c.drive-driven.result had has lies read read written now) (sym c.in-Drive.is) (refl, c.drive-driven.ensures)
+    subst (λ (w : Words). Obeys o.D.Disk.device w c.args.names.now c.drive-driven.result had has lies read read written now) (sym c.in-Drive.is) (refl, c.drive-driven.ensures.ends)
 
-pub returns-in-Get : goal.returns-in-Get
-returns-in-Get o c =
+pub returns-in-Get-clause-ends : goal.returns-in-Get-clause-ends
+returns-in-Get-clause-ends o c =
     let had = o.P.Images.holds c.args.images.now in
     let has = o.P.Images.holds c.get_at.new.images in
     let lies = o.P.Images.lies c.get_at.new.images in
@@ -127,11 +130,11 @@ returns-in-Get o c =
     let now = o.W.Write.contents c.get_at.new.writer in
     subst (λ (w : Words). Obeys o.D.Disk.device w c.args.names.now c.on_values.result had has lies read read written now) (sym c.in-Get.is) (
       refl,
-      (c.get_at.result, c.on_values.ensures, c.get_at.ensures),
+      (c.get_at.result, c.on_values.ensures, c.get_at.ensures.ends),
     )
 
-pub returns-in-Set : goal.returns-in-Set
-returns-in-Set o c =
+pub returns-in-Set-clause-ends : goal.returns-in-Set-clause-ends
+returns-in-Set-clause-ends o c =
     let had = o.P.Images.holds c.args.images.now in
     let has = o.P.Images.holds c.set_at.new.images in
     let lies = o.P.Images.lies c.set_at.new.images in
@@ -140,5 +143,50 @@ returns-in-Set o c =
     let now = o.W.Write.contents c.set_at.new.writer in
     subst (λ (w : Words). Obeys o.D.Disk.device w c.args.names.now c.on_set.result had has lies read read written now) (sym c.in-Set.is) (
       refl,
-      (c.set_at.result, c.on_set.ensures, c.set_at.ensures),
+      (c.set_at.result, c.on_set.ensures, c.set_at.ensures.ends),
     )
+
+pub returns-in-Run-clause-beside : goal.returns-in-Run-clause-beside
+returns-in-Run-clause-beside o c =
+    subst (λ (w : Words). Spares w c.play.result (o.P.Images.holds c.args.images.now) (o.P.Images.holds c.play.new.images) (o.P.Images.lies c.args.images.now) (o.P.Images.lies c.play.new.images)) (sym c.in-Run.is) c.play.ensures.beside
+
+pub returns-in-Format-clause-beside : goal.returns-in-Format-clause-beside
+returns-in-Format-clause-beside o c =
+    let path = c.in-Format.image.now in
+    let had = o.P.Images.holds c.args.images.now in
+    let has = o.P.Images.holds c.format_at.new.images in
+    let so = subst (λ (r : Result (Unit {0}) WorkFault). MakesBeside (not c.in-Format.is_forced) r path had has) (sym c.on_format.ensures)
+    (made_beside (not c.in-Format.is_forced) c.format_at.result path had has c.format_at.ensures.beside) in
+    subst (λ (w : Words). Spares w c.on_format.result had has (o.P.Images.lies c.args.images.now) (o.P.Images.lies c.format_at.new.images)) (sym c.in-Format.is) so
+
+pub returns-in-Show-clause-beside : goal.returns-in-Show-clause-beside
+returns-in-Show-clause-beside o c =
+    subst (λ (w : Words). Spares w c.on_image.result (o.P.Images.holds c.args.images.now) (o.P.Images.holds c.show_at.new.images) (o.P.Images.lies c.args.images.now) (o.P.Images.lies c.show_at.new.images)) (sym c.in-Show.is) c.show_at.ensures.beside
+
+pub returns-in-Draw-clause-beside : goal.returns-in-Draw-clause-beside
+returns-in-Draw-clause-beside o c =
+    subst (λ (w : Words). Spares w c.on_named.result (o.P.Images.holds c.args.images.now) (o.P.Images.holds c.draw_named_at.new.images) (o.P.Images.lies c.args.images.now) (o.P.Images.lies c.draw_named_at.new.images)) (sym c.in-Draw.is) c.draw_named_at.ensures.beside
+
+pub returns-in-Dump-clause-beside : goal.returns-in-Dump-clause-beside
+returns-in-Dump-clause-beside o c =
+    subst (λ (w : Words). Spares w c.on_named-in-Dump.result (o.P.Images.holds c.args.images.now) (o.P.Images.holds c.dump_at.new.images) (o.P.Images.lies c.args.images.now) (o.P.Images.lies c.dump_at.new.images)) (sym c.in-Dump.is) c.dump_at.ensures.beside
+
+pub returns-in-Recover-clause-beside : goal.returns-in-Recover-clause-beside
+returns-in-Recover-clause-beside o c =
+    subst (λ (w : Words). Spares w c.on_image-in-Recover.result (o.P.Images.holds c.args.images.now) (o.P.Images.holds c.recover_at.new.images) (o.P.Images.lies c.args.images.now) (o.P.Images.lies c.recover_at.new.images)) (sym c.in-Recover.is) c.recover_at.ensures.beside
+
+pub returns-in-Upgrade-clause-beside : goal.returns-in-Upgrade-clause-beside
+returns-in-Upgrade-clause-beside o c =
+    subst (λ (w : Words). Spares w c.on_image-in-Upgrade.result (o.P.Images.holds c.args.images.now) (o.P.Images.holds c.recover_at-in-Upgrade.new.images) (o.P.Images.lies c.args.images.now) (o.P.Images.lies c.recover_at-in-Upgrade.new.images)) (sym c.in-Upgrade.is) c.recover_at-in-Upgrade.ensures.beside
+
+pub returns-in-Drive-clause-beside : goal.returns-in-Drive-clause-beside
+returns-in-Drive-clause-beside o c =
+    subst (λ (w : Words). Spares w c.drive-driven.result (o.P.Images.holds c.args.images.now) (o.P.Images.holds c.drive-driven.new.images) (o.P.Images.lies c.args.images.now) (o.P.Images.lies c.drive-driven.new.images)) (sym c.in-Drive.is) c.drive-driven.ensures.beside
+
+pub returns-in-Get-clause-beside : goal.returns-in-Get-clause-beside
+returns-in-Get-clause-beside o c =
+    subst (λ (w : Words). Spares w c.on_values.result (o.P.Images.holds c.args.images.now) (o.P.Images.holds c.get_at.new.images) (o.P.Images.lies c.args.images.now) (o.P.Images.lies c.get_at.new.images)) (sym c.in-Get.is) c.get_at.ensures.beside
+
+pub returns-in-Set-clause-beside : goal.returns-in-Set-clause-beside
+returns-in-Set-clause-beside o c =
+    subst (λ (w : Words). Spares w c.on_set.result (o.P.Images.holds c.args.images.now) (o.P.Images.holds c.set_at.new.images) (o.P.Images.lies c.args.images.now) (o.P.Images.lies c.set_at.new.images)) (sym c.in-Set.is) c.set_at.ensures.beside

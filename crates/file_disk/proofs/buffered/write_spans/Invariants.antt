@@ -1,5 +1,5 @@
 use Rattle.std.proofs.Common.{ℕ, length}
-use Rattle.file_disk.specs.Backing.{ReadsBut}
+use Rattle.file_disk.specs.Backing.{HasBut, IsPendingIn}
 use Rattle.block_disk.specs.Device.{IsClear}
 use Rattle.file_disk.specs.Buffered.{AllWithin}
 use Rattle.file_disk.proofs.buffered.write_spans.Given as goal
@@ -7,8 +7,9 @@ use Rattle.file_disk.proofs.buffered.write_spans.Given as goal
 abbrev pub decreases-loop-first : goal.decreases-loop-first
 decreases-loop-first g l = length l.rest
 
--- what is left has still to be written, and it is among the ranges
+-- what is left has still to be written, and it is among the ranges, in which all lies that is pending
 abbrev pub invariant-loop-first : goal.invariant-loop-first
-invariant-loop-first g l = ReadsBut l.rest l.fn.bytes (g.F.BackingFile.holds l.file)
+invariant-loop-first g l = HasBut l.rest l.fn.bytes (g.F.BackingFile.holds l.file)
     × AllWithin (length l.fn.bytes) l.rest
     × ((i : ℕ) → IsClear i l.fn.spans → IsClear i l.rest)
+    × IsPendingIn l.fn.spans (g.F.BackingFile.holds l.file)

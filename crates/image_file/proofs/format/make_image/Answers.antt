@@ -18,4 +18,4 @@ returns-in_default-clause-kept g c = inl (stays_same _ _ refl)
 pub returns-in-Err-clause-kept : goal.returns-in-Err-clause-kept
 returns-in-Err-clause-kept g c =
     let had = g.P.Images.holds c.args.images.now c.args.path.now in
-    subst (λ (has : Option (List ℕ)). StaysOrIsMade c.args.schema.now c.args.new had has) (sym c.give_up.ensures) c.in-Err.ensures.kept
+    subst (λ (has : Option (List ℕ)). StaysOrIsMade c.args.schema.now c.args.new had has) (sym c.give_up.ensures.same) c.in-Err.ensures.kept

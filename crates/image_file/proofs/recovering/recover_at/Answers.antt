@@ -28,3 +28,6 @@ returns-clause-part g c =
         written = subst (λ (lines : List ℕ). AppendsPart (g.W.Write.contents c.args.writer.now) (g.W.Write.contents c.write_report.new.writer) lines) text c.in-Err-write_report.ensures.part;
       },
     )
+
+pub returns-clause-way : goal.returns-clause-way
+returns-clause-way g c = c.in-Ok.ensures.ok.way

@@ -1,22 +1,19 @@
-use Rattle.std.proofs.Common.{ℕ, List, [], ◌∷◌, sym, ◌∙◌, ap, subst, rules}
-use Rattle.std.proofs.lemmas.Result.{on_ok_weaker}
-use Rattle.block_disk.specs.Device.{SameOutside}
-use Rattle.sector_disk.specs.Places.{one_sector, turn_of}
-use Rattle.sector_disk.proofs.Filling.{filled_settled}
+use Rattle.std.proofs.Common.{[], ◌∷◌, arith, rules}
+use Rattle.block_disk.proofs.Ranges.{outside_trans}
+use Rattle.sector_disk.specs.Places.{one_sector}
+use Rattle.sector_disk.proofs.Sizes.{leaves_then}
 use Rattle.sector_disk.proofs.gate.put_gate.Goals as goal
 
-pub returns-clause-turned : goal.returns-clause-turned
-returns-clause-turned g c =
-    on_ok_weaker c.settle.result (λ ok. ap (λ (xs : List ℕ). turn_of c.args.size xs) c.settle.ensures.same ∙ c.in_ok-say_gate.ensures.turned) c.settle.ensures.ok
-
-pub returns-clause-writes_only : goal.returns-clause-writes_only
-returns-clause-writes_only g c = record {
-  size = search rules;
-  same =
-      let size = c.args.size in
-      subst (λ (xs : List ℕ). SameOutside (one_sector size 1 ∷ []) (g.S.Sectors.device c.args.sectors.now).now.bytes xs) (sym c.settle.ensures.same) c.say_gate.ensures.writes_only.same;
-  leaves =
-      let size = c.args.size in
-      filled_settled (g.S.Sectors.device c.args.sectors.now) (g.S.Sectors.device c.say_gate.new.sectors) (g.S.Sectors.device c.settle.new.sectors) (one_sector size 1)
-      c.say_gate.ensures.writes_only.leaves c.settle.ensures.any_moment;
-}
+pub returns-in-Err-clause-writes_only : goal.returns-in-Err-clause-writes_only
+returns-in-Err-clause-writes_only g c =
+    let gate = one_sector c.args.size 1 in
+    let old = g.S.Sectors.device c.args.sectors.now in
+    let mid = g.S.Sectors.device c.put_gate_once.new.sectors in
+    let new = g.S.Sectors.device c.put_gate_once-in-Err.new.sectors in
+    let first = c.put_gate_once.ensures.writes_only in
+    let second = c.put_gate_once-in-Err.ensures.writes_only in
+    record {
+      size = search rules;
+      same = outside_trans (gate ∷ []) old.now.bytes mid.now.bytes new.now.bytes first.same second.same;
+      leaves = leaves_then old mid new gate gate (omega arith) (omega arith) first.leaves second.leaves;
+    }

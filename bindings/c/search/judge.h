@@ -1,0 +1,91 @@
+/* A small sequential model of a heap's monitors, fields and sections: each answer that a thread gets has to be one that the model could give, and
+ * what a crash leaves what the model says. See judge.c. */
+#ifndef JUDGE_H
+#define JUDGE_H
+#include "search.h"
+#include "zelamiku_threads.h"
+
+enum {
+    OBJECTS = 3,
+    MOST_LANES = 6,
+    SLOTS = 3, /* of the pool, which object 2 has */
+    VALUE_OF = 0, /* fields: one for each object, */
+    FILLER_OF = OBJECTS, /* one more for each, */
+    PASSING = 2 * OBJECTS, /* a transient one of object 0, */
+    POOL = PASSING + 1, /* and the pool */
+    FIELDS = POOL + 1 + SLOTS,
+    FIRST_VALUE = 7
+};
+
+typedef enum { NO_CALL, ENTERS, EXITS, WAITS, AWAITS, AWAITS_ROUND } judged_call;
+
+typedef struct {
+    judged_call call;   /* that it makes now */
+    uint32_t object;
+    uint64_t deadline;  /* of it; 0: it tries */
+    bool has_let_go;    /* another one has had the monitor since the call began */
+    bool may_be_held;   /* by another, at some moment since it began */
+    bool was_ended;     /* the heap had ended before it began, */
+    bool must_end;      /* and so it has to say */
+    bool slips_through; /* an enter or a wait was underway at the heap's end: its section goes on until its last exit */
+    uint32_t locks[OBJECTS], put_down; /* `put_down`: the locks with which it waits */
+    uint64_t ended;     /* sections of the lane */
+    uint64_t stored;    /* the last of them that has stored */
+    uint64_t durable;   /* told */
+    uint32_t records;   /* about how many it has sent since all were durable */
+    bool has_stored;    /* the section that is open has, */
+    bool is_past;       /* and has freed a monitor under which it had */
+} judged_lane;
+
+typedef struct {
+    uint32_t lane, field; /* or of the pool: POOL + 1 + slot */
+    uint64_t section, value, before;
+    bool is_back; /* a revert has taken it back, or has made it */
+} judged_store;
+
+typedef struct {
+    uint32_t lanes;
+    bool reverts;
+    zelamiku_heap heap;
+    uint32_t owner[OBJECTS];
+    uint64_t set[OBJECTS], notified[OBJECTS]; /* a bit for each lane */
+    uint32_t signals[OBJECTS]; /* the program's, guarded by the monitor */
+    uint64_t values[FIELDS];
+    judged_lane of[MOST_LANES];
+    uint32_t ends;        /* a bit for each status that a thread may be told as the heap's end */
+    bool has_ended;       /* and must, since stop or close has come back */
+    bool has_trouble;     /* writes fail */
+    judged_store *stores;
+    size_t count, room;
+} judge;
+
+void judge_begin(judge *it, uint32_t lanes, bool reverts);
+void judge_ends(judge *it, zelamiku_status status); /* from now on a thread may be told so */
+bool judge_is_end(const judge *it, zelamiku_status status);
+uint32_t judge_held(const judge *it, uint32_t lane); /* locks, all together */
+bool judge_is_open(const judge *it); /* whether a section is */
+
+void judge_enters(judge *it, uint32_t lane, uint32_t object, uint64_t deadline);
+void judge_entered(judge *it, uint32_t lane, zelamiku_status status);
+void judge_exits(judge *it, uint32_t lane, uint32_t object);
+void judge_exited(judge *it, uint32_t lane, zelamiku_status status);
+void judge_waits(judge *it, uint32_t lane, uint32_t object);
+void judge_waited(judge *it, uint32_t lane, zelamiku_status status);
+void judge_notified(judge *it, uint32_t lane, uint32_t object, zelamiku_status status, uint64_t lanes, bool is_all);
+void judge_loaded(judge *it, uint32_t lane, uint32_t field, zelamiku_status status, uint64_t value);
+void judge_stored(judge *it, uint32_t lane, uint32_t field, zelamiku_status status, uint64_t value);
+void judge_took(judge *it, uint32_t lane, zelamiku_status status, uint32_t slot);
+void judge_reverted(judge *it, uint32_t lane, zelamiku_status status);
+void judge_gave(judge *it, uint32_t lane, zelamiku_status status, uint32_t slot);
+void judge_awaits(judge *it, uint32_t lane, bool is_round);
+void judge_awaited(judge *it, uint32_t lane, zelamiku_status status, bool is_all, uint64_t sections);
+
+/* Nobody can go on now: whether each that sleeps has to. `has_rounds`: a round may come by itself before long. */
+void judge_sleepers(judge *it, bool has_rounds);
+/* All that has stored is durable, a good while after. */
+void judge_quiet(judge *it);
+/* No thread is left: what the library counts. */
+void judge_alone(const judge *it);
+/* The bytes that a crash leaves, opened anew. `is_all`: after a close. */
+void judge_image(judge *it, const uint8_t *image, size_t size, bool is_all);
+#endif

@@ -1,0 +1,374 @@
+/* Each program is a list of deeds over one heap or two, by a seed. A thread does its own, in their order. A deed that can't be done where it
+ * stands (an exit of what isn't held, since an enter before was refused) is left out or answers as the judge says, so each part of a program is
+ * one too. When no thread can go on, and by the judge none can, main stops the heaps, so that all come back. */
+#include "programs.h"
+#include <stdio.h>
+#include <stdlib.h>
+#include <string.h>
+
+#define MUST(is_so, what) do { if (!(is_so)) search_fail("%s", what); } while (0)
+
+typedef struct {
+    zelamiku_thread own[HEAPS], old[HEAPS]; /* `old`: the handle before */
+    uint32_t lane[HEAPS];
+    bool has_lane[HEAPS], is_out[HEAPS];
+    int task;
+} worker;
+
+static const program *current;
+static judge judges[HEAPS];
+static device devices[HEAPS];
+static worker workers[MOST_THREADS];
+static uint64_t next_value;
+static uint32_t left; /* threads that have yet to come back */
+static bool is_stopping;
+uint64_t programs_crashes, programs_stuck;
+extern long searched_processors;
+
+/* ---- ends of heaps ---- */
+
+static void device_fails(void *of, device_fault fault) {
+    judge *it = of;
+    it->has_trouble = true;
+    if (fault == SYNC_FAILS) judge_ends(it, ZELAMIKU_LOST);
+}
+
+static void look_at_crash(uint32_t heap, bool is_all) {
+    programs_crashes++;
+    judge_image(&judges[heap], devices[heap].durable, devices[heap].size, is_all);
+}
+
+/* What is told is told of by all that come later. */
+static void note_end(judge *it, zelamiku_status status) {
+    if (status == ZELAMIKU_OK || judge_is_end(it, status)) it->has_ended = true;
+}
+
+static void end_heap(uint32_t heap, deed_kind kind) {
+    judge *it = &judges[heap];
+    uint32_t ends = it->ends;
+    judge_ends(it, kind == ABANDON ? ZELAMIKU_ABANDONED : ZELAMIKU_CLOSED);
+    zelamiku_status status = kind == CLOSE  ? zelamiku_heap_close(it->heap)
+                             : kind == STOP ? zelamiku_heap_stop(it->heap)
+                                            : zelamiku_heap_abandon(it->heap);
+    bool is_refused = kind == CLOSE && (status == ZELAMIKU_RUNNING || (status == ZELAMIKU_DEVICE && it->has_trouble));
+    if (is_refused && ends == 0 && it->ends == 1u << (ZELAMIKU_CLOSED - ZELAMIKU_LOST)) it->ends = 0;
+    if (is_refused) return;
+    bool is_right = status == ZELAMIKU_OK || judge_is_end(it, status) || (status == ZELAMIKU_DEVICE && it->has_trouble);
+    if (!is_right) search_fail("the end of heap %u answers %u", heap, status);
+    note_end(it, status);
+}
+
+/* ---- what threads do ---- */
+
+static bool is_over(worker *own, uint32_t heap, zelamiku_status status) {
+    if (!judge_is_end(&judges[heap], status)) return false;
+    own->is_out[heap] = true;
+    return true;
+}
+
+static void enter(worker *own, uint32_t heap, uint32_t object, deed_kind kind, uint64_t time) {
+    judge *it = &judges[heap];
+    uint64_t deadline = kind == ENTER ? NEVER : kind == TRY ? 0 : search_time() + time;
+    judge_enters(it, own->lane[heap], object, deadline);
+    zelamiku_status status = kind == TRY     ? zelamiku_thread_try_enter(own->own[heap], object)
+                             : kind == UNTIL ? zelamiku_thread_enter_until(own->own[heap], object, deadline)
+                             : current->is_whole ? zelamiku_whole_enter(own->own[heap], object)
+                                                 : zelamiku_thread_enter(own->own[heap], object);
+    judge_entered(it, own->lane[heap], status);
+    (void)is_over(own, heap, status);
+}
+
+static void exit_one(worker *own, uint32_t heap, uint32_t object) {
+    judge_exits(&judges[heap], own->lane[heap], object);
+    zelamiku_status status = current->is_whole ? zelamiku_whole_exit(own->own[heap], object) : zelamiku_thread_exit(own->own[heap], object);
+    judge_exited(&judges[heap], own->lane[heap], status);
+    (void)is_over(own, heap, status);
+}
+
+static void load(worker *own, uint32_t heap, uint32_t field) {
+    uint64_t value = 1;
+    zelamiku_status status =
+        current->is_whole ? zelamiku_whole_load(own->own[heap], field, &value) : zelamiku_thread_load(own->own[heap], field, &value);
+    judge_loaded(&judges[heap], own->lane[heap], field, status, value);
+    (void)is_over(own, heap, status);
+}
+
+static bool store(worker *own, uint32_t heap, uint32_t field) {
+    uint64_t value = ++next_value;
+    zelamiku_status status =
+        current->is_whole ? zelamiku_whole_store(own->own[heap], field, value) : zelamiku_thread_store(own->own[heap], field, value);
+    judge_stored(&judges[heap], own->lane[heap], field, status, value);
+    return !is_over(own, heap, status) && status == ZELAMIKU_OK;
+}
+
+/* Many stores, of which the first is a step alone. */
+static void fill(worker *own, uint32_t heap, uint32_t object, uint64_t count) {
+    if (!store(own, heap, FILLER_OF + object)) return;
+    (void)search_be_quiet(true);
+    for (uint64_t i = 1; i < count && judges[heap].of[own->lane[heap]].locks[object] > 0; i++)
+        if (!store(own, heap, FILLER_OF + object)) break;
+    (void)search_be_quiet(false);
+}
+
+/* Waits until somebody has signalled: for `patience` notifications at most. */
+static void wait_for(worker *own, uint32_t heap, uint32_t object, uint64_t patience) {
+    judge *it = &judges[heap];
+    bool is_held = it->of[own->lane[heap]].locks[object] > 0;
+    for (; patience > 0 && (!is_held || it->signals[object] == 0); patience--) {
+        judge_waits(it, own->lane[heap], object);
+        zelamiku_status status = zelamiku_thread_wait(own->own[heap], object);
+        judge_waited(it, own->lane[heap], status);
+        if (is_over(own, heap, status) || status != ZELAMIKU_OK) return;
+    }
+    if (is_held && it->signals[object] > 0) it->signals[object]--;
+}
+
+static void notify(worker *own, uint32_t heap, uint32_t object, bool is_all) {
+    judge *it = &judges[heap];
+    uint32_t lane = 0;
+    uint64_t lanes = 0;
+    if (it->of[own->lane[heap]].locks[object] > 0) it->signals[object] += is_all ? 2 : 1;
+    zelamiku_status status =
+        is_all ? zelamiku_thread_notify_all(own->own[heap], object, &lanes) : zelamiku_thread_notify(own->own[heap], object, &lane);
+    if (!is_all) lanes = lane == ZELAMIKU_NOBODY ? 0 : (uint64_t)1 << lane;
+    judge_notified(it, own->lane[heap], object, status, lanes, is_all);
+    (void)is_over(own, heap, status);
+}
+
+static void take_or_give(worker *own, uint32_t heap, uint32_t slot, bool takes) {
+    uint32_t taken = 0;
+    zelamiku_status status = takes ? zelamiku_thread_take(own->own[heap], POOL, SLOTS, &taken)
+                                   : zelamiku_thread_give(own->own[heap], POOL, SLOTS, slot);
+    if (takes)
+        judge_took(&judges[heap], own->lane[heap], status, taken);
+    else
+        judge_gave(&judges[heap], own->lane[heap], status, slot);
+    (void)is_over(own, heap, status);
+}
+
+static void revert(worker *own, uint32_t heap) {
+    zelamiku_status status = zelamiku_thread_revert(own->own[heap]);
+    judge_reverted(&judges[heap], own->lane[heap], status);
+    (void)is_over(own, heap, status);
+}
+
+static void await(worker *own, uint32_t heap, deed_kind kind, uint64_t time) {
+    judge *it = &judges[heap];
+    uint32_t lane = own->lane[heap];
+    if (judge_held(it, lane) > 0) return;
+    uint64_t earlier = zelamiku_thread_earlier(own->own[heap]), all = it->of[lane].ended - earlier, some = all > 1 ? all - 1 : all;
+    bool is_all = true;
+    uint64_t deadline = kind == AWAIT_UNTIL ? search_time() + time : ZELAMIKU_NO_DEADLINE;
+    judge_awaits(it, lane, false);
+    zelamiku_status status = kind == AWAIT ? zelamiku_thread_await(own->own[heap])
+                                           : zelamiku_thread_await_until(own->own[heap], kind == AWAIT_SOME ? some : ZELAMIKU_ALL_SECTIONS,
+                                                                         deadline, &is_all);
+    bool is_early = status == ZELAMIKU_OK && !is_all && search_time() < deadline;
+    if (is_early) search_fail("lane %u: await comes back before its deadline", lane);
+    judge_awaited(it, lane, status, is_all, earlier + (kind == AWAIT_SOME ? some : all));
+    if (status == ZELAMIKU_OK && is_all && search_chance() % 8 == 1) look_at_crash(heap, false);
+    (void)is_over(own, heap, status);
+}
+
+static void await_round(worker *own, uint32_t heap, uint64_t time) {
+    judge *it = &judges[heap];
+    uint64_t rounds = 0, deadline = search_time() + time;
+    if (judge_held(it, own->lane[heap]) > 0) return;
+    zelamiku_stats stats;
+    bool must_end = it->has_ended;
+    zelamiku_status status = zelamiku_heap_stats(it->heap, &stats);
+    if (status != ZELAMIKU_OK) return;
+    judge_awaits(it, own->lane[heap], true);
+    status = zelamiku_heap_await_round(it->heap, stats.rounds, deadline, &rounds);
+    it->of[own->lane[heap]].call = NO_CALL;
+    bool is_right = (status == ZELAMIKU_OK && !must_end) || judge_is_end(it, status) || (status == ZELAMIKU_DEVICE && it->has_trouble);
+    if (!is_right && !(status == ZELAMIKU_OK && rounds > stats.rounds)) search_fail("await a round answers %u", status);
+    if (status == ZELAMIKU_OK && rounds <= stats.rounds && search_time() < deadline) search_fail("await a round comes back before its deadline");
+}
+
+/* ---- lives of lanes ---- */
+
+static void begin_lane(worker *own, uint32_t heap) {
+    judge *it = &judges[heap];
+    bool must_end = it->has_ended;
+    zelamiku_status status = zelamiku_thread_begin(&own->own[heap], it->heap);
+    own->has_lane[heap] = status == ZELAMIKU_OK;
+    if (is_over(own, heap, status)) return;
+    if (status == ZELAMIKU_NONE_LEFT && current->lanes < current->threads) return;
+    if (status != ZELAMIKU_OK || must_end) search_fail("begin answers %u", status);
+    own->lane[heap] = zelamiku_thread_lane(own->own[heap]);
+    if (own->lane[heap] >= it->lanes) search_fail("a lane that isn't: %u", own->lane[heap]);
+}
+
+static void end_lane(worker *own, uint32_t heap) {
+    judge *it = &judges[heap];
+    if (!own->has_lane[heap]) return;
+    uint32_t lane = own->lane[heap], held = judge_held(it, lane);
+    bool must_end = it->has_ended, was_told = own->is_out[heap]; /* a sync has failed, and who leads has yet to say so */
+    own->old[heap] = own->own[heap];
+    zelamiku_status status = zelamiku_thread_end(own->own[heap]);
+    own->has_lane[heap] = false;
+    if (is_over(own, heap, status) || (was_told && status == ZELAMIKU_OK)) return;
+    if (status != ZELAMIKU_OK || held > 0 || must_end) search_fail("end answers %u, with %u locks held", status, held);
+}
+
+/* Any thread may ask of any handle, also of one that has ended. */
+static void ask(const worker *of, uint32_t heap) {
+    zelamiku_thread asked[] = {of->own[heap], of->old[heap]};
+    for (int i = 0; i < 2; i++) {
+        uint64_t sections = zelamiku_thread_sections(asked[i]), durable = zelamiku_thread_durable(asked[i]);
+        uint32_t lane = zelamiku_thread_lane(asked[i]);
+        uint64_t now = zelamiku_thread_sections(asked[i]);
+        bool is_all = false;
+        if (lane != ZELAMIKU_NOBODY && lane >= judges[heap].lanes) search_fail("a lane that isn't: %u", lane);
+        if (durable > now && now != 0) search_fail("%llu sections are durable of %llu", (unsigned long long)durable, (unsigned long long)now);
+        if (now < sections && now != 0) search_fail("a thread has fewer sections than before");
+        if (search_chance() % 2 == 1) (void)!zelamiku_thread_await_until(asked[i], 1, 1, &is_all);
+    }
+}
+
+static void look_around(worker *own, uint32_t heap, deed_kind kind, uint32_t object) {
+    zelamiku_stats stats;
+    zelamiku_wait waits[MOST_LANES];
+    zelamiku_sight sight;
+    size_t told = 0;
+    if (kind == STATS) (void)!zelamiku_heap_stats(judges[heap].heap, &stats);
+    if (kind == WAITS_OF) (void)!zelamiku_heap_waits(judges[heap].heap, waits, MOST_LANES, &told);
+    if (kind != LOOK) return;
+    zelamiku_status status = zelamiku_thread_look(own->own[heap], object, &sight);
+    if (is_over(own, heap, status)) return;
+    bool is_ours = judges[heap].of[own->lane[heap]].locks[object] > 0;
+    bool is_right = status == ZELAMIKU_OK && (sight.owner == own->lane[heap]) == is_ours;
+    if (!is_right) search_fail("look at %u answers %u, owner %u", object, status, sight.owner);
+}
+
+static void renew(worker *own, uint32_t heap) {
+    if (judge_held(&judges[heap], own->lane[heap]) > 0) return;
+    end_lane(own, heap);
+    if (!own->is_out[heap]) begin_lane(own, heap);
+}
+
+/* ---- threads ---- */
+
+static void do_one(worker *own, const deed *it) {
+    uint32_t heap = it->heap;
+    if (it->kind == NAP) return search_nap(it->number);
+    if (it->kind == ASK) return ask(&workers[it->object % current->threads], heap);
+    if (it->kind == CLOSE || it->kind == STOP || it->kind == ABANDON) return end_heap(heap, it->kind);
+    if (own->is_out[heap] || !own->has_lane[heap]) return;
+    switch (it->kind) {
+    case ENTER: case TRY: case UNTIL: return enter(own, heap, it->object, it->kind, it->number);
+    case EXIT: return exit_one(own, heap, it->object);
+    case LOAD: return load(own, heap, it->object);
+    case STORE: (void)store(own, heap, it->object); return;
+    case FILL: return fill(own, heap, it->object, it->number);
+    case WAIT: return wait_for(own, heap, it->object, it->number);
+    case NOTIFY: case NOTIFY_ALL: return notify(own, heap, it->object, it->kind == NOTIFY_ALL);
+    case TAKE: case GIVE: return take_or_give(own, heap, it->object, it->kind == TAKE);
+    case REVERT: return revert(own, heap);
+    case AWAIT: case AWAIT_UNTIL: case AWAIT_SOME: return await(own, heap, it->kind, it->number);
+    case AWAIT_ROUND: return await_round(own, heap, it->number);
+    case RENEW: return renew(own, heap);
+    default: look_around(own, heap, it->kind, it->object);
+    }
+}
+
+/* What is held still is exited, so that what a part of a program leaves open is closed. */
+static void exit_all(worker *own, uint32_t heap) {
+    for (uint32_t object = OBJECTS; object-- > 0;)
+        while (!own->is_out[heap] && own->has_lane[heap] && judges[heap].of[own->lane[heap]].locks[object] > 0) exit_one(own, heap, object);
+}
+
+static void *work(void *argument) {
+    worker *own = argument;
+    uint32_t number = (uint32_t)(own - workers);
+    for (uint32_t heap = 0; heap < current->heaps; heap++) begin_lane(own, heap);
+    for (uint32_t i = 0; i < current->count; i++)
+        if (current->deeds[i].thread == number && !current->deeds[i].is_left_out) do_one(own, &current->deeds[i]);
+    for (uint32_t heap = 0; heap < current->heaps; heap++) exit_all(own, heap);
+    for (uint32_t heap = 0; heap < current->heaps; heap++) end_lane(own, heap);
+    if (--left == 0) search_let(0);
+    return NULL;
+}
+
+/* ---- a run ---- */
+
+/* Nobody can go on. Where the judge says so too, main stops the heaps. */
+static bool is_stuck(void) {
+    for (uint32_t heap = 0; heap < current->heaps; heap++) judge_sleepers(&judges[heap], false);
+    for (uint32_t heap = 0; heap < current->heaps; heap++) judge_quiet(&judges[heap]);
+    if (is_stopping || left == 0) return false;
+    is_stopping = true;
+    programs_stuck++;
+    search_let(0);
+    return true;
+}
+
+/* The helper of a heap sleeps until a time, and nobody can go on before: no thread waits that a ring would have helped. */
+static void time_goes_on(uint64_t nanoseconds) {
+    for (uint32_t heap = 0; heap < current->heaps; heap++) {
+        bool is_soon = nanoseconds < 150000, has_rounds = is_soon || devices[heap].in_call > 0 || judges[heap].has_trouble;
+        judge_sleepers(&judges[heap], has_rounds);
+    }
+}
+
+static void make_heap(uint32_t heap) {
+    judge *it = &judges[heap];
+    zelamiku_field fields[FIELDS] = {0};
+    zelamiku_handle handle = ZELAMIKU_NONE;
+    uint64_t size = 0;
+    judge_begin(it, current->lanes, current->reverts);
+    for (uint32_t field = 0; field < POOL; field++)
+        fields[field] = (zelamiku_field){field % OBJECTS, field % OBJECTS, FIRST_VALUE, field == PASSING};
+    fields[PASSING].owner = fields[PASSING].guard = 0;
+    MUST(zelamiku_pool_fields(2, fields + POOL, FIELDS - POOL) == ZELAMIKU_OK, "no pool");
+    MUST(zelamiku_format_rings(&handle, OBJECTS, fields, FIELDS, current->lanes, current->capacity, current->ring, &size) == ZELAMIKU_OK, "no heap");
+    device *on = &devices[heap];
+    on->fault = heap == 0 ? current->fault : NEVER_FAILS;
+    on->fault_at = current->fault_at;
+    on->fault_ends = current->fault_at + current->fault_for;
+    on->fails = device_fails;
+    on->of = it;
+    device_begin(on, size);
+    zelamiku_plan plan = {.linger = current->linger, .ring = current->ring, .keeps_slice = 1, .reverts = current->reverts};
+    MUST(zelamiku_heap_start(&it->heap, "searched", &handle, device_calls, on, &plan) == ZELAMIKU_OK, zelamiku_heap_message());
+}
+
+/* The heap is closed, if nobody has ended it; and what it leaves is as the judge says. */
+static void close_heap(uint32_t heap) {
+    judge *it = &judges[heap];
+    bool is_first = it->ends == 0;
+    zelamiku_status status = ZELAMIKU_DEVICE;
+    judge_ends(it, ZELAMIKU_CLOSED);
+    for (int tries = 0; status == ZELAMIKU_DEVICE && tries < 50; tries++) status = zelamiku_heap_close(it->heap);
+    bool is_closed = status == ZELAMIKU_OK && is_first;
+    if (is_first && !it->has_trouble && !is_closed) search_fail("close answers %u", status);
+    bool is_end = status == ZELAMIKU_OK || judge_is_end(it, status) || status == ZELAMIKU_NOTHING;
+    if (status == ZELAMIKU_RUNNING || !is_end) status = zelamiku_heap_stop(it->heap);
+    look_at_crash(heap, is_closed);
+}
+
+void program_run(program *it, const search_schedule *schedule) {
+    static const search_questions QUESTIONS = {is_stuck, time_goes_on};
+    current = it;
+    search_asks = QUESTIONS;
+    searched_processors = it->processors;
+    memset(workers, 0, sizeof workers);
+    next_value = 100;
+    left = it->threads;
+    is_stopping = false;
+    search_begin(schedule, it->seed < SMALL_PROGRAMS ? 0 : it->seed);
+    for (uint32_t heap = 0; heap < it->heaps; heap++) make_heap(heap);
+    for (uint32_t i = 0; i < it->threads; i++) workers[i].task = search_start(work, &workers[i]);
+    search_made.first = search_made.places;
+    if (left > 0) search_park();
+    search_made.last = search_made.places;
+    if (is_stopping)
+        for (uint32_t heap = 0; heap < it->heaps; heap++) end_heap(heap, STOP);
+    for (uint32_t i = 0; i < it->threads; i++) search_join(workers[i].task);
+    search_nap(it->fault == NEVER_FAILS ? 100000000 : 20000000000);
+    for (uint32_t heap = 0; heap < it->heaps; heap++) judge_quiet(&judges[heap]);
+    for (uint32_t heap = 0; heap < it->heaps; heap++) judge_alone(&judges[heap]);
+    for (uint32_t heap = 0; heap < it->heaps; heap++) close_heap(heap);
+    search_end();
+}

@@ -1,0 +1,494 @@
+/* The scheduler's C is compiled with -fsanitize=thread, and what the compiler then calls before each atomic read and write (__tsan_atomic..) is
+ * here in place of the sanitizer: a step, at which another thread may go on. Mutexes, futexes, joins, sleeps and the clock are here too
+ * (wraps.c leads there). Time is counted. It goes on by itself when nobody can.
+ *
+ * Threads are contexts of one thread of the system, so that a switch is cheap. One order of all steps is searched: not what processors or
+ * compilers may do to steps that aren't sequentially consistent. A call of the proved library is one step. */
+#define _GNU_SOURCE
+#include "search.h"
+#include <errno.h>
+#include <limits.h>
+#include <linux/futex.h>
+#include <pthread.h>
+#include <stdarg.h>
+#include <stdio.h>
+#include <stdlib.h>
+#include <string.h>
+#include <sys/mman.h>
+#include <sys/syscall.h>
+#include <time.h>
+#include <ucontext.h>
+#include <unistd.h>
+
+enum {
+    STACK = 512 * 1024,
+    MOST_MUTEXES = 64,
+    MOST_STEPS = 2000000,
+    MOST_IN_A_ROW = 4000, /* steps, after which one that waits by looking again and again lets others go on */
+    STEP_TIME = 20        /* nanoseconds */
+};
+
+typedef enum { GONE, RUNS, WANTS_MUTEX, SLEEPS, JOINS, IS_PARKED } task_state;
+
+typedef struct {
+    task_state state;
+    const void *on; /* the mutex, the word or the task that it waits for */
+    uint64_t due;
+    bool is_woken;  /* by a wake, not by time */
+    bool is_helper; /* a thread that the scheduler's C has started */
+    bool yields;    /* it lets others go on first */
+    bool is_quiet;  /* its steps are none */
+    int priority, error; /* `error`: errno, while others run */
+    uint32_t in_a_row;
+    search_body *body;
+    void *argument, *answer;
+    ucontext_t context;
+} task;
+
+static task tasks[MOST_TASKS];
+static void *stacks[MOST_TASKS];
+static int count;
+static task *me; /* NULL: nothing is searched now */
+static search_schedule schedule;
+static size_t next_told;
+static uint64_t choosing, chance, steps, now;
+static uint64_t earliest; /* no task that sleeps is due before */
+static uint64_t changes[16];
+static int lowest;
+static struct {
+    const void *mutex;
+    task *owner;
+} mutexes[MOST_MUTEXES];
+
+search_run search_made;
+search_questions search_asks;
+void (*search_fails)(const char *why);
+
+static uint64_t next_random(uint64_t *state) {
+    *state ^= *state << 13;
+    *state ^= *state >> 7;
+    *state ^= *state << 17;
+    return *state * 2685821657736338717u >> 11;
+}
+
+static uint64_t begin_random(uint64_t seed) {
+    uint64_t state = seed * 0x9E3779B97F4A7C15u + 0x1234567;
+    for (int i = 0; i < 8; i++) (void)next_random(&state);
+    return state;
+}
+
+uint64_t search_chance(void) {
+    return chance == 0 ? 0 : next_random(&chance);
+}
+
+uint64_t search_time(void) {
+    return now;
+}
+
+uint64_t search_steps(void) {
+    return steps;
+}
+
+int search_own(void) {
+    return me == NULL ? 0 : (int)(me - tasks);
+}
+
+void search_fail(const char *why, ...) {
+    char text[512];
+    va_list words;
+    va_start(words, why);
+    (void)vsnprintf(text, sizeof text, why, words);
+    va_end(words);
+    search_fails(text);
+    abort();
+}
+
+/* ---- who goes on ---- */
+
+static size_t list_able(task **able) {
+    size_t n = 0;
+    for (int i = 0; i < count; i++)
+        if (tasks[i].state == RUNS) able[n++] = &tasks[i];
+    return n;
+}
+
+/* Whoever runs goes on; where it can't, or lets others go first, the next one by number. */
+static task *usual_of(task **able, size_t n) {
+    if (me->state == RUNS && !me->yields) return me;
+    for (size_t i = 0; i < n; i++)
+        if (able[i] > me) return able[i];
+    return able[0];
+}
+
+static task *best_of(task **able, size_t n) {
+    task *best = able[0];
+    for (size_t i = 1; i < n; i++)
+        if (able[i]->priority > best->priority) best = able[i];
+    return best;
+}
+
+static task *told_of(task *usual) {
+    const search_choice *it = &schedule.told[next_told];
+    if (next_told == schedule.count || it->place != search_made.places) return usual;
+    next_told++;
+    return it->task < (uint32_t)count && tasks[it->task].state == RUNS ? &tasks[it->task] : usual;
+}
+
+static task *choice_of(task **able, size_t n, task *usual) {
+    switch (schedule.kind) {
+    case AS_TOLD: return told_of(usual);
+    case BY_PRIORITY: return best_of(able, n);
+    case STICKY:
+        if (usual == me && next_random(&choosing) % 10 != 0) return me;
+        return able[next_random(&choosing) % n];
+    default: return able[next_random(&choosing) % n];
+    }
+}
+
+static void note_place(task **able, size_t n, const task *usual, const task *chosen) {
+    size_t place = search_made.places;
+    if (place == MOST_TOLD) return;
+    uint16_t bits = 0;
+    for (size_t i = 0; i < n; i++) bits |= (uint16_t)(1 << (able[i] - tasks));
+    search_made.able[place] = bits;
+    search_made.usual[place] = (uint8_t)(usual - tasks);
+    search_made.is_free[place] = usual != me;
+    if (chosen == usual) return;
+    search_made.choices[search_made.count++] = (search_choice){(uint32_t)place, (uint32_t)(chosen - tasks)};
+}
+
+static task *pick(task **able, size_t n) {
+    if (n == 1) return able[0];
+    task *usual = usual_of(able, n), *chosen = choice_of(able, n, usual);
+    note_place(able, n, usual, chosen);
+    search_made.places++;
+    return chosen;
+}
+
+static void wake_those_due(void) {
+    if (now < earliest) return;
+    earliest = NEVER;
+    for (int i = 0; i < count; i++) {
+        if (tasks[i].state != SLEEPS) continue;
+        if (tasks[i].due <= now)
+            tasks[i].state = RUNS;
+        else if (tasks[i].due < earliest)
+            earliest = tasks[i].due;
+    }
+}
+
+void search_pass(uint64_t nanoseconds) {
+    now += nanoseconds;
+    wake_those_due();
+}
+
+/* Nobody can go on: time does, until the first that sleeps is due. */
+static void pass_time(void) {
+    uint64_t due = NEVER;
+    bool is_helper = false;
+    for (int i = 0; i < count; i++)
+        if (tasks[i].state == SLEEPS && tasks[i].due < due) due = tasks[i].due, is_helper = tasks[i].is_helper;
+    if (due == NEVER) {
+        if (!search_asks.is_stuck()) search_fail("nobody can go on");
+        return;
+    }
+    if (is_helper && due > now) search_asks.time_goes_on(due - now);
+    if (due > now) now = due;
+    wake_those_due();
+}
+
+static void switch_to(task *next) {
+    task *before = me;
+    if (next == before) return;
+    before->error = errno;
+    before->in_a_row = 0;
+    me = next;
+    swapcontext(&before->context, &next->context);
+    errno = me->error;
+}
+
+static void go(void) {
+    task *able[MOST_TASKS];
+    size_t n;
+    while ((n = list_able(able)) == 0) pass_time();
+    task *next = pick(able, n);
+    me->yields = false;
+    switch_to(next);
+}
+
+static void lower(task *it) {
+    it->priority = --lowest;
+    it->yields = true;
+    it->in_a_row = 0;
+}
+
+void search_step(void) {
+    if (me == NULL || me->is_quiet) return;
+    if (++steps > MOST_STEPS) search_fail("too many steps");
+    search_pass(STEP_TIME);
+    for (uint32_t i = 1; i < schedule.depth && schedule.kind == BY_PRIORITY; i++)
+        if (changes[i - 1] == steps) me->priority = --lowest;
+    if (++me->in_a_row > MOST_IN_A_ROW) lower(me);
+    go();
+}
+
+static void block(task_state state, const void *on, uint64_t due) {
+    if (me->state != RUNS) search_fail("nobody can go on, and one that sleeps has a mutex");
+    me->state = state;
+    me->on = on;
+    me->due = due;
+    if (due < earliest) earliest = due;
+    me->is_woken = false;
+    go();
+}
+
+void search_park(void) {
+    block(IS_PARKED, NULL, NEVER);
+}
+
+void search_let(int number) {
+    if (tasks[number].state == IS_PARKED) tasks[number].state = RUNS;
+}
+
+/* ---- the beginning and the end of a run ---- */
+
+void search_begin(const search_schedule *given, uint64_t chance_seed) {
+    memset(tasks, 0, sizeof tasks);
+    memset(mutexes, 0, sizeof mutexes);
+    schedule = *given;
+    search_made.count = search_made.places = search_made.first = search_made.last = 0;
+    next_told = 0;
+    choosing = begin_random(given->seed);
+    chance = chance_seed == 0 ? 0 : begin_random(chance_seed);
+    count = 1;
+    steps = 0;
+    lowest = 0;
+    now = 1000000000;
+    earliest = NEVER;
+    for (size_t i = 0; i < sizeof changes / sizeof *changes; i++) changes[i] = 1 + next_random(&choosing) % (given->about + 1);
+    me = &tasks[0];
+    *me = (task){.state = RUNS, .due = NEVER, .priority = (int)(100 + next_random(&choosing) % 900)};
+}
+
+bool search_be_quiet(bool is_quiet) {
+    bool was_quiet = me->is_quiet;
+    me->is_quiet = is_quiet;
+    return was_quiet;
+}
+
+void search_end(void) {
+    for (int i = 1; i < count; i++)
+        if (tasks[i].state != GONE) search_fail("task %d is left", i);
+    me = NULL;
+}
+
+/* ---- threads ---- */
+
+static void run_task(void) {
+    me->answer = me->body(me->argument);
+    me->state = GONE;
+    for (int i = 0; i < count; i++)
+        if (tasks[i].state == JOINS && tasks[i].on == me) tasks[i].state = RUNS;
+    go();
+}
+
+static void *stack_of(int number) {
+    if (stacks[number] != NULL) return stacks[number];
+    void *stack = mmap(NULL, STACK, PROT_READ | PROT_WRITE, MAP_PRIVATE | MAP_ANONYMOUS | MAP_NORESERVE, -1, 0);
+    if (stack == MAP_FAILED) search_fail("no memory for a stack");
+    return stacks[number] = stack;
+}
+
+static int new_task(search_body *body, void *argument, bool is_helper) {
+    if (count == MOST_TASKS) search_fail("too many threads");
+    int number = count++;
+    int priority = (int)(100 + next_random(&choosing) % 900);
+    tasks[number] = (task){.state = RUNS, .due = NEVER, .body = body, .argument = argument, .is_helper = is_helper, .priority = priority};
+    getcontext(&tasks[number].context);
+    tasks[number].context.uc_stack.ss_sp = stack_of(number);
+    tasks[number].context.uc_stack.ss_size = STACK;
+    makecontext(&tasks[number].context, run_task, 0);
+    return number;
+}
+
+int search_start(search_body *body, void *argument) {
+    int number = new_task(body, argument, false);
+    search_step();
+    return number;
+}
+
+void search_join(int number) {
+    search_step();
+    if (tasks[number].state != GONE) block(JOINS, &tasks[number], NEVER);
+}
+
+int searched_create(pthread_t *thread, const pthread_attr_t *attributes, search_body *body, void *argument) {
+    (void)attributes;
+    *thread = (pthread_t)new_task(body, argument, true);
+    search_step();
+    return 0;
+}
+
+int searched_join(pthread_t thread, void **answer) {
+    search_join((int)thread);
+    if (answer != NULL) *answer = tasks[thread].answer;
+    return 0;
+}
+
+/* ---- mutexes ---- */
+
+static int place_of(const void *mutex) {
+    int free_place = -1;
+    for (int i = 0; i < MOST_MUTEXES; i++) {
+        if (mutexes[i].mutex == mutex) return i;
+        if (mutexes[i].mutex == NULL && free_place < 0) free_place = i;
+    }
+    if (free_place < 0) search_fail("too many mutexes");
+    mutexes[free_place].mutex = mutex;
+    return free_place;
+}
+
+/* Before and after a run one thread runs alone. */
+int searched_lock(pthread_mutex_t *mutex) {
+    if (me == NULL) return 0;
+    search_step();
+    if (mutexes[place_of(mutex)].owner == me) search_fail("a mutex is locked twice");
+    while (mutexes[place_of(mutex)].owner != NULL) block(WANTS_MUTEX, mutex, NEVER);
+    mutexes[place_of(mutex)].owner = me;
+    return 0;
+}
+
+int searched_unlock(pthread_mutex_t *mutex) {
+    if (me == NULL) return 0;
+    int place = place_of(mutex);
+    if (mutexes[place].owner != me) search_fail("a mutex is unlocked by another");
+    mutexes[place].owner = NULL;
+    mutexes[place].mutex = NULL;
+    for (int i = 0; i < count; i++)
+        if (tasks[i].state == WANTS_MUTEX && tasks[i].on == mutex) tasks[i].state = RUNS;
+    search_step();
+    return 0;
+}
+
+/* ---- sleeping ---- */
+
+int searched_clock(clockid_t clock, struct timespec *time) {
+    if (me == NULL || clock != CLOCK_MONOTONIC) return clock_gettime(clock, time);
+    search_step();
+    search_pass(50 + search_chance() % 1000);
+    *time = (struct timespec){(time_t)(now / 1000000000), (long)(now % 1000000000)};
+    return 0;
+}
+
+void search_nap(uint64_t nanoseconds) {
+    block(SLEEPS, NULL, now + nanoseconds);
+}
+
+int searched_sleep(const struct timespec *time, struct timespec *left) {
+    (void)left;
+    if (me != NULL) search_nap((uint64_t)time->tv_sec * 1000000000 + (uint64_t)time->tv_nsec);
+    return 0;
+}
+
+int searched_yield(void) {
+    if (me == NULL) return 0;
+    search_pass(100);
+    lower(me);
+    search_step();
+    return 0;
+}
+
+static long sleep_on_word(const uint32_t *word, uint32_t seen, const struct timespec *due) {
+    search_step();
+    if (*(const volatile uint32_t *)word != seen) return errno = EAGAIN, -1;
+    uint64_t at = due == NULL ? NEVER : (uint64_t)due->tv_sec * 1000000000 + (uint64_t)due->tv_nsec;
+    if (at <= now) return errno = ETIMEDOUT, -1;
+    if (search_chance() % 200 == 1) { /* woken for nothing */
+        search_step();
+        return errno = EINTR, -1;
+    }
+    block(SLEEPS, word, at);
+    return me->is_woken ? 0 : (errno = ETIMEDOUT, -1);
+}
+
+static long wake_on_word(const uint32_t *word, int most) {
+    int woken = 0;
+    for (int i = 0; i < count && woken < most; i++) {
+        if (tasks[i].state != SLEEPS || tasks[i].on != word) continue;
+        tasks[i].state = RUNS;
+        tasks[i].is_woken = true;
+        woken++;
+    }
+    search_step();
+    return woken;
+}
+
+/* Of the system's calls by number futexes alone are searched; others aren't made. */
+long searched_call(long number, ...) {
+    va_list words;
+    va_start(words, number);
+    uint32_t *word = va_arg(words, uint32_t *);
+    int operation = va_arg(words, int);
+    uint32_t value = va_arg(words, uint32_t);
+    const struct timespec *due = va_arg(words, const struct timespec *);
+    va_end(words);
+    if (number != SYS_futex || me == NULL) return errno = ENOSYS, -1;
+    switch (operation & FUTEX_CMD_MASK) {
+    case FUTEX_WAIT_BITSET: return sleep_on_word(word, value, due);
+    case FUTEX_WAKE: return wake_on_word(word, (int)value);
+    default: search_fail("a futex call that isn't searched: %d", operation);
+    }
+}
+
+/* ---- what the compiler calls ---- */
+
+void __tsan_init(void) {}
+void __tsan_func_entry(void *caller) { (void)caller; }
+void __tsan_func_exit(void) {}
+void __tsan_read_range(void *at, unsigned long size) { (void)at, (void)size; }
+void __tsan_write_range(void *at, unsigned long size) { (void)at, (void)size; }
+void __tsan_atomic_thread_fence(int order) { (void)order; search_step(); }
+void __tsan_atomic_signal_fence(int order) { (void)order; }
+
+/* What isn't atomic belongs to one thread at a time: ThreadSanitizer's own runs look for races (tools/run-examples --tsan). */
+#define PLAIN(size) \
+    void __tsan_read##size(void *at) { (void)at; } \
+    void __tsan_write##size(void *at) { (void)at; } \
+    void __tsan_unaligned_read##size(void *at) { (void)at; } \
+    void __tsan_unaligned_write##size(void *at) { (void)at; } \
+    void __tsan_volatile_read##size(void *at) { (void)at; } \
+    void __tsan_volatile_write##size(void *at) { (void)at; }
+PLAIN(1) PLAIN(2) PLAIN(4) PLAIN(8) PLAIN(16)
+
+#define CHANGE(bits, type, name, changed) \
+    type __tsan_atomic##bits##_##name(volatile type *at, type value, int order) { \
+        (void)order; \
+        search_step(); \
+        type old = *at; \
+        *at = (type)(changed); \
+        return old; \
+    }
+#define EXCHANGE_IF(bits, type, name) \
+    int __tsan_atomic##bits##_compare_exchange_##name(volatile type *at, type *expected, type value, int order, int other) { \
+        (void)order, (void)other; \
+        search_step(); \
+        type old = *at; \
+        if (old == *expected) return *at = value, 1; \
+        *expected = old; \
+        return 0; \
+    }
+#define ATOMIC(bits, type) \
+    type __tsan_atomic##bits##_load(const volatile type *at, int order) { \
+        (void)order; \
+        search_step(); \
+        return *at; \
+    } \
+    void __tsan_atomic##bits##_store(volatile type *at, type value, int order) { \
+        (void)order; \
+        search_step(); \
+        *at = value; \
+    } \
+    CHANGE(bits, type, exchange, value) CHANGE(bits, type, fetch_add, old + value) CHANGE(bits, type, fetch_sub, old - value) \
+    CHANGE(bits, type, fetch_and, old & value) CHANGE(bits, type, fetch_or, old | value) CHANGE(bits, type, fetch_xor, old ^ value) \
+    EXCHANGE_IF(bits, type, strong) EXCHANGE_IF(bits, type, weak)
+ATOMIC(8, uint8_t) ATOMIC(16, uint16_t) ATOMIC(32, uint32_t) ATOMIC(64, uint64_t)

@@ -1,0 +1,160 @@
+/* Files that are made beside a path and take its place once they are whole: locks, where a path leads, drafts. */
+/* ---- locks and paths ---- */
+
+/* Opens a file whose descriptor the registry has: as soon as it is open, for a fork. */
+static bool open_listed(int *descriptor, const char *path, int flags, mode_t mode) {
+    pthread_mutex_lock(&registry);
+    *descriptor = AGAIN(open(path, flags | O_CLOEXEC | O_NOCTTY | O_NONBLOCK, mode));
+    pthread_mutex_unlock(&registry);
+    return *descriptor >= 0;
+}
+
+/* Locks a file for this open of it alone. BUSY: another open has it. DEVICE: it can't be locked, by errno. */
+static zelamiku_status lock_alone(int file) {
+    if (AGAIN(flock(file, LOCK_EX | LOCK_NB)) == 0) return ZELAMIKU_OK;
+    return errno == EWOULDBLOCK ? ZELAMIKU_BUSY : ZELAMIKU_DEVICE;
+}
+
+/* Whether the path leads to this file; to none, where `file` is -1. */
+static bool leads_to(const char *path, int file) {
+    struct stat own, named;
+    if (stat(path, &named) != 0) return file < 0 && errno == ENOENT;
+    return file >= 0 && fstat(file, &own) == 0 && own.st_dev == named.st_dev && own.st_ino == named.st_ino;
+}
+
+/* How many bytes of the path its folder has, with the last slash. */
+static size_t folder_size(const char *path) {
+    const char *slash = strrchr(path, '/');
+    return slash == NULL ? 0 : (size_t)(slash + 1 - path);
+}
+
+/* Where the link at the path leads, in place of the path. False where there is no link, and where that is too long: ENAMETOOLONG. */
+static bool follow_link(char *path) {
+    char link[PATH_MAX];
+    ssize_t length = readlink(path, link, sizeof link - 1);
+    if (length < 0) return false;
+    link[length] = 0;
+    size_t kept = link[0] == '/' ? 0 : folder_size(path);
+    bool fits = kept + (size_t)length < PATH_MAX;
+    if (fits) memcpy(path + kept, link, (size_t)length + 1);
+    errno = fits ? 0 : ENAMETOOLONG;
+    return fits;
+}
+
+/* The real path of a file that isn't there yet. */
+static bool find_new_path(const char *path, char *real) {
+    char folder[PATH_MAX] = ".";
+    size_t kept = folder_size(path), name = strlen(path) - kept;
+    if (name == 0) return errno = ENOENT, false;
+    if (kept > 0) memcpy(folder, path, kept), folder[kept] = 0;
+    if (realpath(folder, real) == NULL) return false;
+    size_t length = strlen(real);
+    if (length + 1 + name >= PATH_MAX) return errno = ENAMETOOLONG, false;
+    if (real[length - 1] != '/') real[length++] = '/';
+    memcpy(real + length, path + kept, name + 1);
+    return true;
+}
+
+/* Where the path leads at the end of all links, also where no file is there yet, but its folder is. `real` takes PATH_MAX bytes. */
+static bool find_real_path(const char *path, char *real) {
+    enum { MOST_LINKS = 40 }; /* as the system follows */
+    char at[PATH_MAX];
+    if ((size_t)snprintf(at, sizeof at, "%s", path) >= sizeof at) return errno = ENAMETOOLONG, false;
+    for (int links = 0; links < MOST_LINKS; links++) {
+        if (realpath(at, real) != NULL) return true;
+        if (errno != ENOENT) return false;
+        if (!follow_link(at)) return errno != ENAMETOOLONG && find_new_path(at, real);
+    }
+    return errno = ELOOP, false;
+}
+
+/* The path from the root on, which stays when the process goes to another folder. NULL: it can't be told. */
+static char *path_from_root(const char *path) {
+    char folder[PATH_MAX];
+    if (path[0] == '/') return strdup(path);
+    if (getcwd(folder, sizeof folder) == NULL) return NULL;
+    size_t size = strlen(folder) + strlen(path) + 2;
+    char *whole = (char *)malloc(size);
+    if (whole != NULL) (void)snprintf(whole, size, "%s/%s", folder, path);
+    return whole;
+}
+
+/* ---- drafts ---- */
+
+/* Ends a draft's name. It is heapctl's too, so that a making, a copy and a `heapctl format` of one path keep each other out. */
+#define BESIDE ".heapctl-new"
+
+/* From now on a fork's child closes the draft's descriptors. It takes over `old`, where there is one. */
+static void list_draft(draft *it, int *old) {
+    it->is_in_place = false;
+    it->old = it->file = -1;
+    pthread_mutex_lock(&registry);
+    if (old != NULL) {
+        it->old = *old;
+        *old = -1;
+    }
+    it->next = drafts;
+    drafts = it;
+    pthread_mutex_unlock(&registry);
+}
+
+/* The draft goes, but for a file that is in its place by now. errno stays. */
+static void end_draft(draft *it) {
+    int error = errno;
+    if (it->file >= 0 && !it->is_in_place) (void)unlink(it->beside);
+    close_listed(&it->file);
+    close_listed(&it->old);
+    pthread_mutex_lock(&registry);
+    draft **from = &drafts;
+    while (*from != it) from = &(*from)->next;
+    *from = it->next;
+    pthread_mutex_unlock(&registry);
+    errno = error;
+}
+
+/* Opens and locks the file that is beside the path, or a new one. `is_new` says which. */
+static zelamiku_status open_beside(draft *it, mode_t mode, bool *is_new) {
+    *is_new = open_listed(&it->file, it->beside, O_RDWR | O_CREAT | O_EXCL | O_NOFOLLOW, mode);
+    if (!*is_new && (errno != EEXIST || !open_listed(&it->file, it->beside, O_RDWR | O_NOFOLLOW, 0))) return ZELAMIKU_DEVICE;
+    zelamiku_status status = lock_alone(it->file);
+    if (status == ZELAMIKU_OK) return ZELAMIKU_OK;
+    int error = errno;
+    if (status == ZELAMIKU_DEVICE && *is_new) (void)unlink(it->beside);
+    close_listed(&it->file);
+    errno = error;
+    return status;
+}
+
+/* Makes the file beside the path, locked. One that a draft was cut off in goes before, whatever rights and owner it has. A file whose name
+ * another one took between the opening and the lock is let go. */
+static zelamiku_status make_beside(draft *it, mode_t mode) {
+    for (int tries = 0; tries < 5; tries++) {
+        bool is_new = false;
+        zelamiku_status status = open_beside(it, mode, &is_new);
+        if (status == ZELAMIKU_DEVICE && errno == ENOENT && tries == 0) continue; /* it went meanwhile, or there is no folder */
+        if (status != ZELAMIKU_OK) return status;
+        bool is_there = leads_to(it->beside, it->file);
+        if (is_there && is_new) return ZELAMIKU_OK;
+        if (is_there) (void)unlink(it->beside);
+        close_listed(&it->file);
+    }
+    return ZELAMIKU_BUSY;
+}
+
+/* Begins a draft that is listed, for its path, at which `old` is. After a failure `cause` says what it was; DEVICE, by errno. */
+static zelamiku_status begin_draft(draft *it, mode_t mode, const char **cause) {
+    bool fits = (size_t)snprintf(it->beside, sizeof it->beside, "%s" BESIDE, it->path) < sizeof it->beside;
+    if (!fits) errno = ENAMETOOLONG;
+    zelamiku_status status = fits ? make_beside(it, mode) : ZELAMIKU_DEVICE;
+    *cause = status == ZELAMIKU_DEVICE ? "a file can't be made beside it" : "a heap, a copy or an image is being made there";
+    if (status != ZELAMIKU_OK || leads_to(it->path, it->old)) return status;
+    *cause = "the file was replaced or removed meanwhile";
+    return ZELAMIKU_BUSY;
+}
+
+/* The draft, whose bytes are durable, takes its place. False: it didn't; or it did (`is_in_place`), and that isn't durable. */
+static bool put_in_place(draft *it) {
+    if (rename(it->beside, it->path) != 0) return false;
+    it->is_in_place = true;
+    return sync_folder_of(it->path);
+}

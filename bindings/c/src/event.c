@@ -1,0 +1,211 @@
+/* Threads with an event loop: what they have asked for, and the events that they wait for. */
+/* ---- threads with an event loop ---- */
+
+/* Under the mutex: while an event loop waits for sections or room it counts among those that wait for a round, though its thread doesn't sleep
+ * here: else no round would come once a section ends that its own depend on. */
+static void count_loop(heap *of, seat *own) {
+    bool waits = own->asked != 0 || own->is_short;
+    if (waits == own->is_counted) return;
+    own->is_counted = waits;
+    if (waits) {
+        of->loops++;
+        of->awaiting++;
+    } else {
+        assert(of->loops > 0 && of->awaiting > 0);
+        of->loops--;
+        of->awaiting--;
+    }
+}
+
+/* Under the mutex, by which the descriptor stays open. */
+static void ring_event(seat *other) {
+    static const uint64_t one = 1;
+    other->is_rung = true;
+    if (other->event != 0) (void)!write(other->event - 1, &one, sizeof one);
+}
+
+/* Under the mutex: makes the event unreadable. */
+static void quieten_event(seat *own) {
+    uint64_t rung;
+    own->is_rung = false;
+    if (own->event != 0) (void)!read(own->event - 1, &rung, sizeof rung);
+}
+
+/* Under the mutex, after a round or at the heap's end: rings for each loop whose news that is. At the end it is news for all. A loop that has
+ * asked stays asking until its sections are durable. */
+static void tell_loops(heap *of, bool is_trouble, bool is_end) {
+    if (of->loops == 0 && !is_end) return;
+    for (uint32_t lane = 0; lane < of->lanes; lane++) {
+        seat *other = seat_at(of, lane);
+        uint64_t durable = other->acknowledged;
+        bool has_news = other->is_short || (other->asked != 0 && (is_trouble || durable != other->told));
+        other->told = durable;
+        other->is_short = false;
+        if (durable >= other->asked || is_end) other->asked = 0;
+        count_loop(of, other);
+        if (has_news || is_end) ring_event(other);
+    }
+}
+
+/* How many sections event loops have ended since the last round began. Behind each of them a client may wait, as behind a thread that
+ * sleeps. Who leads calls it. */
+static uint32_t sections_of_loops(heap *of) {
+    uint64_t count = 0;
+    for (uint32_t lane = 0; of->events > 0 && lane < of->lanes; lane++) {
+        seat *other = seat_at(of, lane);
+        if (!other->has_event) continue;
+        uint64_t begun = other->begun; /* before what has ended since is read */
+        count += other->ended - begun;
+    }
+    return count < UINT32_MAX / 2 ? (uint32_t)count : UINT32_MAX / 2;
+}
+
+/* A round begins: how many event loops wait for it. */
+static uint32_t begin_for_loops(heap *of) {
+    uint32_t loops = 0;
+    for (uint32_t lane = 0; of->events > 0 && lane < of->lanes; lane++) {
+        seat *other = seat_at(of, lane);
+        if (!other->has_event) continue;
+        other->begun = other->ended;
+        loops += other->begun > other->acknowledged;
+    }
+    return loops;
+}
+
+/* A try to enter has found no room. With an event its thread needn't try again before that is readable: it waits from now on. It asks for a few
+ * rounds; a later one follows the end of another section, as in sleep_for_step. */
+static void lack_room(heap *of, seat *own) {
+    pthread_mutex_lock(&of->mutex);
+    if (own->event == 0) {
+        ask(of, ZELAMIKU_ROUND_ROOM);
+    } else {
+        if (own->lacked != own->ended + 1) own->demands = 0;
+        own->lacked = own->ended + 1;
+        own->is_short = true;
+        count_loop(of, own);
+        if (own->demands < DEMANDS && !of->is_troubled) {
+            own->demands++;
+            ask(of, ZELAMIKU_ROUND_ROOM);
+        }
+    }
+    pthread_mutex_unlock(&of->mutex);
+}
+
+/* ---- descriptors ---- */
+
+/* Under the registry's mutex, for a fork; or in a child. */
+static void close_event(heap *of, seat *own) {
+    if (own->event == 0) return;
+    (void)close(own->event - 1);
+    own->event = 0;
+    own->has_event = 0;
+    of->events--;
+}
+
+/* The same with those of all lanes that a heap of the place has ever had. */
+static void close_events(heap *of) {
+    for (uint32_t lane = 0; of->events > 0 && lane < ZELAMIKU_MOST_LANES; lane++) close_event(of, seat_at(of, lane));
+}
+
+/* The thread ends its use of the lane, also after the heap's end: it waits for nothing, and has no event. */
+static void drop_event(heap *of, seat *own) {
+    pthread_mutex_lock(&of->mutex);
+    own->asked = own->lacked = 0;
+    own->is_short = own->is_rung = false;
+    count_loop(of, own);
+    pthread_mutex_lock(&registry);
+    close_event(of, own);
+    pthread_mutex_unlock(&registry);
+    if (of->over != 0) own->is_lent = false;
+    pthread_mutex_unlock(&of->mutex);
+}
+
+/* Under the mutex: makes the lane's event. False: the system has no descriptor, by errno. */
+static bool make_event(heap *of, seat *own) {
+    pthread_mutex_lock(&registry);
+    int file = eventfd(0, EFD_CLOEXEC | EFD_NONBLOCK), error = errno;
+    if (file >= 0) {
+        own->event = file + 1;
+        own->begun = own->ended;
+        own->has_event = 1; /* after that, which who leads reads then */
+        of->events++;
+    }
+    pthread_mutex_unlock(&registry);
+    if (file >= 0 && (own->is_rung || of->over != 0)) ring_event(own);
+    errno = error;
+    return file >= 0;
+}
+
+/* Takes the mutex, in a call that is counted, for a handle that is lent, also at the heap's end. NOTHING, FORKED: it hasn't. */
+static zelamiku_status lock_lane(heap *of, seat *own, zelamiku_thread thread, const char *call) {
+    if (!is_lane_of(of, own, thread)) return nothing(call, NULL);
+    if (of->over == ZELAMIKU_FORKED) return fail(of->path, ZELAMIKU_FORKED, 0, NULL, NULL, "%s", call);
+    pthread_mutex_lock(&of->mutex);
+    if (is_lane_of(of, own, thread)) return ZELAMIKU_OK;
+    pthread_mutex_unlock(&of->mutex);
+    return nothing(call, NULL);
+}
+
+/* The same as zelamiku_thread_event, in a call that is counted. */
+static zelamiku_status event_of(heap *of, seat *own, zelamiku_thread thread, int *descriptor) {
+    zelamiku_status status = lock_lane(of, own, thread, "event");
+    if (status != ZELAMIKU_OK) return status;
+    bool is_lent = own->is_lent, is_there = own->event != 0 || (is_lent && make_event(of, own));
+    int error = is_there ? 0 : errno;
+    *descriptor = own->event - 1;
+    pthread_mutex_unlock(&of->mutex);
+    if (is_there) return ZELAMIKU_OK;
+    return is_lent ? fail(of->path, ZELAMIKU_NO_MEMORY, error, "no descriptor could be made", NULL, "event") : nothing("event", NULL);
+}
+
+zelamiku_status zelamiku_thread_event(zelamiku_thread thread, int *descriptor) {
+    if (descriptor == NULL) return nothing("event", "give a descriptor");
+    *descriptor = -1;
+    seat *own = seat_of(thread);
+    heap *of = place_of(own);
+    count_call(of);
+    zelamiku_status status = event_of(of, own, thread, descriptor);
+    end_call(of);
+    return status;
+}
+
+/* Under the mutex: the thread is told how many sections are durable, and asks for the others. What comes after this rings. */
+static zelamiku_status ask_for_all(heap *of, seat *own, uint64_t *durable) {
+    quieten_event(own);
+    /* Before the sections are looked at, since what a last round acknowledges comes before it says so. */
+    zelamiku_status end_status = of->is_settled ? (zelamiku_status)of->over : ZELAMIKU_OK;
+    uint64_t ended = own->ended, acknowledged = own->acknowledged, before = own->before;
+    *durable = acknowledged > before ? acknowledged - before : 0;
+    own->told = acknowledged;
+    if (acknowledged >= own->asked) own->asked = 0;
+    /* Of a write that has failed before it asked it is told once that is made again, and fails. */
+    uint64_t known = own->asked != 0 ? own->troubles : of->troubles;
+    own->troubles = of->troubles;
+    bool is_new = acknowledged < ended && own->asked < ended && of->over == 0;
+    if (is_new) own->asked = ended;
+    count_loop(of, own);
+    if (is_new && (of->has_work || of->has_looks || of->leaves) && !of->is_troubled) ask(of, ZELAMIKU_ROUND_AWAITED);
+    if (acknowledged >= ended) return own->is_cut ? end_status : ZELAMIKU_OK;
+    return end_status != ZELAMIKU_OK ? end_status : trouble_since(of, known);
+}
+
+/* The same as zelamiku_thread_ask, in a call that is counted. */
+static zelamiku_status ask_of(heap *of, seat *own, zelamiku_thread thread, uint64_t *durable) {
+    zelamiku_status status = lock_lane(of, own, thread, "ask");
+    if (status != ZELAMIKU_OK) return status;
+    status = ask_for_all(of, own, durable);
+    pthread_mutex_unlock(&of->mutex);
+    run_soon(of);
+    return status == ZELAMIKU_OK ? status : tell_end(of, status, of->error, "ask");
+}
+
+zelamiku_status zelamiku_thread_ask(zelamiku_thread thread, uint64_t *durable) {
+    if (durable == NULL) return nothing("ask", "give durable");
+    *durable = 0;
+    seat *own = seat_of(thread);
+    heap *of = place_of(own);
+    count_call(of);
+    zelamiku_status status = ask_of(of, own, thread, durable);
+    end_call(of);
+    return status;
+}

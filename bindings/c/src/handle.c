@@ -1,0 +1,126 @@
+/* Handles and the places of heaps: the registry, forks, and looking a handle up. */
+/* ---- places of heaps, and forks ---- */
+
+/* In the child: its parent's heaps are at their end here, and so are their descriptors, which would keep the locks. Nothing else is touched:
+ * another thread may have been in the middle of it. */
+static void forked(void) {
+    for (size_t place = 1; place < ZELAMIKU_MOST_HEAPS; place++) {
+        heap *of = &heaps[place];
+        close_events(of);
+        if (!of->is_used) continue;
+        of->over = ZELAMIKU_FORKED;
+        of->volume = of->inode = 0;
+        shut(of, true);
+        if (of->file >= 0) (void)close(of->file);
+    }
+    for (const draft *it = drafts; it != NULL; it = it->next) {
+        if (it->old >= 0) (void)close(it->old);
+        if (it->file >= 0) (void)close(it->file);
+    }
+    drafts = NULL;
+    (void)pthread_mutex_unlock(&registry);
+}
+
+static void before_fork(void) {
+    pthread_mutex_lock(&registry);
+}
+
+static void after_fork(void) {
+    pthread_mutex_unlock(&registry);
+}
+
+static void watch_forks(void) {
+    (void)pthread_atfork(before_fork, after_fork, forked);
+}
+
+/* ---- calls that are underway ---- */
+
+/* Under the registry's mutex: whether the place, in which no heap lives, can serve another one. No call finds its old heap then. */
+static bool is_vacated(heap *of) {
+    uint64_t number = of->number;
+    of->number = 0;
+    if (of->underway == 0) return true;
+    of->number = number;
+    return false;
+}
+
+/* Under the registry's mutex: the place that is free longest, so that calls with the handles of the heap before are told of its end for long.
+ * NULL: each is used. */
+static heap *longest_free(void) {
+    for (;;) {
+        heap *found = NULL;
+        for (size_t place = 1; place < ZELAMIKU_MOST_HEAPS; place++) {
+            heap *of = &heaps[place];
+            if (!of->is_used && of->underway == 0 && (found == NULL || of->freed < found->freed)) found = of;
+        }
+        if (found == NULL || is_vacated(found)) return found;
+    }
+}
+
+/* A place for a heap; NULL: each is used. */
+static heap *new_place(void) {
+    static pthread_once_t once = PTHREAD_ONCE_INIT;
+    (void)pthread_once(&once, watch_forks);
+    pthread_mutex_lock(&registry);
+    heap *found = longest_free();
+    if (found != NULL) {
+        if (!found->has_mutex) (void)pthread_mutex_init(&found->mutex, NULL);
+        found->has_mutex = true;
+        close_events(found); /* of threads that have never ended their use of the heap before */
+        found->file = -1;
+        found->volume = found->inode = 0;
+        found->lanes = 0;
+        found->over = 0;
+        found->is_used = true;
+    }
+    pthread_mutex_unlock(&registry);
+    return found;
+}
+
+/* No thread is in a section of the heap that was here, and none begins one. */
+static void free_changes(heap *of) {
+    for (uint32_t lane = 0; lane < of->lanes; lane++) {
+        free(seat_at(of, lane)->changes);
+        seat_at(of, lane)->changes = NULL;
+    }
+}
+
+static void free_place(heap *of) {
+    free_changes(of);
+    pthread_mutex_lock(&registry);
+    of->is_used = false;
+    of->freed = ++handed_out;
+    pthread_mutex_unlock(&registry);
+}
+
+/* Unlocks and closes a file whose descriptor the registry has. To close it isn't enough: a child that was forked has it until it runs. */
+static void close_listed(int *descriptor) {
+    pthread_mutex_lock(&registry);
+    int file = *descriptor;
+    *descriptor = -1;
+    pthread_mutex_unlock(&registry);
+    if (file < 0) return;
+    (void)AGAIN(flock(file, LOCK_UN));
+    (void)close(file);
+}
+
+static void close_file(heap *of) {
+    pthread_mutex_lock(&registry);
+    of->volume = of->inode = 0;
+    pthread_mutex_unlock(&registry);
+    close_listed(&of->file);
+}
+
+/* The heap of a handle, until end_call; NULL: NOTHING or FORKED, as `status` says. */
+static heap *begin_call(zelamiku_heap handle, const char *call, zelamiku_status *status) {
+    heap *of = &heaps[handle.number >> 8 & (ZELAMIKU_MOST_HEAPS - 1)];
+    count_call(of);
+    *status = ZELAMIKU_OK;
+    if ((handle.number & 255) != 1 || of->number != handle.number)
+        *status = nothing(call, NULL);
+    else if (of->over == ZELAMIKU_FORKED)
+        *status = fail(of->path, ZELAMIKU_FORKED, 0, NULL, NULL, "%s", call);
+    if (*status == ZELAMIKU_OK) return of;
+    end_call(of);
+    return NULL;
+}

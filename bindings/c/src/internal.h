@@ -1,0 +1,275 @@
+/* What the rooms of the scheduler share: a lane's seat, a heap, their places, and the constants. */
+#define _GNU_SOURCE
+#include "zelamiku_threads.h"
+#include <assert.h>
+#include <errno.h>
+#include <fcntl.h>
+#include <libgen.h>
+#include <limits.h>
+#include <linux/futex.h>
+#include <pthread.h>
+#include <sched.h>
+#include <signal.h>
+#include <stdarg.h>
+#include <stdatomic.h>
+#include <stddef.h>
+#include <stdio.h>
+#include <stdlib.h>
+#include <string.h>
+#include <sys/eventfd.h>
+#include <sys/file.h>
+#include <sys/prctl.h>
+#include <sys/stat.h>
+#include <sys/syscall.h>
+#include <time.h>
+#include <unistd.h>
+#ifdef HELGRIND /* which knows nothing of atomics */
+#include <valgrind/helgrind.h>
+#define ARE_ATOMIC(first, size) VALGRIND_HG_DISABLE_CHECKING(&(first), (size))
+#else
+#define ARE_ATOMIC(first, size) ((void)(first), (void)(size))
+#endif
+#define SELDOM(is_so) __builtin_expect((is_so), 0)
+/* A call of the system that answers -1 when it fails, made again while it was interrupted. */
+#define AGAIN(call) \
+    ({ \
+        __typeof__(call) answer_; \
+        do answer_ = (call); \
+        while (answer_ == -1 && errno == EINTR); \
+        answer_; \
+    })
+#define COLD __attribute__((noinline, cold)) static
+
+/* Offsets of an image (docs/FORMAT.md): what the host reads of one without the library. */
+enum {
+    GATE_AT = 8, /* open by this byte alone: */
+    OPEN_GATE = 0xa5,
+    FIELDS_AT = 16,
+    CAPACITY_AT = 20,
+    SIZE_AT = 24,
+    SLOTS_AT = 64, /* two, each with a gate at its beginning */
+    SLOT_BYTES = 1048,
+    SEQUENCE_AT = 8, /* in a slot */
+    ROWS_AT = SLOTS_AT + 2 * SLOT_BYTES,
+    ROW_BYTES = 16,
+    MARK_AT = 4, /* in a row, which begins with the guard */
+    OWNER_AT = 6,
+    FIRST_AT = 8,
+    CELL_BYTES = 8
+};
+
+enum {
+    BUCKETS = sizeof((zelamiku_news *)NULL)->waiting / sizeof(uint32_t),
+    TRIES = 40,           /* before a thread sleeps for a monitor */
+    DEMANDS = 3,          /* rounds that one without room asks for; a later one follows the end of another section */
+    PART = 8,             /* of the time that a round's calls take: so long those without room look while the next takes records */
+    GATHER = 8,           /* of that time: so long a round waits at most for those that the last one has told */
+    MOST_PART = 20000000, /* nanoseconds, of such a part, also after calls that hung */
+    FEWEST = 4096,        /* records for each lane, which a round may take at least */
+    LOOKS = 250000,       /* nanoseconds: where a round takes less, one that waits for it looks for its end so long before it sleeps */
+    LOST_LOOK = 30000,    /* nanoseconds: a look that took longer has let somebody else run, */
+    BLIND = 64,           /* so that nobody looks for so many rounds */
+    SHORT_SLICE = 100000, /* nanoseconds that a thread which makes rounds, or waits for them, runs at once where others want to */
+    NAP = 20000,          /* nanoseconds between two looks, for each thread that waits for a round, where many do */
+    SECOND = 1000000000
+};
+
+typedef struct heap heap;
+
+/* A field, as a lane keeps it: its value before the section that is open stored to it first, if it has. */
+typedef struct {
+    uint64_t stamp; /* the value is kept where this is that of the lane */
+    uint64_t value;
+    uint32_t next;  /* the field that was kept before it; or NO_FIELD */
+    uint16_t guard;
+    uint16_t records; /* that a store makes: 0 where the field is transient, else 1 */
+} kept_field;
+
+enum { NO_FIELD = ZELAMIKU_MOST_FIELDS, NO_OBJECT = ZELAMIKU_MOST_OBJECTS };
+
+/* What the open section of a lane has changed, in a heap that reverts: its thread's own. It is that of the section after `section` ended ones: so
+ * a section's end, which looks at none of this, leaves it out of date. */
+typedef struct {
+    uint64_t section;
+    uint64_t stamp;   /* of what is kept; another one for each section, and after each revert */
+    uint32_t used;    /* of the section's 1,000 records: those that it has made, and that would free its monitors and put back what is kept */
+    uint32_t last;    /* the field that was kept last; or NO_FIELD */
+    uint32_t guard;   /* and the monitor that it was stored under; or NO_OBJECT */
+    uint32_t guards;  /* under how many monitors it has stored, and which */
+    uint16_t under[ZELAMIKU_MOST_HELD];
+    bool is_past;     /* a monitor under which it had stored was freed, and taken again */
+    uint32_t all;     /* how many fields there are, and each */
+    kept_field fields[];
+} changes;
+
+/* What others tell the thread that has a lane, and, on other cache lines, what it keeps of itself. */
+typedef struct {
+    _Alignas(256) _Atomic uint32_t bell; /* 1: somebody has rung since the last sleep */
+    _Atomic uint32_t is_behind;          /* it sleeps until the next step of who leads */
+    _Atomic uint32_t rests;              /* whether others may look by its session: see waits.c */
+    _Atomic uint64_t acknowledged;       /* how many sections of the lane are durable */
+    uint32_t wanted;                     /* mutex: the object whose monitor it waits for, plus one; 0: none */
+    bool is_lent, is_left;               /* mutex: a thread has it; that thread is to free the session */
+    bool is_told;                        /* mutex: the log hook was told of a circle of which it is */
+    _Atomic uint32_t is_cut;             /* the heap's end has cut off a section of its thread */
+    uint64_t turn;                       /* mutex: who waits for the monitor longest has the least */
+    _Atomic uint64_t before;             /* the sections that the lane had ended when it was lent; changed under the mutex */
+    uint64_t asked;                      /* mutex: how many sections its event loop has asked for; 0: all of these are durable */
+    uint64_t told;                       /* mutex: how many were durable when the loop was told last */
+    uint64_t troubles;                   /* mutex: of how many the loop knows, or needn't */
+    uint64_t lacked;                     /* mutex: how many sections had ended when the loop found no room, plus one */
+    _Atomic uint64_t begun;              /* how many had ended when the last round began; of a lane with an event */
+    int event;                           /* its descriptor, plus one; 0: none. Changed under the mutex and the registry's */
+    _Atomic uint32_t has_event;          /* the same, for who leads */
+    uint32_t demands;                    /* mutex: rounds that the loop has asked for since it found no room */
+    bool is_short, is_counted;           /* mutex: the loop has found no room; it counts among `awaiting` */
+    bool is_rung;                        /* mutex: its event is readable, or is to be once there is one */
+    _Alignas(128) _Atomic uint64_t number; /* the handle that it is lent by; 0: calls look at `known` and the heap */
+    _Atomic uint64_t open;               /* the same while a section is open, so that one look is enough for a load */
+    _Atomic uint64_t ended;              /* how many sections the lane has ended */
+    uint32_t locks;                      /* own: by how many monitors are held, all together */
+    _Atomic uint32_t is_busy;            /* a section is open, or it waits: nobody else touches the session */
+    zelamiku_handle session;             /* own; freed by who ends the heap where the thread isn't busy */
+    zelamiku_news *news;                 /* the heap's */
+    uint32_t records;                    /* own: about how many it has sent since the section `counted` */
+    uint32_t has_stored;                 /* own: the section that is open has */
+    _Atomic uint64_t last_stored;        /* the last section that has and has ended, by how many had ended with it */
+    uint32_t is_plain;                   /* 1: nothing is kept of what its sections change */
+    uint32_t lane;
+    _Atomic uint64_t known;              /* the handle, also after the heap's end */
+    heap *of;
+    uint64_t counted;                    /* own: how many sections had ended when it began to count the records */
+    changes *changes;                    /* own; NULL: it is plain */
+} seat;
+
+struct heap {
+    _Atomic uint64_t number; /* the handle, also after the end; 0: never used, or being opened */
+    _Atomic uint32_t underway; /* calls that are: while there are some the place serves no other heap */
+    uint64_t freed;          /* registry: when its place became free: the one that is free longest is used next */
+    bool is_used;            /* registry */
+    bool has_mutex;          /* registry: the mutex was initialized, once for all heaps of the place */
+    char *path;
+    int file;                /* or -1 */
+    char *where;             /* the path from the root on, for a look at whether it leads to the file; or NULL */
+    uint64_t looked;         /* leads: when the last such look was */
+    dev_t volume;            /* registry */
+    ino_t inode;
+    uint64_t size;           /* of the image, in bytes */
+    uint64_t linger;         /* nanoseconds */
+    uint32_t lanes, objects, fields, processors;
+    bool keeps_slice;        /* of the plan */
+    bool reverts;            /* each lane keeps what its section changes */
+    zelamiku_device_calls *make_calls;
+    void *device;
+    zelamiku_log *log;
+    void *log_of;
+    zelamiku_dropped *dropped;
+    size_t dropped_count;
+    pthread_t helper;
+    pthread_mutex_t mutex;
+    zelamiku_handle handle;  /* leads */
+    uint64_t room;           /* how many records a lane's ring takes, or its log where that is less */
+    uint64_t last_calls;     /* leads: how many nanoseconds the calls of the last round took */
+    uint64_t paid;           /* leads: how many records it would have taken in that time */
+    uint64_t syncs_made;     /* leads */
+    uint32_t urgent;         /* mutex: why a round is wanted now */
+    uint32_t guests;         /* mutex: how many wait to lead for something else than a round */
+    bool is_led, is_ending, is_troubled, is_taken; /* mutex: a thread leads; the helper is to end; a write has failed; a thread ends the heap */
+    uint32_t left;           /* mutex: how many threads are to free their sessions */
+    uint32_t sleepers;       /* mutex: how many of those that wait are told by the next round's end */
+    bool is_own;             /* mutex: who leads waits for that round itself */
+    uint32_t loops;          /* mutex: how many lanes' event loops count among `awaiting` */
+    uint32_t expected_sections; /* leads: as `expected`, of lanes with events */
+    _Atomic uint32_t events; /* how many lanes have one; changed under the registry's mutex */
+    uint64_t turns;          /* mutex: how many were given */
+    zelamiku_stats stats;    /* mutex */
+    _Alignas(64) _Atomic uint32_t waiting[BUCKETS]; /* how many wait for monitors, by the object modulo the buckets */
+    _Atomic uint32_t has_work;              /* a section has ended since the last round began, but for those of has_looks */
+    uint32_t enough;                        /* records that a lane has sent, after which a section's end asks for a round */
+    _Alignas(64) _Atomic uint32_t over;     /* the status that all calls answer; 0 while the heap goes on */
+    _Atomic uint32_t is_settled;            /* nothing more will be acknowledged */
+    _Atomic uint32_t has_looks;             /* so have sections none of which has stored: no round comes for these by itself */
+    _Atomic uint32_t told, bell, watches;   /* see above; the helper's next look is due */
+    _Atomic uint32_t awaiting;              /* how many threads wait for a round; whom it was told has yet to look, and doesn't count */
+    _Atomic uint32_t arrivals, expected;    /* how many came for their sections since the last round began; were told by it */
+    _Atomic uint32_t leaves;                /* the last round has taken as much as it might: the next one comes at once */
+    _Atomic uint64_t steps;                 /* odd while who leads takes records from the lanes' rings, each of which gives room */
+    _Atomic uint64_t haste;                 /* until when those without room look again, by zelamiku_now */
+    _Atomic uint64_t looks;                 /* how many nanoseconds one that waits for a round looks for its end before it sleeps */
+    _Atomic uint64_t blind;                 /* until so many rounds have ended nobody looks: others want the processors */
+    _Atomic uint64_t rounds, troubles;      /* that have ended; of which a write has failed */
+    _Atomic int error;                      /* errno of the last of these, or of what the heap has ended with */
+};
+
+/* A handle is a number: a count of all that were handed out, from bit 24 on; the seat's place in the table, in bytes, or the heap's in
+ * `heaps`, in bits 8 to 20; and 1 in bit 0 of a heap's. No heap has place 0: so the handle of zeros finds a seat without a session. They are
+ * never freed, so that a handle of yesterday is looked up as one of today. */
+#define SEATS ((size_t)ZELAMIKU_MOST_HEAPS * ZELAMIKU_MOST_LANES)
+#define PLACE ((SEATS - 1) * sizeof(seat))
+_Alignas(256) char ZELAMIKU_SEATS[SEATS * sizeof(seat)];
+static heap heaps[ZELAMIKU_MOST_HEAPS];
+
+/* What zelamiku_inline.h says of a seat. */
+#define IS_OWN(name) (offsetof(seat, name) == offsetof(seat, number) + offsetof(zelamiku_own, name))
+_Static_assert(IS_OWN(open) && IS_OWN(ended) && IS_OWN(records) && IS_OWN(locks) && IS_OWN(is_busy) && IS_OWN(session) && IS_OWN(news) &&
+                   IS_OWN(has_stored) && IS_OWN(last_stored) && IS_OWN(is_plain),
+               "zelamiku_own");
+_Static_assert(offsetof(heap, has_work) == offsetof(heap, waiting) + offsetof(zelamiku_news, has_work), "zelamiku_news");
+_Static_assert(offsetof(heap, enough) == offsetof(heap, waiting) + offsetof(zelamiku_news, enough), "zelamiku_news");
+_Static_assert(sizeof(seat) == 256 && offsetof(seat, number) == 128 && PLACE == 2096896, "ZELAMIKU_OWN_OF");
+
+static pthread_mutex_t registry = PTHREAD_MUTEX_INITIALIZER;
+static _Atomic uint64_t handed_out;
+
+/* A file that is written beside a path, and takes its place once it is whole. Whoever has a draft has both files locked, so that no other
+ * draft is made there, and nobody opens what is replaced. */
+typedef struct draft {
+    char path[PATH_MAX], beside[PATH_MAX]; /* real ones: no links are on the way */
+    int old, file;                         /* registry: what is at the path, or -1; the new one, or -1 */
+    bool is_in_place;                      /* the new one is at the path */
+    struct draft *next;                    /* registry */
+} draft;
+static draft *drafts; /* registry: all that are underway */
+
+static inline seat *seat_of(zelamiku_thread thread) {
+    return (seat *)(void *)(ZELAMIKU_SEATS + (thread.number & PLACE));
+}
+
+/* What zelamiku_inline.h has of it. */
+static inline zelamiku_own *own_of(seat *own) {
+    return (zelamiku_own *)(void *)&own->number;
+}
+
+static inline seat *seat_at(heap *of, uint32_t lane) {
+    return (seat *)(void *)ZELAMIKU_SEATS + (size_t)(of - heaps) * ZELAMIKU_MOST_LANES + lane;
+}
+
+static inline heap *place_of(const seat *own) {
+    return &heaps[(own - (const seat *)(const void *)ZELAMIKU_SEATS) / ZELAMIKU_MOST_LANES];
+}
+
+/* A call is counted before it looks whether its handle is that of the place's heap. Who takes the place for another heap makes the number 0
+ * before it looks whether calls are counted. So a call that has found the number has the heap, also at its end, until it isn't counted. */
+static inline void count_call(heap *of) {
+    of->underway++;
+}
+
+static inline void end_call(heap *of) {
+    of->underway--;
+}
+
+static inline bool is_open(seat *own, zelamiku_thread thread) {
+    return zelamiku_is_open(own_of(own), thread);
+}
+
+/* In event.c. */
+static uint32_t sections_of_loops(heap *of);
+static uint32_t begin_for_loops(heap *of);
+static void tell_loops(heap *of, bool is_trouble, bool is_end);
+static void lack_room(heap *of, seat *own);
+static void drop_event(heap *of, seat *own);
+static void close_events(heap *of);
+
+static uint64_t new_number(size_t place) {
+    return ++handed_out << 24 | place;
+}

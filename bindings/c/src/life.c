@@ -1,0 +1,516 @@
+/* A heap's life once its device is open: begin, close, stop, abandon, stats, copy. */
+/* ---- the beginning of a heap ---- */
+
+/* The seat as no thread has it, also of a lane that the heap doesn't have and one before had. By old handles others may look at its atomic
+ * members meanwhile. */
+static void clear_seat(heap *of, uint32_t lane) {
+    seat *own = seat_at(of, lane);
+    assert(own->changes == NULL && own->event == 0);
+    own->known = 0;
+    own->number = own->open = 0;
+    own->ended = own->acknowledged = own->before = own->last_stored = 0;
+    own->bell = own->is_behind = own->rests = own->is_cut = own->is_busy = 0;
+    own->wanted = own->locks = own->records = own->has_stored = 0;
+    own->is_lent = own->is_left = own->is_told = false;
+    own->turn = own->counted = 0;
+    own->asked = own->told = own->troubles = own->lacked = own->begun = 0;
+    own->demands = 0;
+    own->is_short = own->is_counted = own->is_rung = false;
+    own->is_plain = !of->reverts;
+    own->lane = lane;
+    own->of = of;
+    own->news = (zelamiku_news *)(void *)of->waiting;
+    memset(&own->session, 0, sizeof own->session);
+}
+
+/* Takes the sessions of all lanes, each for the seat of its lane: a lane that had a session before comes after those that had none, and may
+ * have ended sections. RUNNING: a lane's session is still out. */
+static zelamiku_status take_lanes(heap *of, zelamiku_handle *handle) {
+    zelamiku_handle session = ZELAMIKU_NONE;
+    zelamiku_status status = ZELAMIKU_OK;
+    uint64_t ended = 0;
+    for (uint32_t lane = 0; lane < ZELAMIKU_MOST_LANES; lane++) clear_seat(of, lane);
+    for (of->lanes = 0; of->lanes < ZELAMIKU_MOST_LANES && (status = zelamiku_session(handle, &session)) == ZELAMIKU_OK; of->lanes++) {
+        uint32_t lane = ZELAMIKU_NOBODY;
+        status = zelamiku_lane(&session, &lane, &ended);
+        if (status != ZELAMIKU_OK) {
+            zelamiku_free(&session);
+            return status;
+        }
+        seat *own = seat_at(of, lane);
+        own->session = session;
+        own->ended = own->counted = ended;
+        memset(&session, 0, sizeof session);
+    }
+    if (status != ZELAMIKU_OK && status != ZELAMIKU_NONE_LEFT) return status;
+    /* Where the heap has a lane more than were handed out. */
+    return zelamiku_acknowledged(handle, of->lanes, &ended) == ZELAMIKU_BAD_LANE ? ZELAMIKU_OK : ZELAMIKU_RUNNING;
+}
+
+static void mark_atomics(heap *of) {
+    ARE_ATOMIC(of->number, sizeof of->number + sizeof of->underway);
+    ARE_ATOMIC(of->waiting, sizeof *of - offsetof(heap, waiting));
+    for (uint32_t lane = 0; lane < of->lanes; lane++) {
+        seat *own = seat_at(of, lane);
+        ARE_ATOMIC(own->bell, offsetof(seat, wanted));
+        ARE_ATOMIC(own->is_cut, sizeof own->is_cut);
+        ARE_ATOMIC(own->before, sizeof own->before);
+        ARE_ATOMIC(own->begun, sizeof own->begun);
+        ARE_ATOMIC(own->has_event, sizeof own->has_event);
+        ARE_ATOMIC(own->number, sizeof *own - offsetof(seat, number));
+    }
+}
+
+/* All that a heap before has left in the place goes. */
+static void clear_place(heap *of, const zelamiku_plan *plan) {
+    long processors = sysconf(_SC_NPROCESSORS_ONLN);
+    of->processors = processors > 1 ? (uint32_t)processors : 1;
+    of->linger = (uint64_t)(plan->linger != 0 ? plan->linger : ZELAMIKU_DEFAULT_LINGER) * 1000;
+    of->keeps_slice = plan->keeps_slice != 0;
+    of->log = plan->log;
+    of->log_of = plan->log_of;
+    of->reverts = plan->reverts != 0;
+    of->last_calls = of->paid = of->syncs_made = of->turns = of->looks = 0;
+    of->urgent = of->guests = of->left = of->sleepers = of->loops = of->expected_sections = 0;
+    of->is_led = of->is_own = of->is_ending = of->is_troubled = of->is_taken = false;
+    memset(&of->stats, 0, sizeof of->stats);
+    for (unsigned i = 0; i < BUCKETS; i++) of->waiting[i] = 0;
+    of->has_work = of->is_settled = of->awaiting = of->arrivals = of->expected = of->leaves = of->watches = of->has_looks = 0;
+    of->steps = of->haste = of->rounds = of->troubles = of->blind = 0;
+}
+
+/* Sets how many records a lane takes, by its ring and its log, and after how many a section's end asks for a round: three quarters of what is
+ * filled when the next section finds no room. */
+static void set_room(heap *of, uint32_t ring, uint32_t capacity) {
+    if (capacity < ring) ring = capacity;
+    of->room = ring > ZELAMIKU_LEAST_CAPACITY ? ring : ZELAMIKU_LEAST_CAPACITY;
+    of->enough = (uint32_t)(of->room - ZELAMIKU_MOST_RECORDS) / 4 * 3;
+}
+
+/* How many records a lane's log takes, by the header of the image. */
+static uint32_t capacity_in(const uint8_t *header) {
+    return (uint32_t)number_in(header + CAPACITY_AT, 4);
+}
+
+/* A place for a heap of this path and plan; NULL: why not. */
+static heap *place_for(const char *path, const zelamiku_plan *plan, const char *call, zelamiku_status *status) {
+    heap *of = new_place();
+    if (of == NULL) {
+        *status = fail(path, ZELAMIKU_NONE_LEFT, 0, "255 heaps are open", "close one", "%s", call);
+        return NULL;
+    }
+    free(of->path);
+    free(of->where);
+    of->where = NULL;
+    of->path = strdup(path);
+    clear_place(of, plan);
+    if (of->path != NULL) return of;
+    free_place(of);
+    *status = fail(path, ZELAMIKU_NO_MEMORY, 0, NULL, NULL, "%s", call);
+    return NULL;
+}
+
+/* Starts the helper, where no signal is handled. */
+static int start_helper(heap *of) {
+    sigset_t all, before;
+    (void)sigfillset(&all);
+    (void)pthread_sigmask(SIG_SETMASK, &all, &before);
+    int answer = pthread_create(&of->helper, NULL, help, of);
+    (void)pthread_sigmask(SIG_SETMASK, &before, NULL);
+    return answer;
+}
+
+/* The heap of the handle lives in the place from now on. After a failure the sessions are free. */
+static zelamiku_status begin(heap *of, zelamiku_handle *handle, zelamiku_heap *told) {
+    zelamiku_status status = take_lanes(of, handle);
+    if (status == ZELAMIKU_OK && of->reverts) {
+        status = keep_changes(of, handle);
+        if (status != ZELAMIKU_OK) zelamiku_free(handle); /* its sessions go */
+    }
+    if (status == ZELAMIKU_OK) {
+        mark_atomics(of);
+        of->handle = *handle;
+        memset(handle, 0, sizeof *handle);
+        told->number = new_number((size_t)(of - heaps) << 8 | 1);
+        of->number = told->number;
+        int error = start_helper(of);
+        if (error == 0) return ZELAMIKU_OK;
+        of->number = told->number = 0;
+        zelamiku_free(&of->handle);
+        status = fail(of->path, ZELAMIKU_NO_MEMORY, error, "the helper's thread can't be started", NULL, "open");
+    } else {
+        (void)fail(of->path, status, 0, NULL, NULL, "open");
+    }
+    for (uint32_t lane = 0; lane < ZELAMIKU_MOST_LANES; lane++) zelamiku_free(&seat_at(of, lane)->session);
+    return status;
+}
+
+zelamiku_status zelamiku_heap_start(zelamiku_heap *heap_, const char *name, zelamiku_handle *handle, zelamiku_device_calls *calls,
+                                    void *device, const zelamiku_plan *plan) {
+    static const zelamiku_plan NO_PLAN;
+    if (heap_ != NULL) heap_->number = 0;
+    if (heap_ == NULL || name == NULL || handle == NULL || calls == NULL) return nothing("start", "give each");
+    zelamiku_status status = ZELAMIKU_OK;
+    heap *of = place_for(name, plan != NULL ? plan : &NO_PLAN, "start", &status);
+    if (of == NULL) return status;
+    of->make_calls = calls;
+    of->device = device;
+    of->size = 0;
+    of->objects = ZELAMIKU_MOST_OBJECTS;
+    of->fields = ZELAMIKU_MOST_FIELDS;
+    uint8_t header[ZELAMIKU_HEADER_BYTES] = {0};
+    uint64_t copied = 0;
+    uint32_t ring = plan != NULL && plan->ring != 0 ? plan->ring : ZELAMIKU_LEAST_RING;
+    if (zelamiku_copy(handle, 0, header, sizeof header, &copied) == ZELAMIKU_OK) set_room(of, ring, capacity_in(header));
+    status = begin(of, handle, heap_);
+    if (status != ZELAMIKU_OK) {
+        free_place(of);
+        return status;
+    }
+    /* What opening or making left to be called. */
+    demand(of, ZELAMIKU_ROUND_OPENING);
+    return ZELAMIKU_OK;
+}
+
+/* ---- the end of a heap ---- */
+
+/* No more will be acknowledged, and nobody has to lead: who waits for a round, or to lead, is told. */
+static void tell_end_of_rounds(heap *of) {
+    of->is_settled = 1;
+    pthread_mutex_lock(&of->mutex);
+    of->is_led = false;
+    tell_loops(of, false, true);
+    pthread_mutex_unlock(&of->mutex);
+    tell_all(of);
+}
+
+/* Lets go of the file, the library's memory, and the place, but for the sessions of threads that are inside of theirs: each lets go of its
+ * own with its next call, and the last of them of the place. */
+static void let_go(heap *of) {
+    zelamiku_free(&of->handle);
+    close_file(of);
+    pthread_mutex_lock(&of->mutex);
+    free(of->dropped);
+    of->dropped = NULL;
+    for (uint32_t lane = 0; lane < of->lanes; lane++) {
+        seat *own = seat_at(of, lane);
+        own->is_left = own->is_busy;
+        if (own->is_left)
+            of->left++;
+        else
+            zelamiku_free(&own->session);
+    }
+    bool is_free = of->left == 0;
+    pthread_mutex_unlock(&of->mutex);
+    if (is_free) free_place(of);
+}
+
+/* A thread has learned that the heap is at its end, and is out of its section. */
+COLD void leave(heap *of, seat *own) {
+    bool is_last = false;
+    pthread_mutex_lock(&of->mutex);
+    if (own->locks > 0) own->is_cut = 1;
+    own->locks = 0;
+    own->open = 0;
+    own->is_busy = 0;
+    if (own->is_left) {
+        own->is_left = false;
+        zelamiku_free(&own->session);
+        is_last = --of->left == 0;
+    }
+    pthread_mutex_unlock(&of->mutex);
+    if (is_last) free_place(of);
+}
+
+/* Under the mutex: sleeps until another round has ended. */
+static void await_next_round(heap *of) {
+    uint64_t rounds = of->rounds;
+    while (of->rounds == rounds) {
+        uint32_t seen = of->told;
+        pthread_mutex_unlock(&of->mutex);
+        (void)sleep_on(&of->told, seen, ZELAMIKU_NO_DEADLINE);
+        pthread_mutex_lock(&of->mutex);
+    }
+}
+
+/* Under the mutex: whether nothing is open and all is durable, so that no section begins any more. RUNNING: a section is open or a thread
+ * waits. CALLS_LEFT: a section has ended since the last round. */
+static zelamiku_status try_stop(heap *of) {
+    zelamiku_status status = ZELAMIKU_OK;
+    shut(of, false);
+    for (uint32_t lane = 0; lane < of->lanes; lane++) {
+        seat *own = seat_at(of, lane);
+        if (own->is_busy)
+            status = ZELAMIKU_RUNNING;
+        else if (status == ZELAMIKU_OK && !is_durable(own, own->ended))
+            status = ZELAMIKU_CALLS_LEFT;
+    }
+    for (uint32_t lane = 0; status != ZELAMIKU_OK && lane < of->lanes; lane++)
+        if (seat_at(of, lane)->is_lent) seat_at(of, lane)->number = seat_at(of, lane)->known;
+    return status;
+}
+
+/* Under the mutex: waits until all is durable and nothing is open. */
+static zelamiku_status settle(heap *of) {
+    uint64_t troubles = of->troubles;
+    zelamiku_status status = (zelamiku_status)of->over;
+    while (status == ZELAMIKU_OK && (status = try_stop(of)) == ZELAMIKU_CALLS_LEFT) {
+        of->urgent = ZELAMIKU_ROUND_CLOSING;
+        ring_helper(of);
+        await_next_round(of);
+        status = trouble_since(of, troubles);
+        if (status == ZELAMIKU_OK) status = (zelamiku_status)of->over;
+    }
+    return status;
+}
+
+/* Under the mutex, which it gives back: the helper ends, and nobody leads any more. */
+static void end_helper(heap *of) {
+    of->is_taken = of->is_ending = true;
+    ring_helper(of);
+    pthread_mutex_unlock(&of->mutex);
+    (void)pthread_join(of->helper, NULL);
+    pthread_mutex_lock(&of->mutex);
+    lead_as_guest(of);
+    pthread_mutex_unlock(&of->mutex);
+}
+
+/* The library closes a heap whose sessions have all ended. All sections are durable, whatever becomes of the closing's own calls: what they
+ * leave is recovered. */
+static zelamiku_status close_cleanly(heap *of) {
+    zelamiku_status status = ZELAMIKU_OK;
+    uint64_t calls = 0;
+    for (uint32_t lane = 0; status == ZELAMIKU_OK && lane < of->lanes; lane++) status = zelamiku_end(&seat_at(of, lane)->session);
+    if (status == ZELAMIKU_OK) status = zelamiku_close(&of->handle);
+    if (status == ZELAMIKU_OK) status = make_calls(of, &calls);
+    return status == ZELAMIKU_DEVICE ? ZELAMIKU_OK : status == ZELAMIKU_STOPPED ? ZELAMIKU_LOST : status;
+}
+
+static zelamiku_status tell_end(heap *of, zelamiku_status status, int error, const char *call) {
+    if (status == ZELAMIKU_OK) {
+        tell_log(of, ZELAMIKU_LOG_INFO, "%s", text_of(of->over, 0));
+        return ZELAMIKU_OK;
+    }
+    bool has_cause = status == ZELAMIKU_LOST || status == ZELAMIKU_DEVICE;
+    return fail(of->path, status, has_cause ? error : 0, status == ZELAMIKU_DEVICE ? "a write has failed" : NULL, NULL, "%s", call);
+}
+
+static zelamiku_status close_heap(heap *of) {
+    pthread_mutex_lock(&of->mutex);
+    zelamiku_status status = of->is_taken ? (zelamiku_status)of->over : settle(of);
+    if (of->is_taken || status == ZELAMIKU_RUNNING || status == ZELAMIKU_DEVICE) {
+        pthread_mutex_unlock(&of->mutex);
+        return tell_end(of, status, of->error, "close");
+    }
+    end(of, ZELAMIKU_CLOSED);
+    of->is_settled = 1;
+    bool is_clean = status == ZELAMIKU_OK;
+    end_helper(of);
+    int error = of->error;
+    if (is_clean) {
+        status = close_cleanly(of);
+        if (status != ZELAMIKU_OK) error = errno;
+    }
+    tell_end_of_rounds(of);
+    let_go(of);
+    return tell_end(of, status, error, "close");
+}
+
+zelamiku_status zelamiku_heap_close(zelamiku_heap heap_) {
+    zelamiku_status status = ZELAMIKU_OK;
+    heap *of = begin_call(heap_, "close", &status);
+    if (of == NULL) return status;
+    status = close_heap(of);
+    end_call(of);
+    return status;
+}
+
+/* Stops the heap, so that all calls answer this. */
+static zelamiku_status stop_heap(heap *of, zelamiku_status why, const char *call) {
+    pthread_mutex_lock(&of->mutex);
+    zelamiku_status status = (zelamiku_status)of->over;
+    if (of->is_taken) {
+        pthread_mutex_unlock(&of->mutex);
+        return tell_end(of, status, of->error, call);
+    }
+    end(of, why);
+    end_helper(of);
+    int error = of->error;
+    if (status == ZELAMIKU_OK) {
+        /* A last round, for what has ended. */
+        status = lead(of, ZELAMIKU_ROUND_CLOSING, true);
+        error = of->error;
+    }
+    tell_end_of_rounds(of);
+    let_go(of);
+    return tell_end(of, status, error, call);
+}
+
+static zelamiku_status stop(zelamiku_heap heap_, zelamiku_status why, const char *call) {
+    zelamiku_status status = ZELAMIKU_OK;
+    heap *of = begin_call(heap_, call, &status);
+    if (of == NULL) return status;
+    status = stop_heap(of, why, call);
+    end_call(of);
+    return status;
+}
+
+zelamiku_status zelamiku_heap_stop(zelamiku_heap heap_) {
+    return stop(heap_, ZELAMIKU_CLOSED, "stop");
+}
+
+zelamiku_status zelamiku_heap_abandon(zelamiku_heap heap_) {
+    return stop(heap_, ZELAMIKU_ABANDONED, "abandon");
+}
+
+/* ---- what a service asks of it ---- */
+
+zelamiku_status zelamiku_heap_stats(zelamiku_heap heap_, zelamiku_stats *stats) {
+    zelamiku_status status = ZELAMIKU_OK;
+    if (stats == NULL) return nothing("stats", "give each");
+    memset(stats, 0, sizeof *stats);
+    heap *of = begin_call(heap_, "stats", &status);
+    if (of == NULL) return status;
+    pthread_mutex_lock(&of->mutex);
+    *stats = of->stats;
+    stats->troubles = of->troubles;
+    stats->awaiting = of->awaiting + of->is_own;
+    for (uint32_t lane = 0; lane < of->lanes; lane++) {
+        seat *other = seat_at(of, lane);
+        stats->sections += other->acknowledged;
+        stats->lent += other->is_lent;
+        stats->entering += other->wanted != 0;
+    }
+    pthread_mutex_unlock(&of->mutex);
+    end_call(of);
+    return ZELAMIKU_OK;
+}
+
+/* Sleeps until more rounds have ended than were seen. */
+static zelamiku_status await_round(heap *of, uint64_t seen, uint64_t deadline, uint64_t *rounds) {
+    zelamiku_status status = ZELAMIKU_OK;
+    uint64_t troubles = of->troubles;
+    run_soon(of);
+    of->awaiting++;
+    if (of->has_work || of->has_looks) {
+        of->arrivals++;
+        demand(of, ZELAMIKU_ROUND_AWAITED);
+    }
+    for (bool is_early = true;;) {
+        uint32_t word = of->told;
+        *rounds = of->rounds;
+        if (of->is_settled) status = (zelamiku_status)of->over;
+        if (status == ZELAMIKU_OK) status = trouble_since(of, troubles);
+        if (*rounds > seen || status != ZELAMIKU_OK || !is_early) break;
+        is_early = sleep_on(&of->told, word, deadline);
+    }
+    of->awaiting--;
+    return status == ZELAMIKU_OK ? status : tell_end(of, status, of->error, "await a round");
+}
+
+zelamiku_status zelamiku_heap_await_round(zelamiku_heap heap_, uint64_t seen, uint64_t deadline, uint64_t *rounds) {
+    zelamiku_status status = ZELAMIKU_OK;
+    if (rounds == NULL) return nothing("await a round", "give each");
+    *rounds = 0;
+    heap *of = begin_call(heap_, "await a round", &status);
+    if (of == NULL) return status;
+    status = await_round(of, seen, deadline, rounds);
+    end_call(of);
+    return status;
+}
+
+/* The bytes of the disk in memory, between two rounds: what the device has once all calls that are left are made. */
+static zelamiku_status copy_bytes(heap *of, uint8_t *bytes) {
+    zelamiku_status status = ZELAMIKU_OK;
+    uint64_t copied = 1;
+    for (uint64_t at = 0; status == ZELAMIKU_OK && at < of->size && copied > 0; at += copied)
+        status = zelamiku_copy(&of->handle, at, bytes + at, (size_t)(of->size - at), &copied);
+    return status;
+}
+
+/* The heap's bytes of a moment between two rounds, and the rights of its file. */
+static zelamiku_status take_bytes(heap *of, uint8_t *bytes, mode_t *mode) {
+    struct stat info = {0};
+    pthread_mutex_lock(&of->mutex);
+    zelamiku_status status = (zelamiku_status)of->over;
+    if (status == ZELAMIKU_OK) {
+        lead_as_guest(of);
+        status = (zelamiku_status)of->over;
+        pthread_mutex_unlock(&of->mutex);
+        if (status == ZELAMIKU_OK) {
+            (void)fstat(of->file, &info);
+            status = copy_bytes(of, bytes);
+        }
+        pthread_mutex_lock(&of->mutex);
+        lead_no_more(of, false);
+    }
+    pthread_mutex_unlock(&of->mutex);
+    tell_all(of);
+    *mode = info.st_mode & 0777;
+    return status;
+}
+
+/* Opens and locks what is at the draft's path, if there is something. DEVICE, by errno. */
+static zelamiku_status take_target(draft *it) {
+    struct stat info;
+    if (!open_listed(&it->old, it->path, O_RDWR, 0) && (errno == EACCES || errno == EROFS)) (void)open_listed(&it->old, it->path, O_RDONLY, 0);
+    if (it->old < 0) return errno == ENOENT ? ZELAMIKU_OK : ZELAMIKU_DEVICE;
+    if (fstat(it->old, &info) != 0) return ZELAMIKU_DEVICE;
+    if (S_ISREG(info.st_mode)) return lock_alone(it->old);
+    errno = S_ISDIR(info.st_mode) ? EISDIR : EINVAL;
+    return ZELAMIKU_DEVICE;
+}
+
+static zelamiku_status no_copy(const char *path) {
+    return fail(path, ZELAMIKU_DEVICE, errno, "the copy can't be written", "what was at the path is there still", "copy");
+}
+
+/* Begins a copy: what is at the path, at the end of links, is locked until the copy has replaced it. So it is no heap that somebody has open,
+ * and whoever opens it meanwhile is BUSY. */
+static zelamiku_status begin_copy(draft *it, const char *path) {
+    const char *cause = "a heap of that path is open";
+    zelamiku_status status = find_real_path(path, it->path) ? take_target(it) : ZELAMIKU_DEVICE;
+    if (status == ZELAMIKU_OK) status = begin_draft(it, 0600, &cause);
+    if (status == ZELAMIKU_BUSY) return fail(path, status, 0, cause, "give another path, or try again", "copy");
+    return status == ZELAMIKU_OK ? status : no_copy(path);
+}
+
+/* Writes the copy, and puts it in its place. */
+static zelamiku_status write_copy(draft *it, const char *path, const uint8_t *bytes, uint64_t size, mode_t mode) {
+    if (fchmod(it->file, mode) != 0) errno = 0; /* the system has no such rights */
+    if (!write_all(it->file, bytes, size, 0) || !sync_file(it->file)) return no_copy(path);
+    if (put_in_place(it)) return ZELAMIKU_OK;
+    if (!it->is_in_place) return no_copy(path);
+    return fail(path, ZELAMIKU_DEVICE, errno, "the new copy is at the path, but its folder can't be synced",
+                "a power failure may bring back what was there before: copy again", "copy");
+}
+
+static zelamiku_status copy_to(heap *of, const char *path) {
+    zelamiku_status status = ZELAMIKU_OK;
+    if (of->over != 0) return tell_end(of, (zelamiku_status)of->over, of->error, "copy");
+    if (of->size == 0) return errno = EBADF, no_copy(path); /* it has no file */
+    uint64_t size = of->size;
+    uint8_t *bytes = (uint8_t *)malloc(size);
+    if (bytes == NULL) return fail(of->path, ZELAMIKU_NO_MEMORY, 0, NULL, NULL, "copy");
+    draft it;
+    mode_t mode = 0;
+    list_draft(&it, NULL);
+    status = begin_copy(&it, path);
+    if (status == ZELAMIKU_OK) {
+        status = take_bytes(of, bytes, &mode);
+        status = status == ZELAMIKU_OK ? write_copy(&it, path, bytes, size, mode) : tell_end(of, status, of->error, "copy");
+    }
+    end_draft(&it);
+    free(bytes);
+    return status;
+}
+
+zelamiku_status zelamiku_heap_copy(zelamiku_heap heap_, const char *path) {
+    zelamiku_status status = ZELAMIKU_OK;
+    if (path == NULL) return nothing("copy", "give a path");
+    heap *of = begin_call(heap_, "copy", &status);
+    if (of == NULL) return status;
+    status = copy_to(of, path);
+    end_call(of);
+    return status;
+}

@@ -1,0 +1,154 @@
+/* How a thread sleeps and is woken: the clock, futexes, bells, and monitors that are waited for. */
+/* ---- sleeping and waking ---- */
+
+uint64_t zelamiku_now(void) {
+    struct timespec now = {0, 0};
+    (void)clock_gettime(CLOCK_MONOTONIC, &now);
+    return (uint64_t)now.tv_sec * SECOND + (uint64_t)now.tv_nsec;
+}
+
+static uint64_t after(uint64_t nanoseconds) {
+    uint64_t now = zelamiku_now();
+    return nanoseconds < ZELAMIKU_NO_DEADLINE - now ? now + nanoseconds : ZELAMIKU_NO_DEADLINE - 1;
+}
+
+static void nap(uint64_t nanoseconds) {
+    struct timespec time = {(time_t)(nanoseconds / SECOND), (long)(nanoseconds % SECOND)};
+    (void)nanosleep(&time, NULL);
+}
+
+/* Sleeps while the word is as it was seen, until somebody wakes, or the deadline; false after it. It may be woken for nothing. */
+static bool sleep_on(_Atomic uint32_t *word, uint32_t seen, uint64_t deadline) {
+    struct timespec due = {(time_t)(deadline / SECOND), (long)(deadline % SECOND)};
+    bool has_due = deadline != ZELAMIKU_NO_DEADLINE;
+    long answer = syscall(SYS_futex, word, FUTEX_WAIT_BITSET_PRIVATE, seen, has_due ? &due : NULL, NULL, FUTEX_BITSET_MATCH_ANY);
+    return answer == 0 || errno != ETIMEDOUT;
+}
+
+static void wake(_Atomic uint32_t *word, int count) {
+    (void)syscall(SYS_futex, word, FUTEX_WAKE_PRIVATE, count, NULL, NULL, 0);
+}
+
+/* Sleeps until somebody rings, or has since the last sleep; false where the deadline comes before. Look again for what it was. */
+static bool sleep_seat(seat *own, uint64_t deadline) {
+    while (atomic_exchange(&own->bell, 0) == 0)
+        if (!sleep_on(&own->bell, 0, deadline)) return atomic_exchange(&own->bell, 0) != 0;
+    return true;
+}
+
+static void ring_seat(seat *other) {
+    if (atomic_exchange(&other->bell, 1) == 0) wake(&other->bell, 1);
+}
+
+/* Under the mutex. */
+static void ring_helper(heap *of) {
+    of->bell++;
+    wake(&of->bell, 1);
+}
+
+/* Tells all that wait for a round. */
+static void tell_all(heap *of) {
+    of->told++;
+    wake(&of->told, INT_MAX);
+}
+
+/* Under the mutex: asks for a round, now. Where one was asked for that hasn't begun, it will be that one. Who leads looks at its end. */
+static void ask(heap *of, uint32_t cause) {
+    if (of->urgent == 0 && !of->is_led) ring_helper(of);
+    of->urgent = cause;
+}
+
+static void demand(heap *of, uint32_t cause) {
+    pthread_mutex_lock(&of->mutex);
+    ask(of, cause);
+    pthread_mutex_unlock(&of->mutex);
+}
+
+/* ---- monitors that are waited for ---- */
+
+/* Wakes the one that waits longest for the object's monitor. It stays where it waits until it has the monitor, so it may be woken twice,
+ * and another one not at all: whoever has the monitor then wakes it. */
+COLD void wake_first(heap *of, uint32_t object) {
+    seat *first = NULL;
+    pthread_mutex_lock(&of->mutex);
+    for (uint32_t lane = 0; lane < of->lanes; lane++) {
+        seat *other = seat_at(of, lane);
+        if (other->wanted == object + 1 && (first == NULL || other->turn < first->turn)) first = other;
+    }
+    pthread_mutex_unlock(&of->mutex);
+    if (first != NULL) ring_seat(first);
+}
+
+/* The lane waits for the object's monitor from now on; whether it didn't before. A try comes after it, so that whoever frees the monitor
+ * after that try finds the lane here. */
+static bool want(heap *of, seat *own, uint32_t object) {
+    pthread_mutex_lock(&of->mutex);
+    bool is_new = own->wanted == 0;
+    if (is_new) {
+        own->wanted = object + 1;
+        own->turn = ++of->turns;
+        of->waiting[object % BUCKETS]++;
+    }
+    pthread_mutex_unlock(&of->mutex);
+    return is_new;
+}
+
+/* The lane waits for no monitor any more. One that hasn't taken it hands its wake on. */
+static void want_no_more(heap *of, seat *own, bool has_taken) {
+    pthread_mutex_lock(&of->mutex);
+    uint32_t wanted = own->wanted;
+    own->wanted = 0;
+    own->is_told = false;
+    if (wanted != 0) of->waiting[(wanted - 1) % BUCKETS]--;
+    pthread_mutex_unlock(&of->mutex);
+    if (wanted != 0 && !has_taken) wake_first(of, wanted - 1);
+}
+
+/* By how many locks the lane holds the monitor. */
+static uint32_t locks_of(seat *own, uint32_t object) {
+    zelamiku_sight sight = {ZELAMIKU_NOBODY, 0, 0};
+    bool is_ours = zelamiku_look(&own->session, object, &sight) == ZELAMIKU_OK && sight.owner == own->lane;
+    return is_ours ? sight.locks : 0;
+}
+
+/* Whether what the lane has sent and isn't durable is enough for a round. It counts records, and is told of sections: as large a part of the
+ * records is taken to be durable as of the sections, which is about right. */
+static bool has_enough(const heap *of, seat *own) {
+    uint64_t ended = own->ended, durable = own->acknowledged;
+    if (durable > own->counted) {
+        own->records = (uint32_t)(own->records * (ended - durable) / (ended - own->counted));
+        own->counted = durable;
+    }
+    return own->records >= of->enough;
+}
+
+/* A section has ended that the helper may not know of. While its look is due within the linger nobody has to wake it. */
+COLD void tell_of_work(heap *of, seat *own) {
+    if (own->records >= of->enough && has_enough(of, own)) {
+        own->records = 0;
+        own->counted = own->ended;
+        of->has_work = 1;
+        demand(of, ZELAMIKU_ROUND_FULL);
+    } else if (atomic_exchange(&of->has_work, 1) == 0 && (of->awaiting > 0 || !of->watches)) {
+        pthread_mutex_lock(&of->mutex);
+        ring_helper(of);
+        pthread_mutex_unlock(&of->mutex);
+    }
+}
+
+/* Locks of a monitor were given back. With the last lock of all a section has ended. What is looked at here, and what is written before,
+ * stands in the one order of all, as the library's step that has freed the monitor does. So one that waits for the monitor was put down
+ * before, or finds it free; and who leads learns of the section by the count, which it reads when it takes all work to be known, or by the
+ * word. */
+COLD void tell_and_wake(seat *own, uint32_t object, bool waits) {
+    heap *of = own->of;
+    bool is_end = own->locks == 0;
+    count_call(of); /* before it isn't busy */
+    if (is_end && own->is_busy) {
+        if (of->has_work == 0 || own->records >= of->enough) tell_of_work(of, own);
+        if (!waits) atomic_store_explicit(&own->is_busy, 0, memory_order_release);
+    }
+    /* Somebody waits: the first is woken, unless another lock of the monitor is left. */
+    if (of->waiting[object % BUCKETS] > 0 && (is_end || locks_of(own, object) == 0)) wake_first(of, object);
+    end_call(of);
+}

@@ -1,0 +1,269 @@
+/* Taking a section back: what it changes is kept as it stores, and zelamiku_thread_revert stores the old values again. Room for that is kept
+ * too: so the records of the section that is open are counted here, as the library counts them. */
+static zelamiku_status why_not(seat *own, zelamiku_thread thread, const char *call);
+static zelamiku_status why_not_of(heap *of, seat *own, zelamiku_thread thread, const char *call);
+static zelamiku_status refused(seat *own, zelamiku_status status, const char *call, const char *what, uint32_t number);
+static zelamiku_status enter_slowly(seat *own, uint32_t object, zelamiku_status status, uint64_t deadline, const char *call);
+
+/* ---- the section's changes ---- */
+
+/* Nothing is kept from here on, and no value that was. */
+static inline void keep_nothing(changes *all) {
+    all->stamp++;
+    all->last = NO_FIELD;
+    all->guard = NO_OBJECT;
+    all->guards = 0;
+}
+
+/* The changes of the section that is open. Where they are another section's, this one has taken its first monitor and done nothing else: all
+ * other steps of a section come here. */
+static inline changes *changes_of(seat *own) {
+    changes *all = own->changes;
+    if (all->section != own->ended) {
+        all->section = own->ended;
+        all->used = 2; /* that monitor's taking and its freeing */
+        all->is_past = false;
+        keep_nothing(all);
+    }
+    return all;
+}
+
+/* A step of a section needs as much: the freeing of a monitor was counted when it was taken. */
+static inline bool has_room(const changes *all, uint32_t more) {
+    return all->used + more <= ZELAMIKU_MOST_RECORDS;
+}
+
+static bool has_stored_under(const changes *all, uint32_t object) {
+    for (uint32_t i = 0; i < all->guards; i++)
+        if (all->under[i] == object) return true;
+    return false;
+}
+
+/* The section stores under this monitor, which it holds. Where it has stored under 16 others one of them isn't held any more: that one is found by
+ * a revert, so that this one needn't be. */
+static void note_guard(changes *all, uint16_t guard) {
+    all->guard = guard;
+    if (has_stored_under(all, guard)) return;
+    if (all->guards < ZELAMIKU_MOST_HELD) all->under[all->guards++] = guard;
+}
+
+static inline bool is_kept(const changes *all, uint32_t field) {
+    return all->fields[field].stamp == all->stamp;
+}
+
+/* Keeps the value of a field that the section has stored to first. */
+static inline void keep(changes *all, kept_field *kept, uint32_t field, uint64_t before) {
+    kept->stamp = all->stamp;
+    kept->value = before;
+    kept->next = all->last;
+    all->last = field;
+    if (all->guard != kept->guard) note_guard(all, kept->guard);
+}
+
+/* ---- stores ---- */
+
+/* There is no room for a store to the field; but of a guard that isn't held the library would have told before. */
+COLD zelamiku_status no_room(seat *own, uint32_t field) {
+    uint64_t value = 0;
+    zelamiku_status status = zelamiku_load(&own->session, field, &value);
+    return refused(own, status == ZELAMIKU_OK ? ZELAMIKU_SECTION_FULL : status, "store", "field", field);
+}
+
+/* Stores where a section's changes are kept, and answers as the library does. */
+static __attribute__((noinline)) zelamiku_status store_keeping(seat *own, uint32_t field, uint64_t value) {
+    changes *all = changes_of(own);
+    if (SELDOM(field >= all->all)) return refused(own, ZELAMIKU_UNKNOWN_FIELD, "store", "field", field);
+    kept_field *kept = &all->fields[field];
+    uint64_t before = 0;
+    bool is_first = kept->stamp != all->stamp;
+    if (SELDOM(!has_room(all, kept->records << is_first))) return no_room(own, field);
+    zelamiku_status status = ZELAMIKU_OK;
+    if (is_first) status = zelamiku_load(&own->session, field, &before);
+    if (SELDOM(status != ZELAMIKU_OK)) return refused(own, status, "store", "field", field);
+    status = zelamiku_store(&own->session, field, value);
+    if (SELDOM(status != ZELAMIKU_OK)) return refused(own, status, "store", "field", field);
+    own->records++;
+    own->has_stored = 1;
+    all->used += (uint32_t)kept->records << is_first;
+    if (is_first) keep(all, kept, field, before);
+    return ZELAMIKU_OK;
+}
+
+/* Two fields that one call of a pool stores to, and their values. */
+typedef struct {
+    uint32_t head, cell;
+    uint64_t head_value, cell_value;
+} pool_stores;
+
+static bool loads(seat *own, uint32_t field, uint64_t *value) {
+    return zelamiku_load(&own->session, field, value) == ZELAMIKU_OK;
+}
+
+/* Whether the pool's call stores to two fields, unless it has no room. Else the library refuses it for another cause. */
+static bool takes(seat *own, uint32_t head, uint32_t slots, pool_stores *two) {
+    two->head = head;
+    if ((uint64_t)head + slots >= ZELAMIKU_MOST_FIELDS || !loads(own, head, &two->head_value)) return false;
+    if (two->head_value == 0 || two->head_value > slots) return false;
+    two->cell = head + (uint32_t)two->head_value;
+    return loads(own, two->cell, &two->cell_value) && two->cell_value <= slots;
+}
+
+static bool gives(seat *own, uint32_t head, uint32_t slots, uint32_t slot, pool_stores *two) {
+    two->head = head;
+    if ((uint64_t)head + slots >= ZELAMIKU_MOST_FIELDS || slot >= slots) return false;
+    two->cell = head + 1 + slot;
+    return loads(own, two->cell, &two->cell_value) && two->cell_value == UINT64_MAX && loads(own, head, &two->head_value) &&
+           two->head_value <= slots;
+}
+
+/* How many records a store to the field takes of the section's: its own, and where it is the first, that which puts the old value back. */
+static uint32_t room_for(const changes *all, uint32_t field) {
+    return (uint32_t)all->fields[field].records << !is_kept(all, field);
+}
+
+static bool has_room_for(const changes *all, const pool_stores *two) {
+    return has_room(all, room_for(all, two->head) + room_for(all, two->cell));
+}
+
+static void note_stores(changes *all, const pool_stores *two) {
+    all->used += room_for(all, two->head) + room_for(all, two->cell);
+    if (!is_kept(all, two->head)) keep(all, &all->fields[two->head], two->head, two->head_value);
+    if (!is_kept(all, two->cell)) keep(all, &all->fields[two->cell], two->cell, two->cell_value);
+}
+
+/* A pool's calls, where a section's changes are kept. */
+static zelamiku_status take_keeping(seat *own, uint32_t head, uint32_t slots, uint32_t *slot) {
+    changes *all = changes_of(own);
+    pool_stores two = {0, 0, 0, 0};
+    bool is_taken = takes(own, head, slots, &two);
+    if (is_taken && !has_room_for(all, &two)) return ZELAMIKU_SECTION_FULL;
+    zelamiku_status status = zelamiku_pool_take(&own->session, head, slots, slot);
+    assert((status == ZELAMIKU_OK) == is_taken);
+    if (is_taken) note_stores(all, &two);
+    return status;
+}
+
+static zelamiku_status give_keeping(seat *own, uint32_t head, uint32_t slots, uint32_t slot) {
+    changes *all = changes_of(own);
+    pool_stores two = {0, 0, 0, 0};
+    bool is_given = gives(own, head, slots, slot, &two);
+    if (is_given && !has_room_for(all, &two)) return ZELAMIKU_SECTION_FULL;
+    zelamiku_status status = zelamiku_pool_give(&own->session, head, slots, slot);
+    assert((status == ZELAMIKU_OK) == is_given);
+    if (is_given) note_stores(all, &two);
+    return status;
+}
+
+/* ---- monitors ---- */
+
+/* The section, which goes on, has taken a monitor that it didn't hold. Where it has stored under it, others may have stored there since. */
+static void note_taken(changes *all, uint32_t object) {
+    all->used += 2;
+    assert(has_room(all, 0));
+    if (has_stored_under(all, object)) all->is_past = true;
+}
+
+/* One lock more, where a section is open. */
+static __attribute__((noinline)) zelamiku_status enter_keeping(seat *own, uint32_t object, uint64_t deadline, const char *call) {
+    changes *all = changes_of(own);
+    zelamiku_sight sight = {ZELAMIKU_NOBODY, 0, 0};
+    bool is_more = zelamiku_look(&own->session, object, &sight) == ZELAMIKU_OK && sight.owner != own->lane;
+    if (SELDOM(is_more && !has_room(all, 2))) return refused(own, ZELAMIKU_SECTION_FULL, call, "object", object);
+    zelamiku_status status = zelamiku_try_enter(&own->session, object);
+    if (SELDOM(status != ZELAMIKU_OK)) status = enter_slowly(own, object, status, deadline, call);
+    if (SELDOM(status != ZELAMIKU_OK)) return status;
+    if (is_more) note_taken(all, object);
+    own->locks++;
+    return ZELAMIKU_OK;
+}
+
+/* ---- reverting ---- */
+
+/* Whether the section still holds each monitor under which it has stored. Exits aren't counted here: one that was freed is free now, or was
+ * taken again. */
+static bool can_revert(seat *own, changes *all) {
+    for (uint32_t i = 0; i < all->guards && !all->is_past; i++) all->is_past = locks_of(own, all->under[i]) == 0;
+    return !all->is_past;
+}
+
+/* Stores back what is kept. Nothing is refused: each guard is held, and there is room. At the heap's end too: nothing of a section that hasn't
+ * ended is durable then, so half of this neither. */
+static void put_back(seat *own, changes *all) {
+    for (uint32_t field = all->last; field != NO_FIELD; field = all->fields[field].next) {
+        assert(is_kept(all, field));
+        zelamiku_status status = zelamiku_store(&own->session, field, all->fields[field].value);
+        assert(status == ZELAMIKU_OK);
+        (void)status;
+        own->records += all->fields[field].records;
+    }
+    keep_nothing(all);
+}
+
+/* Why nothing is put back, in a call that is counted. */
+static zelamiku_status not_reverted(heap *of, seat *own, zelamiku_thread thread, bool was_open) {
+    zelamiku_status status = why_not_of(of, own, thread, "revert");
+    if (status != ZELAMIKU_OK) return status;
+    if (!of->reverts)
+        return fail(of->path, ZELAMIKU_WRONG_KIND, 0, "the heap's plan doesn't keep what a section changes", "open it with reverts = 1", "revert");
+    if (!was_open) return fail(of->path, ZELAMIKU_NOT_HELD, 0, "no section is open", "enter an object before", "revert");
+    return fail(of->path, ZELAMIKU_NOT_HELD, 0, "the section has given back a monitor under which it had stored",
+                "revert before that, or store the old values by calls of your own", "revert");
+}
+
+zelamiku_status zelamiku_thread_revert(zelamiku_thread thread) {
+    seat *own = seat_of(thread);
+    bool was_open = is_open(own, thread);
+    if (was_open && own->changes != NULL && can_revert(own, changes_of(own))) {
+        put_back(own, own->changes);
+        return is_open(own, thread) ? ZELAMIKU_OK : why_not(own, thread, "revert");
+    }
+    heap *of = place_of(own);
+    count_call(of);
+    zelamiku_status status = not_reverted(of, own, thread, was_open);
+    end_call(of);
+    return status;
+}
+
+/* ---- room for it ---- */
+
+/* Reads which guard each field has, and whether it is transient, by the image's guard rows (docs/FORMAT.md). */
+static zelamiku_status read_rows(zelamiku_handle *handle, changes *all) {
+    uint8_t bytes[4096];
+    uint64_t copied = 0;
+    for (uint32_t first = 0; first < all->all; first += sizeof bytes / 16) {
+        zelamiku_status status = zelamiku_copy(handle, 2160 + 16 * (uint64_t)first, bytes, sizeof bytes, &copied);
+        if (status != ZELAMIKU_OK) return status;
+        for (uint32_t i = 0; i < sizeof bytes / 16 && first + i < all->all; i++) {
+            const uint8_t *row = bytes + 16 * (size_t)i;
+            all->fields[first + i].guard = (uint16_t)(row[2] << 8 | row[3]);
+            all->fields[first + i].records = row[4] == 0;
+        }
+    }
+    return ZELAMIKU_OK;
+}
+
+/* Room for all that a section of so many fields may change, so that none allocates; it shares no cache line with another lane's. */
+static changes *new_changes(uint32_t count) {
+    const size_t line = 128;
+    size_t size = (sizeof(changes) + (size_t)count * sizeof(kept_field) + line - 1) / line * line;
+    changes *all = (changes *)aligned_alloc(line, size);
+    if (all == NULL) return NULL;
+    memset(all, 0, size);
+    all->section = UINT64_MAX; /* none yet; the stamp of each that comes is above 0, as no field's is now */
+    all->all = count;
+    return all;
+}
+
+/* Every lane keeps what its sections change from now on. It is freed with the heap's place, also after a failure. */
+static zelamiku_status keep_changes(heap *of, zelamiku_handle *handle) {
+    uint8_t header[ZELAMIKU_HEADER_BYTES] = {0};
+    uint64_t copied = 0;
+    zelamiku_status status = zelamiku_copy(handle, 0, header, sizeof header, &copied);
+    uint32_t count = (uint32_t)header[16] << 24 | (uint32_t)header[17] << 16 | (uint32_t)header[18] << 8 | header[19];
+    for (uint32_t lane = 0; status == ZELAMIKU_OK && lane < of->lanes; lane++) {
+        seat *own = seat_at(of, lane);
+        own->changes = new_changes(count);
+        status = own->changes == NULL ? ZELAMIKU_NO_MEMORY : read_rows(handle, own->changes);
+    }
+    return status;
+}

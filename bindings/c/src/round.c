@@ -1,0 +1,358 @@
+/* Rounds: who makes one, what it takes, whom it tells, and the helper's thread. */
+/* ---- waiting for a round ---- */
+
+static bool is_durable(const seat *own, uint64_t sections) {
+    return own->acknowledged >= sections;
+}
+
+/* DEVICE where a write has failed since there were so many troubles. */
+static zelamiku_status trouble_since(const heap *of, uint64_t troubles) {
+    return of->troubles == troubles ? ZELAMIKU_OK : ZELAMIKU_DEVICE;
+}
+
+/* Sleeps until the next step of who leads, or the deadline. */
+static zelamiku_status sleep_for_step(heap *of, seat *own, uint64_t step, unsigned *demands, uint64_t deadline, bool *is_late) {
+    uint64_t troubles = of->troubles;
+    zelamiku_status status;
+    of->awaiting++;
+    own->is_behind = 1;
+    /* A round that takes records, or has begun to since, gives what another one would; and so does one that comes at once. */
+    if (step % 2 == 0 && of->steps == step && !of->leaves && *demands < DEMANDS) {
+        ++*demands;
+        demand(of, ZELAMIKU_ROUND_ROOM);
+    }
+    while ((status = trouble_since(of, troubles)) == ZELAMIKU_OK && (status = (zelamiku_status)of->over) == ZELAMIKU_OK && !*is_late &&
+           of->steps == step)
+        *is_late = !sleep_seat(own, deadline);
+    own->is_behind = 0;
+    of->awaiting--;
+    return status;
+}
+
+/* Waits for room, of which there was none at that step. While who leads takes records the thread looks again and again, so that what it
+ * does then is taken by the same round; while calls are made, which may last, it sleeps. Where as many wait as there are processors, they
+ * nap: the longer, the more they are, so that all of them together look as often as one does. */
+static zelamiku_status await_room(heap *of, seat *own, uint64_t step, unsigned *demands, uint64_t deadline, bool *is_late) {
+    uint64_t now = zelamiku_now();
+    *is_late = now >= deadline;
+    if (step % 2 == 0 || now >= of->haste) return sleep_for_step(of, own, step, demands, deadline, is_late);
+    uint32_t waiting = ++of->awaiting;
+    if (waiting < of->processors)
+        (void)sched_yield();
+    else
+        nap((uint64_t)NAP * waiting);
+    of->awaiting--;
+    return ZELAMIKU_OK;
+}
+
+/* ---- a round ---- */
+
+/* Waits until as many threads have come for their sections as the last round has told, and event loops have ended as many, a part of its
+ * calls' time at most: a round that one of them misses costs it a whole one. */
+static void gather(heap *of) {
+    uint64_t now = zelamiku_now(), part = of->last_calls / GATHER, soon = now + NAP / 2;
+    uint64_t end = now + (part < MOST_PART ? part : MOST_PART);
+    while (of->arrivals + sections_of_loops(of) < of->expected + of->expected_sections && (now = zelamiku_now()) < end)
+        if (now < soon)
+            __builtin_ia32_pause();
+        else
+            nap(NAP / 2);
+}
+
+/* Wakes those that sleep without room. */
+static void go_on(heap *of) {
+    for (uint32_t lane = 0; lane < of->lanes; lane++)
+        if (seat_at(of, lane)->is_behind) ring_seat(seat_at(of, lane));
+}
+
+/* Waits until they are awake, or until that time: else the rings may be empty before the first of them has gone on. */
+static void let_come(heap *of, uint64_t end) {
+    for (uint32_t lane = 0; lane < of->lanes; lane++)
+        while (seat_at(of, lane)->is_behind && zelamiku_now() < end) nap(NAP);
+}
+
+/* How many records a round takes at most, where so many lanes have sections for it, and so many threads wait for theirs. The rule: as many as
+ * the last round would have taken in the time of its calls. So one that waits isn't kept for long by what other lanes send, and no more time goes
+ * into calls than into the rest. At least FEWEST for each lane: so a thousand sections of four records are one round. Where nobody waits, or as
+ * many as there are lanes, nobody is kept by others: a ring's fill for each lane then. */
+static uint64_t bound(const heap *of, uint32_t lanes, uint32_t waiting) {
+    uint64_t least = waiting == 0 || waiting >= lanes ? of->room : FEWEST;
+    least *= lanes > 0 ? lanes : 1;
+    return of->paid > least ? of->paid : least;
+}
+
+/* Notes how long taking so many records took, and the calls after it. */
+static void note_times(heap *of, uint64_t records, uint64_t taking, uint64_t calls) {
+    of->last_calls = calls;
+    if (calls > MOST_PART) calls = MOST_PART;
+    if (records > 0) of->paid = records * calls / (taking + 1);
+}
+
+/* Takes what the threads have done, at most so many records, and tells how long that took. Where calls take long it is worth some time that
+ * much comes into one round: those without room are woken before. Else they have room soon, and sleep until all is taken. */
+static zelamiku_status take(heap *of, uint64_t most, uint64_t *records, uint64_t *time) {
+    uint64_t begun = zelamiku_now(), part = of->last_calls / PART;
+    if (part > MOST_PART) part = MOST_PART;
+    of->haste = begun + part;
+    of->steps++;
+    if (part > NAP) {
+        go_on(of);
+        let_come(of, begun + part / 4);
+    }
+    begun = zelamiku_now();
+    zelamiku_status status = zelamiku_round(&of->handle, most, records);
+    *time = zelamiku_now() - begun;
+    of->leaves = *records == most;
+    of->steps++;
+    go_on(of);
+    return status;
+}
+
+static zelamiku_status make_calls(heap *of, uint64_t *calls) {
+    uint64_t made = 0;
+    zelamiku_status status = of->make_calls(&of->handle, of->device, &made);
+    *calls += made;
+    return status;
+}
+
+/* Makes the calls that a failed write left, a round of at most so many records, and its calls, and counts what is durable by them. */
+static zelamiku_status round_and_calls(heap *of, uint64_t most, zelamiku_stats *count) {
+    uint64_t taking = 0;
+    zelamiku_status status = make_calls(of, &count->calls);
+    if (status == ZELAMIKU_OK) status = take(of, most, &count->records, &taking);
+    uint64_t begun = zelamiku_now();
+    if (status == ZELAMIKU_OK) status = make_calls(of, &count->calls);
+    count->calls_time = zelamiku_now() - begun;
+    note_times(of, count->records, taking, count->calls_time);
+    for (uint32_t lane = 0; status == ZELAMIKU_OK && lane < of->lanes; lane++) {
+        uint64_t sections = 0;
+        status = zelamiku_acknowledged(&of->handle, lane, &sections);
+        if (status == ZELAMIKU_OK && seat_at(of, lane)->acknowledged != sections) seat_at(of, lane)->acknowledged = sections;
+    }
+    return status == ZELAMIKU_STOPPED ? ZELAMIKU_LOST : status;
+}
+
+/* Under the mutex: calls that come from now on look at `over`. */
+static void shut(heap *of, bool is_for_good) {
+    for (uint32_t lane = 0; lane < of->lanes; lane++) {
+        seat_at(of, lane)->number = 0;
+        if (is_for_good) seat_at(of, lane)->open = 0;
+    }
+}
+
+/* Under the mutex: the heap is at its end, and whoever sleeps is told. */
+static void end(heap *of, zelamiku_status status) {
+    if (of->over != 0) return;
+    of->over = (uint32_t)status;
+    shut(of, true);
+    tell_loops(of, false, true);
+    for (uint32_t lane = 0; lane < of->lanes; lane++) ring_seat(seat_at(of, lane));
+}
+
+/* Under the mutex: who leads does no more. */
+static void lead_no_more(heap *of, bool is_helper) {
+    of->is_led = of->is_own = false;
+    bool has_news = (of->has_work && (of->awaiting > 0 || !of->watches)) || (of->has_looks && of->awaiting > 0);
+    if (!is_helper && (of->urgent != 0 || of->leaves || has_news || of->is_troubled || of->is_ending)) ring_helper(of);
+}
+
+static void add_up(zelamiku_stats *all, const zelamiku_stats *round) {
+    all->rounds++;
+    all->records += round->records;
+    all->calls += round->calls;
+    all->calls_time += round->calls_time;
+    all->last_cause = round->last_cause;
+    all->is_astray = round->is_astray;
+    if (round->longest_round > all->longest_round) all->longest_round = round->longest_round;
+}
+
+/* Tells what a round came to, and wakes those that waited for it. */
+static void finish(heap *of, zelamiku_status status, int error, const zelamiku_stats *round, bool is_helper) {
+    bool is_trouble = status == ZELAMIKU_DEVICE, is_end = status != ZELAMIKU_OK && !is_trouble;
+    pthread_mutex_lock(&of->mutex);
+    bool was_troubled = of->is_troubled;
+    of->is_troubled = is_trouble;
+    if (is_trouble) of->leaves = 0; /* it doesn't come at once */
+    add_up(&of->stats, round);
+    of->stats.syncs = of->syncs_made;
+    /* Of what the heap has ended with the first cause, also where a stop has set another status meanwhile. */
+    if (is_trouble || (is_end && !of->is_settled)) of->error = error;
+    of->troubles += is_trouble;
+    if (is_end) {
+        end(of, status);
+        of->is_settled = 1;
+    }
+    of->rounds++;
+    of->awaiting -= of->sleepers;
+    of->sleepers = 0;
+    tell_loops(of, is_trouble, false);
+    lead_no_more(of, is_helper);
+    pthread_mutex_unlock(&of->mutex);
+    tell_all(of);
+    if (is_trouble) go_on(of);
+    if (is_end) tell_log(of, ZELAMIKU_LOG_ERROR, "%s: %s; %s", text_of(status, 0), strerror(error), text_of(status, 1));
+    if (is_trouble && !was_troubled) tell_log(of, ZELAMIKU_LOG_WARNING, "a write has failed, and is made again: %s", strerror(error));
+    if (was_troubled && status == ZELAMIKU_OK) tell_log(of, ZELAMIKU_LOG_INFO, "writes go on");
+}
+
+/* Looks each second, while rounds are made, whether the path leads to the heap's file still. Where that can't be known it is as it was. */
+static bool is_astray(heap *of) {
+    struct stat own, named;
+    uint64_t now = zelamiku_now();
+    bool was = of->stats.is_astray != 0;
+    if (of->where == NULL || now - of->looked < SECOND) return was;
+    of->looked = now;
+    bool is_there = stat(of->where, &named) == 0;
+    if ((!is_there && errno != ENOENT && errno != ENOTDIR) || fstat(of->file, &own) != 0) return was;
+    return !is_there || own.st_dev != named.st_dev || own.st_ino != named.st_ino;
+}
+
+/* Makes a round. The caller has begun to lead; afterwards it doesn't any more. */
+static zelamiku_status lead(heap *of, uint32_t cause, bool is_helper) {
+    zelamiku_stats round = {.last_cause = cause};
+    if (cause == ZELAMIKU_ROUND_AWAITED) gather(of);
+    uint64_t begun = zelamiku_now();
+    pthread_mutex_lock(&of->mutex);
+    of->urgent = 0;
+    pthread_mutex_unlock(&of->mutex);
+    uint32_t come = atomic_exchange(&of->arrivals, 0), sections = sections_of_loops(of);
+    /* No section that has ended before is unknown to this round: one of whose end nothing is learned here finds the word 0, and tells. */
+    of->has_looks = 0;
+    of->has_work = 0;
+    uint32_t lanes = 0, waiting = (come > of->expected ? come : of->expected) + begin_for_loops(of);
+    for (uint32_t lane = 0; lane < of->lanes; lane++) lanes += seat_at(of, lane)->ended > seat_at(of, lane)->acknowledged;
+    /* Nothing comes after the last one. */
+    uint64_t most = cause == ZELAMIKU_ROUND_CLOSING ? ZELAMIKU_ALL : bound(of, lanes, waiting);
+    zelamiku_status status = round_and_calls(of, most, &round);
+    int error = errno;
+    of->expected = come + of->arrivals;
+    of->expected_sections = sections + sections_of_loops(of);
+    round.longest_round = zelamiku_now() - begun;
+    of->looks = round.longest_round < LOOKS ? LOOKS : 0;
+    round.is_astray = is_astray(of);
+    bool has_strayed = round.is_astray != 0 && of->stats.is_astray == 0;
+    finish(of, status, error, &round, is_helper);
+    if (has_strayed) tell_log(of, ZELAMIKU_LOG_WARNING, "the path doesn't lead to the heap's file any more: it was removed or replaced");
+    return status;
+}
+
+/* The first that waits for a round makes it, for all that come: it needn't wake the helper, nor be woken by it. Whether it leads now; else it
+ * waits from now on until a round has ended, if it doesn't yet since the round `counted`. One with a deadline leaves the round to the helper,
+ * and so does each after a failed write. */
+static bool leads_or_counts(heap *of, bool has_deadline, uint64_t *counted) {
+    pthread_mutex_lock(&of->mutex);
+    bool has_news = of->has_work || of->has_looks || of->leaves, is_free = !of->is_led && of->guests == 0 && of->over == 0;
+    bool leads = is_free && has_news && !has_deadline && !of->is_troubled;
+    if (leads) {
+        of->is_led = of->is_own = true;
+    } else if (*counted != of->rounds) {
+        *counted = of->rounds;
+        of->awaiting++;
+        of->sleepers++;
+        if (of->is_troubled || (has_deadline && has_news)) ask(of, ZELAMIKU_ROUND_AWAITED);
+    }
+    pthread_mutex_unlock(&of->mutex);
+    return leads;
+}
+
+/* The thread waits no more; whom no round has told since it was counted is counted still. */
+static void count_no_more(heap *of, uint64_t counted) {
+    if (of->rounds != counted) return;
+    pthread_mutex_lock(&of->mutex);
+    if (of->rounds == counted) {
+        of->awaiting--;
+        of->sleepers--;
+    }
+    pthread_mutex_unlock(&of->mutex);
+}
+
+/* Under the mutex, which it gives back while it sleeps: leads, for something else than a round. */
+static void lead_as_guest(heap *of) {
+    of->guests++;
+    while (of->is_led) {
+        uint32_t seen = of->told;
+        pthread_mutex_unlock(&of->mutex);
+        (void)sleep_on(&of->told, seen, ZELAMIKU_NO_DEADLINE);
+        pthread_mutex_lock(&of->mutex);
+    }
+    of->guests--;
+    of->is_led = true;
+}
+
+/* ---- the helper ---- */
+
+/* Under the mutex: why a round comes now. */
+static uint32_t cause_of(const heap *of, bool is_due) {
+    if (of->over != 0) return ZELAMIKU_ROUND_NONE;
+    if (of->urgent != 0) return of->urgent;
+    if (of->is_troubled) return is_due ? ZELAMIKU_ROUND_AGAIN : ZELAMIKU_ROUND_NONE;
+    if (of->leaves) return ZELAMIKU_ROUND_LEFT;
+    if (of->awaiting > 0 && (of->has_work || of->has_looks)) return ZELAMIKU_ROUND_AWAITED;
+    return of->has_work && is_due ? ZELAMIKU_ROUND_LINGER : ZELAMIKU_ROUND_NONE;
+}
+
+/* Whether a section that has stored has ended and isn't durable. Its lane's count is read first: with it comes what was stored. */
+static bool has_stores(heap *of) {
+    for (uint32_t lane = 0; lane < of->lanes; lane++) {
+        seat *other = seat_at(of, lane);
+        if (other->ended > other->acknowledged && other->last_stored > other->acknowledged) return true;
+    }
+    return false;
+}
+
+/* Under the mutex, once the linger has passed and while nobody leads: whether a round comes for that. What has only been looked at needs none:
+ * it goes with the next round, or with one for a thread that waits. The lanes are looked at after the word is 0, so that a section that ends
+ * meanwhile is seen, or tells. */
+static bool comes_by_linger(heap *of) {
+    if (!of->has_work || of->urgent != 0 || of->is_troubled || of->awaiting > 0) return true;
+    of->has_looks = 1;
+    of->has_work = 0;
+    if (!has_stores(of)) return false;
+    of->has_work = 1;
+    return true;
+}
+
+/* Under the mutex, which it gives back while it sleeps: sleeps until a round is to be made, and says why; NONE: the heap is at its end. After
+ * a round the helper looks again within the linger, so that no section's end has to wake it meanwhile. A look that finds nothing is the last:
+ * the next section's end wakes it. While another thread leads nothing is looked at: that one rings at its end. */
+static uint32_t rest(heap *of) {
+    uint64_t due = ZELAMIKU_NO_DEADLINE;
+    for (bool has_begun = false;; has_begun = true) {
+        bool is_due = due != ZELAMIKU_NO_DEADLINE && zelamiku_now() >= due, is_free = !of->is_led && of->guests == 0;
+        if (of->is_ending) return ZELAMIKU_ROUND_NONE;
+        if (is_due) {
+            of->watches = 0; /* before it is looked whether there is work */
+            due = ZELAMIKU_NO_DEADLINE;
+            is_due = !is_free || comes_by_linger(of);
+        }
+        uint32_t cause = is_free ? cause_of(of, is_due) : (uint32_t)ZELAMIKU_ROUND_NONE;
+        if (cause != ZELAMIKU_ROUND_NONE) {
+            of->is_led = true;
+            of->watches = 1; /* it looks again after the round */
+            return cause;
+        }
+        bool has_reason = !has_begun || (!of->is_led && (of->has_work || of->is_troubled));
+        if (due == ZELAMIKU_NO_DEADLINE && has_reason && of->over == 0) {
+            due = after(of->is_troubled ? SECOND : of->linger);
+            of->watches = 1;
+        }
+        uint32_t seen = of->bell;
+        pthread_mutex_unlock(&of->mutex);
+        (void)sleep_on(&of->bell, seen, due);
+        pthread_mutex_lock(&of->mutex);
+    }
+}
+
+static void *help(void *data) {
+    heap *of = (heap *)data;
+    (void)pthread_setname_np(pthread_self(), "zelamiku");
+    run_soon(of);
+    pthread_mutex_lock(&of->mutex);
+    for (uint32_t cause; (cause = rest(of)) != ZELAMIKU_ROUND_NONE;) {
+        pthread_mutex_unlock(&of->mutex);
+        (void)lead(of, cause, true);
+        pthread_mutex_lock(&of->mutex);
+    }
+    pthread_mutex_unlock(&of->mutex);
+    return NULL;
+}

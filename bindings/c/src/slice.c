@@ -1,0 +1,49 @@
+/* Short time slices, for threads that make rounds or wait for them. */
+/* ---- slices ---- */
+
+/* Since Linux 6.12 a thread may say for how long it wants to run at once (sched_setattr). One that asks for a short slice runs soon after it is
+ * woken, also where other threads keep all processors busy: else each sync costs it a tick, of 4 milliseconds mostly. Its share of the
+ * processors stays. It needs no privilege. */
+typedef struct {
+    uint32_t size, policy;
+    uint64_t flags;
+    int32_t nice;
+    uint32_t priority;
+    uint64_t runtime, deadline, period;
+} attributes;
+
+static bool get_attributes(attributes *of) {
+    memset(of, 0, sizeof *of);
+    return syscall(SYS_sched_getattr, 0, of, sizeof *of, 0) == 0 && of->policy == SCHED_OTHER;
+}
+
+static bool set_slice(const attributes *of, uint64_t nanoseconds) {
+    attributes wanted = *of;
+    wanted.size = sizeof wanted;
+    wanted.flags &= 1; /* its children's are reset, or not, as before */
+    wanted.runtime = nanoseconds;
+    return syscall(SYS_sched_setattr, 0, &wanted, 0) == 0;
+}
+
+/* Whether the system's calls go through a filter, which may end the process for one that it doesn't know. */
+static bool is_filtered(void) {
+    int mode = prctl(PR_GET_SECCOMP);
+    return mode > 0 || (mode < 0 && errno != EINVAL);
+}
+
+/* Asks for a short slice where the calling thread has the system's. Whether it has that is learned by asking for it. */
+COLD void ask_for_short_slice(void) {
+    attributes before, usual;
+    if (is_filtered()) return;
+    if (!get_attributes(&before) || before.runtime == 0 || !set_slice(&before, 0)) return;
+    bool is_usual = get_attributes(&usual) && usual.runtime == before.runtime;
+    (void)set_slice(&before, is_usual ? SHORT_SLICE : before.runtime);
+}
+
+/* A thread is asked once, whichever heaps it uses. */
+static void run_soon(const heap *of) {
+    static _Thread_local bool has_asked;
+    if (has_asked || of->keeps_slice) return;
+    has_asked = true;
+    ask_for_short_slice();
+}

@@ -1,0 +1,472 @@
+/* A thread's calls, from enter to await. */
+/* ---- a thread's use of it ---- */
+
+/* Lends a lane that nobody has. */
+static zelamiku_status lend(heap *of, zelamiku_thread *thread) {
+    pthread_mutex_lock(&of->mutex);
+    zelamiku_status status = of->over != 0 ? (zelamiku_status)of->over : ZELAMIKU_NONE_LEFT;
+    for (uint32_t lane = 0; lane < of->lanes && status == ZELAMIKU_NONE_LEFT; lane++) {
+        seat *own = seat_at(of, lane);
+        if (own->is_lent) continue;
+        own->is_lent = true;
+        own->before = own->ended;
+        thread->number = new_number((size_t)((char *)own - ZELAMIKU_SEATS));
+        own->known = thread->number;
+        own->number = thread->number;
+        status = ZELAMIKU_OK;
+    }
+    pthread_mutex_unlock(&of->mutex);
+    if (status == ZELAMIKU_OK) return ZELAMIKU_OK;
+    return status == ZELAMIKU_NONE_LEFT ? fail(of->path, status, 0, NULL, NULL, "begin") : tell_end(of, status, of->error, "begin");
+}
+
+zelamiku_status zelamiku_thread_begin(zelamiku_thread *thread, zelamiku_heap heap_) {
+    zelamiku_status status = ZELAMIKU_OK;
+    if (thread == NULL) return nothing("begin", "give a thread");
+    thread->number = 0;
+    heap *of = begin_call(heap_, "begin", &status);
+    if (of == NULL) return status;
+    status = lend(of, thread);
+    end_call(of);
+    return status;
+}
+
+/* Whether the handle is that of a lane of the place's heap, also at its end. In a call that is counted it stays so. */
+static bool is_lane_of(const heap *of, const seat *own, zelamiku_thread thread) {
+    return thread.number != 0 && of->number != 0 && own->known == thread.number;
+}
+
+/* The same as why_not, in a call that is counted. */
+static zelamiku_status why_not_of(heap *of, seat *own, zelamiku_thread thread, const char *call) {
+    if (!is_lane_of(of, own, thread)) return nothing(call, NULL);
+    if (of->over == ZELAMIKU_FORKED) return fail(of->path, ZELAMIKU_FORKED, 0, NULL, NULL, "%s", call);
+    pthread_mutex_lock(&of->mutex);
+    zelamiku_status status = (zelamiku_status)of->over;
+    pthread_mutex_unlock(&of->mutex);
+    if (status == ZELAMIKU_OK) return ZELAMIKU_OK;
+    leave(of, own);
+    return tell_end(of, status, of->error, call);
+}
+
+/* Why a call with this handle isn't made. OK: a look at whether the heap can be closed was underway, and has ended: try again. */
+COLD zelamiku_status why_not(seat *own, zelamiku_thread thread, const char *call) {
+    heap *of = place_of(own);
+    count_call(of);
+    zelamiku_status status = why_not_of(of, own, thread, call);
+    end_call(of);
+    return status;
+}
+
+/* The same of a call that needs a monitor, where no section is open. */
+COLD zelamiku_status not_open(seat *own, zelamiku_thread thread, const char *call, bool is_field, uint32_t number) {
+    heap *of = place_of(own);
+    count_call(of);
+    zelamiku_status status = why_not_of(of, own, thread, call);
+    if (status == ZELAMIKU_OK) {
+        bool is_known = number < (is_field ? of->fields : of->objects);
+        status = is_known ? ZELAMIKU_NOT_HELD : is_field ? ZELAMIKU_UNKNOWN_FIELD : ZELAMIKU_UNKNOWN_OBJECT;
+        (void)fail(of->path, status, 0, NULL, NULL, "%s %s %u", call, is_field ? "field" : "object", number);
+    }
+    end_call(of);
+    return status;
+}
+
+/* The same as refused, in a call that is counted. */
+static zelamiku_status refused_of(heap *of, seat *own, zelamiku_status status, const char *call, const char *what, uint32_t number) {
+    if (status == ZELAMIKU_NOTHING) return nothing(call, NULL);
+    if (status == ZELAMIKU_STOPPED) status = ZELAMIKU_LOST;
+    if (status == (zelamiku_status)of->over || status == ZELAMIKU_LOST) {
+        leave(of, own);
+        return tell_end(of, status, of->over != 0 ? of->error : EIO, call);
+    }
+    const char *cause = status == ZELAMIKU_DEVICE ? "a write has failed" : NULL;
+    if (status == ZELAMIKU_SECTION_FULL && own->changes != NULL)
+        cause = "the section would have more than 1,000 records, with those that take it back";
+    return fail(of->path, status, status == ZELAMIKU_DEVICE ? of->error : 0, cause, NULL, "%s %s %u", call, what, number);
+}
+
+/* The library has refused a call, or it is at its end: it may tell a session that a sync has failed before who leads has told why. The thread
+ * is busy, so that its heap has the place. */
+COLD zelamiku_status refused(seat *own, zelamiku_status status, const char *call, const char *what, uint32_t number) {
+    heap *of = place_of(own);
+    count_call(of);
+    status = refused_of(of, own, status, call, what, number);
+    end_call(of);
+    return status;
+}
+
+static zelamiku_status give_back(heap *of, seat *own, zelamiku_thread thread) {
+    while (thread.number == 0 || own->number != thread.number) {
+        zelamiku_status status = why_not_of(of, own, thread, "end");
+        if (status == ZELAMIKU_OK) continue;
+        if (is_lane_of(of, own, thread) && status != ZELAMIKU_FORKED) drop_event(of, own);
+        return status;
+    }
+    if (own->locks > 0) return fail(of->path, ZELAMIKU_UNFINISHED, 0, NULL, NULL, "end");
+    drop_event(of, own);
+    pthread_mutex_lock(&of->mutex);
+    own->is_lent = false;
+    own->number = 0;
+    own->known = 0;
+    pthread_mutex_unlock(&of->mutex);
+    return ZELAMIKU_OK;
+}
+
+zelamiku_status zelamiku_thread_end(zelamiku_thread thread) {
+    seat *own = seat_of(thread);
+    heap *of = place_of(own);
+    count_call(of);
+    zelamiku_status status = give_back(of, own, thread);
+    end_call(of);
+    return status;
+}
+
+/* Sleeps until the monitor can be taken, or the deadline: HELD and BEHIND then. */
+static zelamiku_status enter_asleep(heap *of, seat *own, uint32_t object, uint64_t deadline) {
+    unsigned demands = 0;
+    bool is_wanted = false, is_late = false;
+    uint64_t look = after(SECOND);
+    zelamiku_status status;
+    for (;;) {
+        uint64_t step = of->steps;
+        status = (zelamiku_status)of->over;
+        if (status == ZELAMIKU_OK) status = zelamiku_try_enter(&own->session, object);
+        if (is_late || (status != ZELAMIKU_HELD && status != ZELAMIKU_BEHIND)) break;
+        if (status == ZELAMIKU_HELD) {
+            if (!want(of, own, object)) is_late = !sleep_for_monitor(of, own, &look, deadline);
+            is_wanted = true;
+            continue;
+        }
+        if (is_wanted) want_no_more(of, own, false);
+        is_wanted = false;
+        status = await_room(of, own, step, &demands, deadline, &is_late);
+        if (status != ZELAMIKU_OK) break;
+    }
+    if (is_wanted) want_no_more(of, own, status == ZELAMIKU_OK);
+    return status;
+}
+
+/* The first try has answered this. A deadline that has passed lets nothing sleep. */
+COLD zelamiku_status enter_slowly(seat *own, uint32_t object, zelamiku_status status, uint64_t deadline, const char *call) {
+    heap *of = own->of;
+    if (of == NULL) return nothing(call, NULL);
+    bool may_sleep = deadline > 0;
+    for (unsigned tries = 1; may_sleep && status == ZELAMIKU_HELD && tries < TRIES; tries++) status = zelamiku_try_enter(&own->session, object);
+    if (!may_sleep && status == ZELAMIKU_BEHIND) lack_room(of, own);
+    if (may_sleep && (status == ZELAMIKU_HELD || status == ZELAMIKU_BEHIND)) status = enter_asleep(of, own, object, deadline);
+    if (status == ZELAMIKU_OK) return ZELAMIKU_OK;
+    count_call(of); /* before it isn't busy */
+    if (own->locks == 0) own->is_busy = 0;
+    if (status != ZELAMIKU_HELD && status != ZELAMIKU_BEHIND) status = refused_of(of, own, status, call, "object", object);
+    end_call(of);
+    return status;
+}
+
+static inline zelamiku_status enter(zelamiku_thread thread, uint32_t object, uint64_t deadline, const char *call) {
+    seat *own = seat_of(thread);
+    while (!is_open(own, thread) && !zelamiku_begins(own_of(own), thread)) {
+        zelamiku_status status = why_not(own, thread, call);
+        if (status != ZELAMIKU_OK) return status;
+    }
+    if (own->changes != NULL && own->locks > 0) return enter_keeping(own, object, deadline, call);
+    zelamiku_status status = zelamiku_try_enter(&own->session, object);
+    if (SELDOM(status != ZELAMIKU_OK)) {
+        status = enter_slowly(own, object, status, deadline, call);
+        if (status != ZELAMIKU_OK) return status;
+    }
+    own->locks++;
+    atomic_store_explicit(&own->open, thread.number, memory_order_relaxed);
+    return ZELAMIKU_OK;
+}
+
+zelamiku_status zelamiku_thread_enter(zelamiku_thread thread, uint32_t object) {
+    return enter(thread, object, ZELAMIKU_NO_DEADLINE, "enter");
+}
+
+zelamiku_status zelamiku_thread_try_enter(zelamiku_thread thread, uint32_t object) {
+    return enter(thread, object, 0, "try to enter");
+}
+
+zelamiku_status zelamiku_thread_enter_until(zelamiku_thread thread, uint32_t object, uint64_t deadline) {
+    return enter(thread, object, deadline, "enter");
+}
+
+/* Its section may have ended before, so that it isn't busy, and its heap may have ended since. */
+__attribute__((noinline, cold)) zelamiku_status zelamiku_thread_exited(zelamiku_thread thread, uint32_t object) {
+    seat *own = seat_of(thread);
+    heap *of = place_of(own);
+    count_call(of);
+    if (is_lane_of(of, own, thread)) tell_and_wake(own, object, false);
+    zelamiku_status status = own->number == thread.number ? ZELAMIKU_OK : why_not_of(of, own, thread, "exit");
+    end_call(of);
+    return status;
+}
+
+zelamiku_status zelamiku_thread_exit(zelamiku_thread thread, uint32_t object) {
+    seat *own = seat_of(thread);
+    if (SELDOM(!is_open(own, thread))) return not_open(own, thread, "exit", false, object);
+    zelamiku_status status = zelamiku_exit(&own->session, object);
+    if (SELDOM(status != ZELAMIKU_OK)) return refused(own, status, "exit", "object", object);
+    own->records += 2; /* it was taken before */
+    bool is_quiet = --own->locks > 0 || zelamiku_ends(own_of(own), thread);
+    return is_quiet && own->of->waiting[object % BUCKETS] == 0 ? ZELAMIKU_OK : zelamiku_thread_exited(thread, object);
+}
+
+zelamiku_status zelamiku_thread_load(zelamiku_thread thread, uint32_t field, uint64_t *value) {
+    seat *own = seat_of(thread);
+    if (SELDOM(value == NULL)) return nothing("load", "give a value");
+    if (SELDOM(!is_open(own, thread))) {
+        *value = 0;
+        return not_open(own, thread, "load", true, field);
+    }
+    zelamiku_status status = zelamiku_load(&own->session, field, value);
+    return SELDOM(status != ZELAMIKU_OK) ? refused(own, status, "load", "field", field) : ZELAMIKU_OK;
+}
+
+zelamiku_status zelamiku_thread_store(zelamiku_thread thread, uint32_t field, uint64_t value) {
+    seat *own = seat_of(thread);
+    if (SELDOM(!is_open(own, thread))) return not_open(own, thread, "store", true, field);
+    if (own->changes != NULL) return store_keeping(own, field, value);
+    own->records++;
+    own->has_stored = 1;
+    zelamiku_status status = zelamiku_store(&own->session, field, value);
+    return SELDOM(status != ZELAMIKU_OK) ? refused(own, status, "store", "field", field) : ZELAMIKU_OK;
+}
+
+zelamiku_status zelamiku_thread_take(zelamiku_thread thread, uint32_t head, uint32_t slots, uint32_t *slot) {
+    seat *own = seat_of(thread);
+    if (slot == NULL) return nothing("take", "give a slot");
+    *slot = ZELAMIKU_NO_SLOT;
+    if (!is_open(own, thread)) return not_open(own, thread, "take of the pool at", true, head);
+    own->records += 2;
+    own->has_stored = 1;
+    zelamiku_status status = own->changes != NULL ? take_keeping(own, head, slots, slot) : zelamiku_pool_take(&own->session, head, slots, slot);
+    bool is_answer = status == ZELAMIKU_OK || status == ZELAMIKU_POOL_EMPTY;
+    return is_answer ? status : refused(own, status, "take", "of the pool at field", head);
+}
+
+zelamiku_status zelamiku_thread_give(zelamiku_thread thread, uint32_t head, uint32_t slots, uint32_t slot) {
+    seat *own = seat_of(thread);
+    if (!is_open(own, thread)) return not_open(own, thread, "give to the pool at", true, head);
+    own->records += 2;
+    own->has_stored = 1;
+    zelamiku_status status = own->changes != NULL ? give_keeping(own, head, slots, slot) : zelamiku_pool_give(&own->session, head, slots, slot);
+    return status == ZELAMIKU_OK ? status : refused(own, status, "give back", "slot", slot);
+}
+
+/* Joins the monitor's wait set, unless there is no room for it. What holds the monitor may be what the room waits for. */
+static zelamiku_status begin_wait(heap *of, seat *own, uint32_t object) {
+    unsigned demands = 0;
+    bool is_late = false;
+    for (;;) {
+        uint64_t step = of->steps;
+        zelamiku_status status = (zelamiku_status)of->over;
+        if (status == ZELAMIKU_OK) status = zelamiku_begin_wait(&own->session, object);
+        if (status != ZELAMIKU_BEHIND || demands == DEMANDS) return status;
+        status = await_room(of, own, step, &demands, ZELAMIKU_NO_DEADLINE, &is_late);
+        if (status != ZELAMIKU_OK) return status;
+    }
+}
+
+/* Sleeps until the session was notified and has taken the monitor again. */
+static zelamiku_status resume(heap *of, seat *own, uint32_t object) {
+    zelamiku_status status;
+    for (;;) {
+        status = (zelamiku_status)of->over;
+        if (status == ZELAMIKU_OK) status = zelamiku_try_resume(&own->session);
+        if (status != ZELAMIKU_HELD && status != ZELAMIKU_IN_SET) break;
+        if (status == ZELAMIKU_IN_SET || !want(of, own, object)) (void)sleep_seat(own, ZELAMIKU_NO_DEADLINE);
+    }
+    want_no_more(of, own, status == ZELAMIKU_OK);
+    return status;
+}
+
+zelamiku_status zelamiku_thread_wait(zelamiku_thread thread, uint32_t object) {
+    seat *own = seat_of(thread);
+    if (!is_open(own, thread)) return not_open(own, thread, "wait for", false, object);
+    heap *of = own->of;
+    if (of == NULL) return nothing("wait", NULL);
+    uint32_t locks = locks_of(own, object);
+    bool keeps = own->changes != NULL && locks > 0 && own->locks > locks; /* the section goes on */
+    if (keeps && !has_room(changes_of(own), 2)) return refused(own, ZELAMIKU_SECTION_FULL, "wait for", "object", object);
+    zelamiku_status status = begin_wait(of, own, object);
+    if (status != ZELAMIKU_OK) return refused(own, status, "wait for", "object", object);
+    own->locks -= locks;
+    own->records += 2;
+    if (own->locks == 0) {
+        own->open = 0;
+        zelamiku_notes_stores(own_of(own));
+        own->ended++;
+    }
+    tell_and_wake(own, object, true);
+    status = resume(of, own, object);
+    if (status != ZELAMIKU_OK) return refused(own, status, "wait for", "object", object);
+    if (keeps) note_taken(own->changes, object);
+    own->locks += locks;
+    own->open = thread.number;
+    return ZELAMIKU_OK;
+}
+
+/* Those that were notified wait for the monitor from now on: they are woken when it is free, and not before. */
+static void put(heap *of, uint64_t lanes, uint32_t object) {
+    for (uint32_t lane = 0; lanes != 0 && lane < of->lanes; lane++)
+        if (lanes >> lane & 1) (void)want(of, seat_at(of, lane), object);
+}
+
+zelamiku_status zelamiku_thread_notify(zelamiku_thread thread, uint32_t object, uint32_t *lane) {
+    seat *own = seat_of(thread);
+    if (lane == NULL) return nothing("notify", "give a lane");
+    *lane = ZELAMIKU_NOBODY;
+    if (!is_open(own, thread)) return not_open(own, thread, "notify", false, object);
+    zelamiku_status status = zelamiku_notify(&own->session, object, lane);
+    if (status != ZELAMIKU_OK) return refused(own, status, "notify", "object", object);
+    put(own->of, *lane == ZELAMIKU_NOBODY ? 0 : (uint64_t)1 << *lane, object);
+    return ZELAMIKU_OK;
+}
+
+zelamiku_status zelamiku_thread_notify_all(zelamiku_thread thread, uint32_t object, uint64_t *lanes) {
+    seat *own = seat_of(thread);
+    if (lanes == NULL) return nothing("notify all", "give lanes");
+    *lanes = 0;
+    if (!is_open(own, thread)) return not_open(own, thread, "notify all", false, object);
+    zelamiku_status status = zelamiku_notify_all(&own->session, object, lanes);
+    if (status != ZELAMIKU_OK) return refused(own, status, "notify all", "object", object);
+    put(own->of, *lanes, object);
+    return ZELAMIKU_OK;
+}
+
+zelamiku_status zelamiku_thread_look(zelamiku_thread thread, uint32_t object, zelamiku_sight *sight) {
+    seat *own = seat_of(thread);
+    if (sight == NULL) return nothing("look", "give a sight");
+    zelamiku_sight free_one = {ZELAMIKU_NOBODY, 0, 0};
+    *sight = free_one;
+    bool was_open = thread.number != 0 && is_open(own, thread);
+    while (!was_open && (thread.number == 0 || !zelamiku_begins(own_of(own), thread))) {
+        zelamiku_status status = why_not(own, thread, "look");
+        if (status != ZELAMIKU_OK) return status;
+    }
+    heap *of = place_of(own);
+    count_call(of); /* before it isn't busy */
+    zelamiku_status status = zelamiku_look(&own->session, object, sight);
+    if (!was_open) own->is_busy = 0;
+    if (status != ZELAMIKU_OK) status = refused_of(of, own, status, "look at", "object", object);
+    end_call(of);
+    return status;
+}
+
+/* The seat of a handle that is lent, also at the heap's end; or NULL. Another thread may end it meanwhile, and its lane be lent anew: so look
+ * again after what was read of the seat. No handle's number comes back. */
+static seat *known_seat(zelamiku_thread thread) {
+    seat *own = seat_of(thread);
+    return thread.number != 0 && own->known == thread.number ? own : NULL;
+}
+
+uint32_t zelamiku_thread_lane(zelamiku_thread thread) {
+    seat *own = known_seat(thread);
+    return own == NULL ? ZELAMIKU_NOBODY : own->lane;
+}
+
+uint64_t zelamiku_thread_sections(zelamiku_thread thread) {
+    seat *own = known_seat(thread);
+    uint64_t sections = own == NULL ? 0 : own->ended - own->before;
+    return known_seat(thread) != NULL ? sections : 0;
+}
+
+uint64_t zelamiku_thread_earlier(zelamiku_thread thread) {
+    seat *own = known_seat(thread);
+    uint64_t before = own == NULL ? 0 : own->before;
+    return known_seat(thread) != NULL ? before : 0;
+}
+
+uint64_t zelamiku_thread_durable(zelamiku_thread thread) {
+    seat *own = known_seat(thread);
+    uint64_t acknowledged = own == NULL ? 0 : own->acknowledged, before = own == NULL ? 0 : own->before;
+    return known_seat(thread) != NULL && acknowledged > before ? acknowledged - before : 0;
+}
+
+/* Looks again and again whether a round has ended since that word was seen, until that time at most. A look that took long has let somebody
+ * else run: where others want the processors who looks keeps them from who makes the round, so that for a while nobody does. */
+static void look_for_round(heap *of, uint32_t seen, uint64_t now, uint64_t end) {
+    while (of->told == seen && of->awaiting < of->processors && now < end) {
+        uint64_t before = now;
+        (void)sched_yield();
+        now = zelamiku_now();
+        if (now - before <= LOST_LOOK) continue;
+        of->blind = of->rounds + BLIND;
+        return;
+    }
+}
+
+/* Sleeps until a round has ended since that word was seen. Where rounds are short, and fewer wait than there are processors, it looks for a
+ * while before: to be woken takes as long as a sync of a quick disk. */
+static bool sleep_for_round(heap *of, uint32_t seen, uint64_t deadline) {
+    uint64_t looks = of->rounds < of->blind ? 0 : of->looks, now = looks > 0 ? zelamiku_now() : 0, end = now + looks;
+    if (looks > 0) look_for_round(of, seen, now, end < deadline ? end : deadline);
+    return of->told != seen || sleep_on(&of->told, seen, deadline);
+}
+
+/* Sleeps until so many sections of the lane are durable. */
+static zelamiku_status await_sections(heap *of, seat *own, uint64_t sections, uint64_t deadline, bool *is_all) {
+    zelamiku_status status = ZELAMIKU_OK;
+    uint64_t troubles = of->troubles, counted = UINT64_MAX;
+    run_soon(of);
+    of->arrivals++;
+    for (bool is_early = true;;) {
+        uint32_t seen = of->told;
+        /* Before the sections are looked at, since what a last round acknowledges comes before it says so. */
+        if (of->is_settled) status = (zelamiku_status)of->over;
+        *is_all = is_durable(own, sections);
+        if (*is_all) status = ZELAMIKU_OK;
+        if (!*is_all && status == ZELAMIKU_OK) status = trouble_since(of, troubles);
+        if (*is_all || status != ZELAMIKU_OK || !is_early) break;
+        if (leads_or_counts(of, deadline != ZELAMIKU_NO_DEADLINE, &counted))
+            (void)lead(of, ZELAMIKU_ROUND_AWAITED, false);
+        else
+            is_early = sleep_for_round(of, seen, deadline);
+    }
+    count_no_more(of, counted);
+    return status;
+}
+
+/* Whether all sections of the handle can be awaited. One that is open can't: it ends after this call. One that the heap's end has cut off
+ * never ends, also where its thread has yet to learn of that end, and so is busy; or has learned of it before who leads has told why. */
+static zelamiku_status can_await_all(heap *of, const seat *own, zelamiku_thread thread) {
+    zelamiku_status over = (zelamiku_status)of->over;
+    if (own->is_cut && over == ZELAMIKU_OK) return tell_end(of, ZELAMIKU_LOST, EIO, "await");
+    if (own->is_cut || (own->is_busy && over != ZELAMIKU_OK)) return tell_end(of, over, of->error, "await");
+    bool is_open = own->open == thread.number && over == ZELAMIKU_OK;
+    return is_open ? fail(of->path, ZELAMIKU_UNFINISHED, 0, NULL, NULL, "await") : ZELAMIKU_OK;
+}
+
+/* The same as zelamiku_thread_await_until, in a call that is counted. */
+static zelamiku_status await_of(heap *of, seat *own, zelamiku_thread thread, uint64_t sections, uint64_t deadline, bool *is_all) {
+    uint64_t ended = own->ended, before = own->before;
+    /* After the counts were read: else they may be those of the thread that has the lane next. */
+    if (!is_lane_of(of, own, thread)) return nothing("await", NULL);
+    if (of->over == ZELAMIKU_FORKED) return fail(of->path, ZELAMIKU_FORKED, 0, NULL, NULL, "await");
+    if (sections > ended - before) {
+        zelamiku_status status = can_await_all(of, own, thread);
+        if (status != ZELAMIKU_OK) return status;
+        sections = ended - before;
+    }
+    *is_all = is_durable(own, before + sections);
+    if (*is_all) return ZELAMIKU_OK;
+    zelamiku_status status = await_sections(of, own, before + sections, deadline, is_all);
+    return status == ZELAMIKU_OK ? status : tell_end(of, status, of->error, "await");
+}
+
+zelamiku_status zelamiku_thread_await_until(zelamiku_thread thread, uint64_t sections, uint64_t deadline, bool *is_all) {
+    if (is_all == NULL) return nothing("await", "give is_durable");
+    *is_all = false;
+    seat *own = seat_of(thread);
+    heap *of = place_of(own);
+    count_call(of);
+    zelamiku_status status = await_of(of, own, thread, sections, deadline, is_all);
+    end_call(of);
+    return status;
+}
+
+zelamiku_status zelamiku_thread_await(zelamiku_thread thread) {
+    bool is_all = false;
+    return zelamiku_thread_await_until(thread, ZELAMIKU_ALL_SECTIONS, ZELAMIKU_NO_DEADLINE, &is_all);
+}

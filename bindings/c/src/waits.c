@@ -1,0 +1,147 @@
+/* Who waits for whom: threads that sleep for monitors, and circles of threads that wait for each other.
+ *
+ * Under the mutex what a lane wants stays, and a thread whose lane wants something is inside of an enter or a wait, so that it gives no monitor
+ * back. So a circle that is found here was one at that moment, though its owners were looked at one after the other. A circle is closed by a
+ * thread that begins to sleep in an enter: one that waits in a set was put down by the owner of what it wants, which was running then. So each
+ * circle is seen by the look of one of its threads, once that has slept for a second. */
+/* ---- who waits for whom ---- */
+
+/* While another thread sleeps for a monitor its session may be looked by. */
+enum { IN_USE = 0, RESTS = 1, IS_BORROWED = 2 };
+
+/* Sleeps as sleep_seat does; meanwhile others may look by its session. */
+static bool rest_seat(seat *own, uint64_t deadline) {
+    own->rests = RESTS;
+    bool is_early = sleep_seat(own, deadline);
+    for (uint32_t resting = RESTS; !atomic_compare_exchange_strong(&own->rests, &resting, IN_USE); resting = RESTS) (void)sched_yield();
+    return is_early;
+}
+
+static bool is_borrowed(seat *other) {
+    uint32_t resting = RESTS;
+    return atomic_compare_exchange_strong(&other->rests, &resting, IS_BORROWED);
+}
+
+/* Of a lane that is lent: whether nothing of it is open. Its thread waits for the mutex then if it begins something. */
+static bool is_shut(seat *other) {
+    other->number = 0;
+    if (!other->is_busy) return true;
+    other->number = other->known;
+    return false;
+}
+
+/* Under the mutex, while the heap goes on: a seat by whose session the caller may look until return_seat: of a lane that nobody has, of one
+ * that sleeps for a monitor, or of one that has nothing open. NULL: all are in sections. */
+static seat *borrow_seat(heap *of) {
+    for (uint32_t lane = 0; lane < of->lanes; lane++)
+        if (!seat_at(of, lane)->is_lent || is_borrowed(seat_at(of, lane))) return seat_at(of, lane);
+    for (uint32_t lane = 0; lane < of->lanes; lane++)
+        if (is_shut(seat_at(of, lane))) return seat_at(of, lane);
+    return NULL;
+}
+
+static void return_seat(seat *other) {
+    if (other->rests == IS_BORROWED)
+        other->rests = RESTS;
+    else if (other->is_lent)
+        other->number = other->known;
+}
+
+/* Under the mutex: for each lane that wants a monitor the lane that has it, by a session that nobody else uses; NOBODY for each other one,
+ * and where there is no session. */
+static void find_owners(heap *of, seat *by, uint32_t *owners) {
+    for (uint32_t lane = 0; lane < of->lanes; lane++) {
+        uint32_t wanted = seat_at(of, lane)->wanted;
+        zelamiku_sight sight = {ZELAMIKU_NOBODY, 0, 0};
+        bool is_told = wanted != 0 && by != NULL && zelamiku_look(&by->session, wanted - 1, &sight) == ZELAMIKU_OK;
+        owners[lane] = is_told ? sight.owner : ZELAMIKU_NOBODY;
+    }
+}
+
+/* The lanes that wait for each other, that one among them, a bit for each; 0: it waits for none that waits for it. */
+static uint64_t circle_of(const heap *of, const uint32_t *owners, uint32_t lane) {
+    uint64_t circle = 0;
+    for (uint32_t at = lane; at < of->lanes && (circle >> at & 1) == 0; at = owners[at]) {
+        circle |= (uint64_t)1 << at;
+        if (owners[at] == lane && at != lane) return circle;
+    }
+    return 0;
+}
+
+/* Under the mutex: says who waits for whom, from that lane on. */
+static void spell_circle(heap *of, const uint32_t *owners, uint32_t lane, char *text, size_t size) {
+    uint32_t at = lane;
+    size_t begun = 0;
+    do {
+        int more = snprintf(text + begun, size - begun, "%slane %u for object %u of lane %u", begun > 0 ? ", " : "", at,
+                            seat_at(of, at)->wanted - 1, owners[at]);
+        begun += more > 0 ? (size_t)more : 0;
+        at = owners[at];
+    } while (at != lane && begun < size);
+}
+
+/* Whether the circle has a thread that wasn't told of in one. */
+static bool is_untold(heap *of, uint64_t circle) {
+    bool is = false;
+    for (uint32_t lane = 0; lane < of->lanes; lane++)
+        if (circle >> lane & 1) {
+            is |= !seat_at(of, lane)->is_told;
+            seat_at(of, lane)->is_told = true;
+        }
+    return is;
+}
+
+/* The thread has slept for a monitor for a second: where threads wait for each other, itself among them, the log hook is told once. */
+COLD void tell_circle(heap *of, seat *own) {
+    uint32_t owners[ZELAMIKU_MOST_LANES];
+    char text[480] = "";
+    pthread_mutex_lock(&of->mutex);
+    if (of->over == 0) {
+        find_owners(of, own, owners);
+        uint64_t circle = circle_of(of, owners, own->lane);
+        if (circle != 0 && is_untold(of, circle)) spell_circle(of, owners, own->lane, text, sizeof text);
+    }
+    pthread_mutex_unlock(&of->mutex);
+    if (text[0] != 0) tell_log(of, ZELAMIKU_LOG_WARNING, "threads wait for each other's monitors, and none goes on: %s", text);
+}
+
+/* Sleeps for a monitor until somebody rings, or until the deadline: false after it. `look` is when it looks for a circle: once. */
+static bool sleep_for_monitor(heap *of, seat *own, uint64_t *look, uint64_t deadline) {
+    if (*look >= deadline) return rest_seat(own, deadline);
+    if (rest_seat(own, *look)) return true;
+    *look = ZELAMIKU_NO_DEADLINE;
+    tell_circle(of, own);
+    return true;
+}
+
+static size_t list_waits(heap *of, const uint32_t *owners, zelamiku_wait *waits, size_t count) {
+    size_t told = 0;
+    for (uint32_t lane = 0; lane < of->lanes && told < count; lane++) {
+        uint32_t wanted = seat_at(of, lane)->wanted;
+        if (wanted == 0 || owners[lane] == lane) continue; /* it has just taken it */
+        zelamiku_wait wait = {lane, wanted - 1, owners[lane], circle_of(of, owners, lane) != 0};
+        waits[told++] = wait;
+    }
+    return told;
+}
+
+zelamiku_status zelamiku_heap_waits(zelamiku_heap heap_, zelamiku_wait *waits, size_t count, size_t *told) {
+    zelamiku_status status = ZELAMIKU_OK;
+    uint32_t owners[ZELAMIKU_MOST_LANES];
+    if (told == NULL || (waits == NULL && count > 0)) return nothing("waits", "give each");
+    *told = 0;
+    heap *of = begin_call(heap_, "waits", &status);
+    if (of == NULL) return status;
+    pthread_mutex_lock(&of->mutex);
+    status = (zelamiku_status)of->over;
+    if (status == ZELAMIKU_OK) {
+        seat *by = borrow_seat(of);
+        find_owners(of, by, owners);
+        if (by != NULL) return_seat(by);
+        *told = list_waits(of, owners, waits, count);
+    }
+    pthread_mutex_unlock(&of->mutex);
+    if (status != ZELAMIKU_OK) status = tell_end(of, status, of->error, "waits");
+    end_call(of);
+    return status;
+}

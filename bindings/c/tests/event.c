@@ -1,0 +1,482 @@
+/* Tests of threads with an event loop: zelamiku_thread_event and zelamiku_thread_ask, on a file whose writes and syncs may fail or hang.
+ *
+ *     event FOLDER      answers 0 where all is as it must be
+ *
+ * With -DINLINE the calls of sections are those of zelamiku_inline.h. */
+#define _GNU_SOURCE
+#include <errno.h>
+#include <fcntl.h>
+#include <poll.h>
+#include <sys/epoll.h>
+#include <sys/resource.h>
+#include <sys/wait.h>
+#include <unistd.h>
+
+static int writes_fail, syncs_fail, syncs_hang;
+
+static ssize_t flaky_pwrite(int file, const void *bytes, size_t size, off_t at) {
+    if (__atomic_load_n(&writes_fail, __ATOMIC_SEQ_CST)) return errno = ENOSPC, -1;
+    return pwrite(file, bytes, size, at);
+}
+
+static int flaky_fdatasync(int file) {
+    while (__atomic_load_n(&syncs_hang, __ATOMIC_SEQ_CST)) usleep(100);
+    if (__atomic_load_n(&syncs_fail, __ATOMIC_SEQ_CST)) return errno = EIO, -1;
+    return fdatasync(file);
+}
+
+#define pwrite flaky_pwrite
+#define fdatasync flaky_fdatasync
+#include "../zelamiku_threads.c"
+
+#ifdef INLINE
+#undef ZELAMIKU_OFTEN
+#undef ZELAMIKU_INLINE
+#define ZELAMIKU_INLINE static inline
+#define zelamiku_is_open inline_is_open
+#define zelamiku_begins inline_begins
+#define zelamiku_ends inline_ends
+#define zelamiku_notes_stores inline_notes_stores
+#define zelamiku_thread_enter inline_enter
+#define zelamiku_thread_exit inline_exit
+#define zelamiku_thread_load inline_load
+#define zelamiku_thread_store inline_store
+#include "../zelamiku_inline.h"
+#endif
+
+#define MUST(is_so) \
+    do { \
+        if (!(is_so)) { \
+            fprintf(stderr, "line %d: %s; %s\n", __LINE__, #is_so, zelamiku_heap_message()); \
+            exit(1); \
+        } \
+    } while (0)
+
+enum { LANES = 6, A_WHILE = 20, PATIENCE = 20000 }; /* milliseconds */
+
+static const zelamiku_field FIELDS[] = {{0, 0, 0, 0}, {1, 1, 0, 0}, {2, 2, 0, 0}, {3, 3, 0, 0}};
+static zelamiku_heap all;
+
+static void begin_heap(bool is_new) {
+    zelamiku_plan plan = {.fields = FIELDS, .count = 4, .objects = 4, .lanes = LANES, .ring = 4096, .linger = 2000};
+    if (is_new) MUST(unlink("event.heap") == 0 || errno == ENOENT);
+    MUST(zelamiku_heap_open(&all, "event.heap", &plan, NULL) == ZELAMIKU_OK);
+}
+
+static heap *its_heap(void) {
+    return &heaps[all.number >> 8 & 255];
+}
+
+static zelamiku_thread begin_thread(void) {
+    zelamiku_thread own;
+    MUST(zelamiku_thread_begin(&own, all) == ZELAMIKU_OK);
+    return own;
+}
+
+static zelamiku_thread begin_loop(int *event) {
+    zelamiku_thread own = begin_thread();
+    MUST(zelamiku_thread_event(own, event) == ZELAMIKU_OK && *event >= 0);
+    return own;
+}
+
+static zelamiku_stats stats(void) {
+    zelamiku_stats found;
+    MUST(zelamiku_heap_stats(all, &found) == ZELAMIKU_OK);
+    return found;
+}
+
+static bool is_readable(int event, int milliseconds) {
+    struct pollfd one = {event, POLLIN, 0};
+    return poll(&one, 1, milliseconds) == 1;
+}
+
+static bool is_closed(int event) {
+    return fcntl(event, F_GETFD) == -1 && errno == EBADF;
+}
+
+static void add(zelamiku_thread own, uint32_t object) {
+    uint64_t value = 0;
+    MUST(zelamiku_thread_enter(own, object) == ZELAMIKU_OK && zelamiku_thread_load(own, object, &value) == ZELAMIKU_OK);
+    MUST(zelamiku_thread_store(own, object, value + 1) == ZELAMIKU_OK && zelamiku_thread_exit(own, object) == ZELAMIKU_OK);
+}
+
+static uint64_t ask_well(zelamiku_thread own) {
+    uint64_t durable = 0;
+    MUST(zelamiku_thread_ask(own, &durable) == ZELAMIKU_OK);
+    return durable;
+}
+
+/* Waits for the event, and asks for nothing more, until all that has ended is durable. */
+static void await_event(zelamiku_thread own, int event) {
+    while (ask_well(own) < zelamiku_thread_sections(own)) MUST(is_readable(event, PATIENCE));
+    MUST(!is_readable(event, 0));
+}
+
+static void close_heap_well(void) {
+    MUST(zelamiku_heap_close(all) == ZELAMIKU_OK);
+}
+
+static void asks(void) {
+    int one, two, same;
+    begin_heap(true);
+    zelamiku_thread a = begin_loop(&one), b = begin_loop(&two);
+    MUST(zelamiku_thread_event(a, &same) == ZELAMIKU_OK && same == one && one != two);
+    MUST(!is_readable(one, A_WHILE) && ask_well(a) == 0 && !is_readable(one, A_WHILE));
+    /* Only who has asked is told, once. */
+    add(a, 0);
+    MUST(ask_well(a) == 0 || zelamiku_thread_durable(a) == 1);
+    await_event(a, one);
+    MUST(zelamiku_thread_durable(a) == 1 && !is_readable(one, A_WHILE) && !is_readable(two, 0));
+    /* No news without an ask. */
+    add(a, 0);
+    MUST(!is_readable(one, 10 * A_WHILE));
+    while (zelamiku_thread_durable(a) < 2) usleep(1000);
+    MUST(!is_readable(one, A_WHILE) && ask_well(a) == 2 && !is_readable(one, A_WHILE));
+    /* A thousand by one ask. */
+    for (int i = 0; i < 1000; i++) add(a, 0);
+    await_event(a, one);
+    MUST(zelamiku_thread_durable(a) == 1002 && stats().awaiting == 0);
+    /* One that has only looked: no round would come by itself. */
+    uint64_t value = 0;
+    MUST(zelamiku_thread_enter(b, 0) == ZELAMIKU_OK && zelamiku_thread_load(b, 0, &value) == ZELAMIKU_OK && value == 1002);
+    MUST(zelamiku_thread_exit(b, 0) == ZELAMIKU_OK);
+    usleep(20000);
+    await_event(b, two);
+    close_heap_well();
+    MUST(is_readable(one, PATIENCE) && is_readable(two, PATIENCE) && ask_well(a) == 1002 && !is_readable(one, 0));
+    MUST(zelamiku_thread_end(a) == ZELAMIKU_CLOSED && zelamiku_thread_end(b) == ZELAMIKU_CLOSED && is_closed(one) && is_closed(two));
+    MUST(zelamiku_thread_event(a, &same) == ZELAMIKU_NOTHING && same == -1);
+}
+
+/* A section that depends on an open one is told once that has ended, and nobody asks again; meanwhile no round comes for it. */
+static void depends(void) {
+    int event;
+    begin_heap(true);
+    zelamiku_thread a = begin_thread(), b = begin_loop(&event);
+    MUST(zelamiku_thread_enter(a, 0) == ZELAMIKU_OK && zelamiku_thread_enter(a, 1) == ZELAMIKU_OK);
+    MUST(zelamiku_thread_store(a, 1, 7) == ZELAMIKU_OK && zelamiku_thread_exit(a, 1) == ZELAMIKU_OK);
+    add(b, 1);
+    MUST(ask_well(b) == 0 && !is_readable(event, 5 * A_WHILE) && zelamiku_thread_durable(b) == 0 && stats().awaiting == 1);
+    uint64_t rounds = stats().rounds;
+    MUST(!is_readable(event, 5 * A_WHILE) && stats().rounds == rounds);
+    MUST(zelamiku_thread_exit(a, 0) == ZELAMIKU_OK && is_readable(event, PATIENCE) && ask_well(b) == 1 && stats().awaiting == 0);
+    /* Who gives its lane back waits no more. */
+    MUST(zelamiku_thread_enter(a, 0) == ZELAMIKU_OK && zelamiku_thread_enter(a, 1) == ZELAMIKU_OK);
+    MUST(zelamiku_thread_store(a, 1, 8) == ZELAMIKU_OK && zelamiku_thread_exit(a, 1) == ZELAMIKU_OK);
+    add(b, 1);
+    MUST(ask_well(b) == 1 && stats().awaiting == 1 && zelamiku_thread_end(b) == ZELAMIKU_OK && stats().awaiting == 0 && is_closed(event));
+    MUST(zelamiku_thread_exit(a, 0) == ZELAMIKU_OK && zelamiku_thread_end(a) == ZELAMIKU_OK);
+    close_heap_well();
+}
+
+/* Sections of another monitor until there is no room. */
+static void fill(zelamiku_thread own, uint32_t object) {
+    zelamiku_status status;
+    while ((status = zelamiku_thread_try_enter(own, object)) == ZELAMIKU_OK)
+        MUST(zelamiku_thread_store(own, object, 1) == ZELAMIKU_OK && zelamiku_thread_exit(own, object) == ZELAMIKU_OK);
+    MUST(status == ZELAMIKU_BEHIND);
+}
+
+static void room(void) {
+    int one, two;
+    begin_heap(true);
+    zelamiku_thread a = begin_loop(&one), b = begin_loop(&two);
+    fill(a, 0);
+    for (zelamiku_status status = ZELAMIKU_BEHIND; status != ZELAMIKU_OK;) {
+        MUST(is_readable(one, PATIENCE));
+        (void)ask_well(a);
+        status = zelamiku_thread_try_enter(a, 0);
+        MUST(status == ZELAMIKU_OK || status == ZELAMIKU_BEHIND);
+    }
+    MUST(zelamiku_thread_exit(a, 0) == ZELAMIKU_OK);
+    await_event(a, one);
+    /* Its room depends on an open section: it is told of a few rounds, and then of one that follows that section's end. */
+    MUST(zelamiku_thread_enter(a, 0) == ZELAMIKU_OK && zelamiku_thread_enter(a, 1) == ZELAMIKU_OK);
+    MUST(zelamiku_thread_store(a, 1, 7) == ZELAMIKU_OK && zelamiku_thread_exit(a, 1) == ZELAMIKU_OK);
+    unsigned rung = 0;
+    for (; rung < 10000; rung++) {
+        fill(b, 1);
+        if (!is_readable(two, 20 * A_WHILE)) break;
+        (void)ask_well(b);
+    }
+    printf("without room: rung %u times, in %llu rounds\n", rung, (unsigned long long)stats().rounds);
+    uint64_t rounds = stats().rounds;
+    MUST(rung < 10000 && !is_readable(two, 5 * A_WHILE) && stats().rounds == rounds);
+    MUST(zelamiku_thread_exit(a, 0) == ZELAMIKU_OK);
+    zelamiku_status status;
+    do {
+        MUST(is_readable(two, PATIENCE));
+        (void)ask_well(b);
+    } while ((status = zelamiku_thread_try_enter(b, 1)) == ZELAMIKU_BEHIND);
+    MUST(status == ZELAMIKU_OK && zelamiku_thread_exit(b, 1) == ZELAMIKU_OK);
+    await_event(b, two);
+    MUST(stats().awaiting == 0 && zelamiku_thread_end(a) == ZELAMIKU_OK && zelamiku_thread_end(b) == ZELAMIKU_OK);
+    close_heap_well();
+}
+
+static void ends_and_begins(void) {
+    int event, other;
+    uint64_t durable = 1;
+    begin_heap(true);
+    zelamiku_thread a = begin_loop(&event);
+    add(a, 0);
+    await_event(a, event);
+    MUST(zelamiku_thread_end(a) == ZELAMIKU_OK && is_closed(event));
+    MUST(zelamiku_thread_ask(a, &durable) == ZELAMIKU_NOTHING && durable == 0);
+    MUST(zelamiku_thread_event(a, &other) == ZELAMIKU_NOTHING && other == -1);
+    MUST(zelamiku_thread_event(a, NULL) == ZELAMIKU_NOTHING && zelamiku_thread_ask(a, NULL) == ZELAMIKU_NOTHING);
+    MUST(zelamiku_thread_ask((zelamiku_thread){0}, &durable) == ZELAMIKU_NOTHING);
+    /* An event that is made after the ask tells of it too. */
+    zelamiku_thread b = begin_thread();
+    MUST(zelamiku_thread_lane(b) == 0);
+    __atomic_store_n(&syncs_hang, 1, __ATOMIC_SEQ_CST);
+    add(b, 1);
+    MUST(ask_well(b) == 0 && stats().awaiting == 1);
+    __atomic_store_n(&syncs_hang, 0, __ATOMIC_SEQ_CST);
+    while (stats().awaiting > 0) usleep(1000);
+    MUST(zelamiku_thread_event(b, &event) == ZELAMIKU_OK && is_readable(event, 0) && ask_well(b) == 1 && !is_readable(event, 0));
+    /* No descriptor is left. */
+    struct rlimit before, none;
+    zelamiku_thread c = begin_thread();
+    MUST(getrlimit(RLIMIT_NOFILE, &before) == 0);
+    none = before;
+    none.rlim_cur = 0;
+    MUST(setrlimit(RLIMIT_NOFILE, &none) == 0);
+    zelamiku_status status = zelamiku_thread_event(c, &other);
+    MUST(setrlimit(RLIMIT_NOFILE, &before) == 0);
+    MUST(status == ZELAMIKU_NO_MEMORY && other == -1 && zelamiku_heap_error() == EMFILE);
+    MUST(zelamiku_thread_event(c, &other) == ZELAMIKU_OK && zelamiku_thread_end(c) == ZELAMIKU_OK && zelamiku_thread_end(b) == ZELAMIKU_OK);
+    close_heap_well();
+}
+
+static void forks(void) {
+    int one, two, answer = -1;
+    begin_heap(true);
+    zelamiku_thread a = begin_loop(&one);
+    close_heap_well();
+    begin_heap(true);
+    zelamiku_thread b = begin_loop(&two);
+    add(b, 0);
+    pid_t child = fork();
+    if (child == 0) {
+        uint64_t durable = 1;
+        bool is_well = zelamiku_thread_ask(b, &durable) == ZELAMIKU_FORKED && durable == 0 && is_closed(one) && is_closed(two);
+        _exit(is_well && zelamiku_thread_event(b, &one) == ZELAMIKU_FORKED && one == -1 && zelamiku_thread_end(b) == ZELAMIKU_FORKED ? 0 : 1);
+    }
+    MUST(waitpid(child, &answer, 0) == child && answer == 0);
+    await_event(b, two);
+    MUST(zelamiku_thread_end(a) == ZELAMIKU_CLOSED && is_closed(one) && !is_closed(two) && zelamiku_thread_end(b) == ZELAMIKU_OK);
+    close_heap_well();
+}
+
+static void failing_writes(void) {
+    int event, idle;
+    uint64_t durable = 0;
+    begin_heap(true);
+    zelamiku_thread a = begin_loop(&event), b = begin_loop(&idle);
+    /* One that has failed before it asks is none of its own. */
+    __atomic_store_n(&writes_fail, 1, __ATOMIC_SEQ_CST);
+    add(b, 1);
+    while (stats().troubles == 0) usleep(1000);
+    __atomic_store_n(&writes_fail, 0, __ATOMIC_SEQ_CST);
+    while (zelamiku_thread_durable(b) == 0) usleep(1000);
+    add(a, 0);
+    await_event(a, event);
+    MUST(!is_readable(idle, 0));
+    __atomic_store_n(&writes_fail, 1, __ATOMIC_SEQ_CST);
+    add(a, 0);
+    uint64_t troubles = stats().troubles;
+    MUST(ask_well(a) == 1);
+    for (unsigned told = 1; told <= 2; told++) {
+        MUST(is_readable(event, PATIENCE) && stats().troubles == troubles + told);
+        MUST(zelamiku_thread_ask(a, &durable) == ZELAMIKU_DEVICE && durable == 1 && zelamiku_heap_error() == ENOSPC);
+        MUST(!is_readable(event, 0) && ask_well(a) == 1);
+    }
+    MUST(!is_readable(idle, 0));
+    __atomic_store_n(&writes_fail, 0, __ATOMIC_SEQ_CST);
+    while (zelamiku_thread_durable(a) < 2) {
+        MUST(is_readable(event, PATIENCE));
+        zelamiku_status status = zelamiku_thread_ask(a, &durable);
+        MUST(status == ZELAMIKU_OK || status == ZELAMIKU_DEVICE);
+    }
+    await_event(a, event);
+    MUST(zelamiku_thread_end(a) == ZELAMIKU_OK && zelamiku_thread_end(b) == ZELAMIKU_OK);
+    close_heap_well();
+}
+
+static void failing_syncs(void) {
+    int event;
+    uint64_t durable = 9;
+    begin_heap(true);
+    zelamiku_thread a = begin_loop(&event);
+    __atomic_store_n(&syncs_fail, 1, __ATOMIC_SEQ_CST);
+    add(a, 0);
+    while (zelamiku_thread_ask(a, &durable) == ZELAMIKU_OK) MUST(is_readable(event, PATIENCE));
+    MUST(zelamiku_thread_ask(a, &durable) == ZELAMIKU_LOST && durable == 0 && zelamiku_heap_error() == EIO && !is_readable(event, 0));
+    __atomic_store_n(&syncs_fail, 0, __ATOMIC_SEQ_CST);
+    MUST(zelamiku_heap_close(all) == ZELAMIKU_LOST && is_readable(event, 0) && zelamiku_thread_end(a) == ZELAMIKU_LOST && is_closed(event));
+}
+
+static void *stop_soon(void *data) {
+    usleep(50000);
+    MUST(zelamiku_heap_stop(all) == ZELAMIKU_OK);
+    return data;
+}
+
+/* Another thread stops the heap: each loop is told, also in a section, and once more when nothing will be acknowledged any more. */
+static void stops(void) {
+    int one, two;
+    uint64_t durable = 0;
+    pthread_t thread;
+    begin_heap(true);
+    zelamiku_thread a = begin_loop(&one), b = begin_loop(&two);
+    add(a, 0);
+    await_event(a, one);
+    MUST(zelamiku_thread_enter(b, 1) == ZELAMIKU_OK && zelamiku_thread_store(b, 1, 5) == ZELAMIKU_OK && zelamiku_thread_enter(b, 2) == ZELAMIKU_OK);
+    MUST(zelamiku_thread_exit(b, 1) == ZELAMIKU_OK);
+    add(a, 1);
+    MUST(ask_well(a) == 1 && pthread_create(&thread, NULL, stop_soon, NULL) == 0);
+    while (zelamiku_thread_ask(a, &durable) == ZELAMIKU_OK) MUST(is_readable(one, PATIENCE));
+    MUST(zelamiku_thread_ask(a, &durable) == ZELAMIKU_CLOSED && durable == 1 && is_readable(two, PATIENCE));
+    MUST(zelamiku_thread_exit(b, 2) == ZELAMIKU_CLOSED && pthread_join(thread, NULL) == 0);
+    /* A section of its own was cut off. */
+    MUST(zelamiku_thread_ask(b, &durable) == ZELAMIKU_CLOSED && durable == 0 && zelamiku_thread_end(a) == ZELAMIKU_CLOSED);
+    begin_heap(false);
+    MUST(zelamiku_thread_end(b) == ZELAMIKU_CLOSED && is_closed(two));
+    close_heap_well();
+}
+
+/* A round waits for as many sections of a loop as the last one has told; what it knows of threads that sleep is as without loops. */
+static void gathers(void) {
+    int event;
+    begin_heap(true);
+    zelamiku_thread a = begin_loop(&event), b = begin_thread();
+    heap *of = its_heap();
+    for (int i = 0; i < 50; i++) add(a, 0);
+    MUST(sections_of_loops(of) <= 50);
+    await_event(a, event);
+    add(b, 1);
+    MUST(zelamiku_thread_await(b) == ZELAMIKU_OK && zelamiku_thread_end(b) == ZELAMIKU_OK);
+    close_heap_well(); /* now its figures are nobody's */
+    seat *own = seat_of(a);
+    MUST(own->begun == own->ended && own->ended == 50 && begin_for_loops(of) == 0 && sections_of_loops(of) == 0);
+    own->ended += 7;
+    MUST(sections_of_loops(of) == 7 && begin_for_loops(of) == 1 && sections_of_loops(of) == 0);
+    own->ended -= 7;
+    MUST(of->expected <= 1 && zelamiku_thread_end(a) == ZELAMIKU_CLOSED);
+}
+
+/* Every other loop waits by edge: each round's news is one, also where nobody has asked since the last. */
+static void *loop(void *data) {
+    int event, edges = epoll_create1(EPOLL_CLOEXEC);
+    bool is_by_edge = (uintptr_t)data % 2 == 1;
+    zelamiku_thread own = begin_loop(&event);
+    struct epoll_event edge = {.events = EPOLLIN | EPOLLET};
+    MUST(edges >= 0 && epoll_ctl(edges, EPOLL_CTL_ADD, event, &edge) == 0);
+    for (uint64_t sent = 0, durable = 0; sent < 400;) {
+        for (unsigned clients = 1 + (unsigned)(sent * 7 % 16); clients > 0; clients--, sent++) add(own, (uint32_t)(sent % 4));
+        MUST(zelamiku_thread_ask(own, &durable) == ZELAMIKU_OK && durable <= zelamiku_thread_sections(own));
+        if (durable == zelamiku_thread_sections(own)) continue;
+        MUST(is_by_edge ? epoll_wait(edges, &edge, 1, PATIENCE) == 1 : is_readable(event, PATIENCE));
+    }
+    await_event(own, event);
+    MUST(close(edges) == 0);
+    MUST(zelamiku_thread_end(own) == ZELAMIKU_OK);
+    return data;
+}
+
+static void *sleeper(void *data) {
+    zelamiku_thread own = begin_thread();
+    for (unsigned i = 0; i < 100; i++) {
+        add(own, i % 4);
+        MUST(zelamiku_thread_await(own) == ZELAMIKU_OK);
+    }
+    MUST(zelamiku_thread_end(own) == ZELAMIKU_OK);
+    return data;
+}
+
+static void loops_beside_sleepers(void) {
+    pthread_t threads[LANES];
+    begin_heap(true);
+    for (unsigned i = 0; i < LANES; i++)
+        MUST(pthread_create(&threads[i], NULL, i % 3 == 2 ? sleeper : loop, (void *)(uintptr_t)i) == 0);
+    for (unsigned i = 0; i < LANES; i++) MUST(pthread_join(threads[i], NULL) == 0);
+    MUST(stats().awaiting == 0 && its_heap()->loops == 0 && its_heap()->events == 0);
+    close_heap_well();
+}
+
+/* A loop that goes on until the heap's end, which comes at any moment. What it was told to be durable is so. */
+static uint64_t told;
+
+static void *loop_until_the_end(void *data) {
+    int event;
+    uint64_t durable = 0;
+    zelamiku_thread own = begin_loop(&event);
+    for (;;) {
+        uint64_t value = 0;
+        zelamiku_status status = zelamiku_thread_enter(own, 0);
+        if (status == ZELAMIKU_OK) status = zelamiku_thread_load(own, 0, &value);
+        if (status == ZELAMIKU_OK) status = zelamiku_thread_store(own, 0, value + 1);
+        if (status == ZELAMIKU_OK) status = zelamiku_thread_exit(own, 0);
+        if (status != ZELAMIKU_OK || zelamiku_thread_ask(own, &durable) != ZELAMIKU_OK) break;
+        if (zelamiku_thread_sections(own) - durable > 8) MUST(is_readable(event, PATIENCE));
+    }
+    while (zelamiku_thread_ask(own, &durable) == ZELAMIKU_OK && durable < zelamiku_thread_sections(own)) MUST(is_readable(event, PATIENCE));
+    told = durable;
+    MUST(zelamiku_thread_end(own) == ZELAMIKU_CLOSED && is_closed(event));
+    return data;
+}
+
+static void ends_in_full_run(void) {
+    for (unsigned i = 0; i < 20; i++) {
+        pthread_t thread;
+        begin_heap(true);
+        MUST(pthread_create(&thread, NULL, loop_until_the_end, NULL) == 0);
+        while (stats().sections < 3) usleep(100);
+        usleep(i * 300);
+        MUST(zelamiku_heap_stop(all) == ZELAMIKU_OK && pthread_join(thread, NULL) == 0);
+        begin_heap(false);
+        zelamiku_thread own = begin_thread();
+        uint64_t value = 0;
+        MUST(zelamiku_thread_enter(own, 0) == ZELAMIKU_OK && zelamiku_thread_load(own, 0, &value) == ZELAMIKU_OK && value == told);
+        MUST(zelamiku_thread_exit(own, 0) == ZELAMIKU_OK);
+        close_heap_well();
+    }
+}
+
+/* A thread that has never ended its use of a heap keeps its event until another heap has the place. Its handle is nobody's then. */
+static void places(void) {
+    static const zelamiku_plan SMALL = {.fields = FIELDS, .count = 4, .objects = 4, .lanes = 1};
+    int event;
+    begin_heap(true);
+    zelamiku_thread first = begin_thread(), second = begin_loop(&event);
+    uint64_t place = all.number & 0xffff00;
+    close_heap_well();
+    MUST(unlink("event.heap") == 0);
+    for (unsigned i = 0; i < 2 * ZELAMIKU_MOST_HEAPS; i++) {
+        MUST(!is_closed(event) && zelamiku_heap_open(&all, "event.heap", &SMALL, NULL) == ZELAMIKU_OK);
+        if ((all.number & 0xffff00) == place) break;
+        close_heap_well();
+    }
+    MUST((all.number & 0xffff00) == place && is_closed(event));
+    MUST(zelamiku_thread_end(first) == ZELAMIKU_NOTHING && zelamiku_thread_end(second) == ZELAMIKU_NOTHING);
+    close_heap_well();
+}
+
+int main(int argc, char **argv) {
+    MUST(argc == 2 && chdir(argv[1]) == 0);
+    asks();
+    depends();
+    room();
+    ends_and_begins();
+    forks();
+    failing_writes();
+    failing_syncs();
+    stops();
+    gathers();
+    loops_beside_sleepers();
+    ends_in_full_run();
+    places();
+    printf("event loops: asks, room, ends, forks, failing writes and syncs, stops, loops beside sleepers, places\n");
+    return 0;
+}

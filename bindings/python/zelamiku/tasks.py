@@ -1,0 +1,89 @@
+"""Tasks of asyncio that wait until sections are durable: their loop watches an event of the library."""
+from __future__ import annotations
+
+from collections import deque
+from ctypes import byref, c_int, c_uint64
+from typing import TYPE_CHECKING
+
+from .errors import Error
+from .library import OK
+from .link import Link
+from .session import Lane
+
+if TYPE_CHECKING:
+    import asyncio
+
+
+class _Watch:
+    """A loop that watches the event."""
+
+    def __init__(self, event: int) -> None:
+        self.event = event
+        self.asks_soon = False
+
+
+class Tasks:
+    """Those that wait for sections of one thread. The loop that runs there watches the event of its lane while some wait."""
+
+    def __init__(self, link: Link, lane: Lane) -> None:
+        self._link = link
+        self._lane = lane
+        self._waiting: deque[tuple[int, asyncio.Future[None]]] = deque()
+        """How many sections each waits for, in their order."""
+        self._watches: dict[asyncio.AbstractEventLoop, _Watch] = {}
+        self._durable = c_uint64()
+
+    def durable(self) -> asyncio.Future[None]:
+        """A future of the running loop, done once all is durable that the thread has ended by now."""
+        # Whose program has a running loop has it by now; to others it would be a tenth of a second.
+        import asyncio
+
+        loop = asyncio.get_running_loop()
+        watch = self._watches.get(loop) or self._watch(loop)
+        future = loop.create_future()
+        self._waiting.append((self._lane.ended(), future))
+        if not watch.asks_soon:
+            # Once for all tasks that run before the loop waits for events.
+            watch.asks_soon = True
+            loop.call_soon(self._look, watch)
+        return future
+
+    def _watch(self, loop: asyncio.AbstractEventLoop) -> _Watch:
+        for closed in [each for each in self._watches if each.is_closed()]:
+            del self._watches[closed]
+        event = c_int()
+        status = self._link.calls.thread_event(self._lane.handle, byref(event))
+        if status != OK:
+            raise self._link.error(status)
+        self._watches[loop] = watch = _Watch(event.value)
+        loop.add_reader(watch.event, self._look, watch)
+        return watch
+
+    def _look(self, watch: _Watch) -> None:
+        """Tells those whose sections are durable, and all where it went wrong. Asks for the others' sections."""
+        watch.asks_soon = False
+        status = self._link.calls.thread_ask(self._lane.handle, byref(self._durable))
+        durable, waiting = self._durable.value, self._waiting
+        while waiting and waiting[0][0] <= durable:
+            _settle(waiting.popleft()[1], None)
+        while waiting and status != OK:
+            _settle(waiting.popleft()[1], self._link.error(status))
+        if not waiting:
+            self._watch_no_more()
+
+    def _watch_no_more(self) -> None:
+        """So no loop keeps the lane, whose event is closed with it."""
+        watches, self._watches = self._watches, {}
+        for loop, watch in watches.items():
+            if not loop.is_closed():
+                loop.remove_reader(watch.event)
+
+
+def _settle(future: asyncio.Future[None], error: Error | None) -> None:
+    # One that was cancelled waits no more, nor does one whose loop was closed.
+    if future.done() or future.get_loop().is_closed():
+        return
+    if error is None:
+        future.set_result(None)
+    else:
+        future.set_exception(error)

@@ -1,0 +1,202 @@
+//! Futures of durability on a device that fails, and the thread that wakes them.
+use scratch::Scratch;
+use std::ffi::c_void;
+use std::future::Future;
+use std::pin::Pin;
+use std::sync::atomic::{AtomicBool, Ordering::SeqCst};
+use std::sync::{Mutex, PoisonError};
+use std::time::{Duration, Instant};
+use tasks::{block_on, run};
+use zelamiku::service::{Durable, Error, ErrorKind, Heap, Options, Session};
+
+mod scratch;
+mod tasks;
+
+static SYNCS_FAIL: AtomicBool = AtomicBool::new(false);
+static WRITES_FAIL: AtomicBool = AtomicBool::new(false);
+// A call that fails is the process's.
+static ALONE: Mutex<()> = Mutex::new(());
+
+extern "C" {
+    fn fsync(file: i32) -> i32;
+    fn pwritev(file: i32, parts: *const Part, count: i32, at: i64) -> isize;
+    fn __errno_location() -> *mut i32;
+}
+
+#[repr(C)]
+struct Part {
+    bytes: *const c_void,
+    size: usize,
+}
+
+fn fail(error: i32) -> i32 {
+    // SAFETY: the number is this thread's own.
+    unsafe { *__errno_location() = error };
+    -1
+}
+
+// In the place of the system's, of which the library asks each sync. Where it works it is the stronger one, which nothing here replaces.
+#[no_mangle]
+extern "C" fn fdatasync(file: i32) -> i32 {
+    const EIO: i32 = 5;
+    if SYNCS_FAIL.load(SeqCst) {
+        return fail(EIO);
+    }
+    // SAFETY: the call has no pointers.
+    unsafe { fsync(file) }
+}
+
+// The same, of each write.
+#[no_mangle]
+extern "C" fn pwrite(file: i32, bytes: *const c_void, size: usize, at: i64) -> isize {
+    const ENOSPC: i32 = 28;
+    if WRITES_FAIL.load(SeqCst) {
+        return fail(ENOSPC) as isize;
+    }
+    // SAFETY: the bytes are the caller's for this call.
+    unsafe { pwritev(file, &Part { bytes, size }, 1, at) }
+}
+
+fn options() -> Options {
+    Heap::options().lanes(2).objects(3).field(0, 0, 5).field(1, 1, 5).field(2, 2, 5)
+}
+
+fn store(session: &mut Session, value: u64) {
+    session.synchronized(0, |s| s.store(0, value)).unwrap();
+}
+
+// So many futures of one lane, each of a section of its own.
+fn stored(session: &mut Session, count: u64) -> Vec<Durable> {
+    let stored = (0..count).map(|value| {
+        store(session, value);
+        session.durable_async()
+    });
+    stored.collect()
+}
+
+// What they come to.
+fn answers(durables: Vec<Durable>) -> Vec<(Durable, Result<(), Error>)> {
+    let count = durables.len();
+    let told = std::sync::Arc::new(Mutex::new(Vec::new()));
+    run(durables.into_iter().map(|mut durable| {
+        let told = std::sync::Arc::clone(&told);
+        let task = async move {
+            let answer = (&mut durable).await;
+            told.lock().unwrap().push((durable, answer));
+        };
+        Box::pin(task) as Pin<Box<dyn Future<Output = ()> + Send>>
+    }));
+    let mut told = told.lock().unwrap();
+    assert_eq!(told.len(), count);
+    std::mem::take(&mut *told)
+}
+
+#[test]
+fn a_sync_that_fails_is_told_to_all_that_wait() {
+    let _alone = ALONE.lock().unwrap_or_else(PoisonError::into_inner);
+    let scratch = Scratch::new("async-sync");
+    let heap = options().lanes(3).open(&scratch).unwrap();
+    let [mut own, mut open, mut other] = [(); 3].map(|()| heap.session().unwrap());
+    store(&mut own, 6);
+    block_on(own.durable_async()).unwrap();
+    // All that is done under object 0 depends on this one.
+    let mut outer = open.enter(1).unwrap();
+    outer.synchronized(0, |s| s.store(0, 7)).unwrap();
+    let durables = stored(&mut own, 100);
+    let thread = std::thread::spawn(|| answers(durables));
+    while heap.stats().unwrap().awaiting == 0 {
+        std::thread::yield_now();
+    }
+    SYNCS_FAIL.store(true, SeqCst);
+    other.synchronized(2, |s| s.store(2, 7)).unwrap();
+    assert_eq!(other.durable().unwrap_err().kind(), ErrorKind::Sync);
+    SYNCS_FAIL.store(false, SeqCst);
+    for (mut durable, answer) in thread.join().unwrap() {
+        assert_eq!(answer.unwrap_err().kind(), ErrorKind::Sync);
+        assert_eq!(block_on(&mut durable).unwrap_err().kind(), ErrorKind::Sync);
+        assert_eq!(durable.wait().unwrap_err().kind(), ErrorKind::Sync);
+    }
+    assert_eq!(block_on(own.durable_async()).unwrap_err().kind(), ErrorKind::Sync);
+}
+
+#[test]
+fn a_write_that_fails_is_told_and_made_again() {
+    let _alone = ALONE.lock().unwrap_or_else(PoisonError::into_inner);
+    let scratch = Scratch::new("async-write");
+    let heap = options().open(&scratch).unwrap();
+    let mut session = heap.session().unwrap();
+    store(&mut session, 6);
+    block_on(session.durable_async()).unwrap();
+    WRITES_FAIL.store(true, SeqCst);
+    let told = answers(stored(&mut session, 100));
+    // It fails again for who asks again, and by the one that wasn't polled yet.
+    let mut late = session.durable_async();
+    assert_eq!(block_on(&mut late).unwrap_err().kind(), ErrorKind::Write);
+    assert_eq!(block_on(&mut late).unwrap_err().kind(), ErrorKind::Write);
+    assert_eq!(late.wait().unwrap_err().kind(), ErrorKind::Write);
+    WRITES_FAIL.store(false, SeqCst);
+    for (mut durable, answer) in told {
+        let error = answer.unwrap_err();
+        assert_eq!(error.kind(), ErrorKind::Write);
+        let text = error.to_string();
+        assert!(text.contains("No space left") && text.contains("is made again"), "{text}");
+        block_on(&mut durable).unwrap();
+    }
+    block_on(late).unwrap();
+    assert!(session.is_durable(101));
+    heap.close().unwrap();
+}
+
+#[test]
+fn a_write_that_failed_is_made_again_though_nobody_asks() {
+    let _alone = ALONE.lock().unwrap_or_else(PoisonError::into_inner);
+    let scratch = Scratch::new("async-again");
+    let heap = options().open(&scratch).unwrap();
+    let mut session = heap.session().unwrap();
+    WRITES_FAIL.store(true, SeqCst);
+    store(&mut session, 6);
+    assert_eq!(block_on(session.durable_async()).unwrap_err().kind(), ErrorKind::Write);
+    WRITES_FAIL.store(false, SeqCst);
+    let begin = Instant::now();
+    while !session.is_durable(1) {
+        assert!(begin.elapsed() < Duration::from_secs(20));
+        std::thread::sleep(Duration::from_millis(5));
+    }
+}
+
+fn threads_that_wake() -> usize {
+    let tasks = std::fs::read_dir("/proc/self/task").unwrap();
+    let names = tasks.filter_map(|task| std::fs::read_to_string(task.ok()?.path().join("comm")).ok());
+    names.filter(|name| name.trim() == "zelamiku-wakes").count()
+}
+
+#[test]
+fn one_thread_wakes_all_of_a_heap_and_ends_with_it() {
+    let _alone = ALONE.lock().unwrap_or_else(PoisonError::into_inner);
+    let (one, other) = (Scratch::new("async-thread"), Scratch::new("async-threads"));
+    let heaps = [options().open(&one).unwrap(), options().open(&other).unwrap()];
+    // Those of other tests may be about to end.
+    let begin = Instant::now();
+    while threads_that_wake() > 0 {
+        assert!(begin.elapsed() < Duration::from_secs(20));
+    }
+    for heap in &heaps {
+        let mut sessions = [heap.session().unwrap(), heap.session().unwrap()];
+        for session in &mut sessions {
+            store(session, 6);
+            session.durable_async().wait().unwrap();
+        }
+        assert_eq!(threads_that_wake(), usize::from(!std::ptr::eq(heap, &heaps[0])));
+        for session in &mut sessions {
+            assert!(answers(stored(session, 20)).into_iter().all(|(_, answer)| answer.is_ok()));
+        }
+    }
+    assert_eq!(threads_that_wake(), 2);
+    for (at, heap) in heaps.into_iter().enumerate() {
+        drop(heap);
+        let begin = Instant::now();
+        while threads_that_wake() > 1 - at {
+            assert!(begin.elapsed() < Duration::from_secs(20));
+        }
+    }
+}

@@ -1,0 +1,12 @@
+use Rattle.headline.proofs.Given.{gives_kept}
+use Rattle.headline.proofs.recovering.recover_left_of_host.Goals as goal
+
+pub returns-clause-run : goal.returns-clause-run
+returns-clause-run g c h p old y seen host runs left =
+    gives_kept g.E.Disk.device (g.E.Disk.device c.args.left) c.recover.result c.one_study_law.ensures c.recover.ensures.ok c.recover.ensures.refused
+    y.store.known.layout _ p seen (c.running_law.ensures.run h p old y seen host _ runs left)
+
+pub returns-clause-round : goal.returns-clause-round
+returns-clause-round g c x y answer p old host ran made hears left =
+    gives_kept g.E.Disk.device (g.E.Disk.device c.args.left) c.recover.result c.one_study_law.ensures c.recover.ensures.ok c.recover.ensures.refused
+    y.helper.store.known.layout _ p y.helper.seat.view.history (c.running_law.ensures.round x y answer p old host _ ran made hears left)

@@ -1,0 +1,50 @@
+-- What recovery gives of what a crash left while threads ran: the headline, in one place (this project's own).
+use Rattle.std.specs.Prelude.{ℕ, ◌≡◌, ◌<◌, ◌≤◌, List, Result, MatchResult}
+use Rattle.heap_model.specs.declared.event.Event.{Event}
+use Rattle.heap_model.specs.Cuts.{IsClosed, IsWhole, counts_of}
+use Rattle.heap_model.specs.History.{IsLegalHistory, log_of}
+use Rattle.heap_model.specs.Sections.{actions}
+use Rattle.heap_model.specs.Setting.{Setting}
+use Rattle.block_disk.specs.Device.{Device}
+use Rattle.image.specs.declared.layout.Layout.{Layout}
+use Rattle.monitor.specs.Seats.{Home}
+use Rattle.steps.specs.Views.{plan}
+use Rattle.store_image.specs.KeptHeap.{kept_heap}
+use Rattle.store_past.specs.Past.{Past}
+use Rattle.store_past.specs.declared.error.StoreError.{StoreError}
+use Rattle.survival.specs.Promise.{Answer}
+use Rattle.survival.specs.WholeRun.{CannotRecover, MayBeLeft}
+use Rattle.trim_helper.specs.Parts.{IsServing, Parts}
+use Rattle.running_life.specs.Running.{GoesOnLegally, HasMadeRound, Rests}
+
+-- Recovery gave this heap, and reported so many sections of each lane as kept. They are one set of sections: of each lane the first so many. The past
+-- says what was acknowledged before, and `seen` is what the helper has seen of the threads' history.
+pub record Headline (l : Layout) (s : Setting) (p : Past) (seen : List (ℕ × Event)) (heap : List ℕ) (kept : ℕ → ℕ) : Type 0 where
+  pub cut : ℕ → ℕ
+  -- What recovery reports as kept are these sections.
+  pub reported : (lane : ℕ) → lane < l.lanes → kept lane ≡ cut lane
+  -- Every section that was acknowledged in the past is among them.
+  pub acknowledged : (lane : ℕ) → p.cut lane ≤ cut lane
+  -- What the helper has seen is a legal history of the threads.
+  pub legal : IsLegalHistory s seen
+  -- In each legal history that goes on from the one seen, each of them is whole.
+  pub whole : (history : List (ℕ × Event)) → GoesOnLegally s seen history → IsWhole (actions (log_of s history)) cut
+  -- In each such history every section that one of them depends on is among them.
+  pub closed : (history : List (ℕ × Event)) → GoesOnLegally s seen history → IsClosed (actions (log_of s history)) cut
+  -- In each such history the heap has what they stored, in the history's order, over the first values, and nothing else.
+  pub values : (history : List (ℕ × Event)) → GoesOnLegally s seen history → heap ≡ kept_heap l s (log_of s history) cut
+
+-- Recovery gives such a heap. It fails only if a call of its device failed, memory ran out, or the control's sequence is at its end.
+abbrev pub Gives : {E : Type 0} → Layout → Setting → Past → (seen : List (ℕ × Event)) → (image : List ℕ) → Answer E → Type 0
+Gives l s p seen image answer = MatchResult answer (λ r. Headline l s p seen r.0.heap (counts_of r.1.kept)) (λ back. CannotRecover image back.1)
+
+module _ {D : Type 0} (device : D → Device) where
+  -- A crash came at any moment of a round, whatever the round answered: so it gives, with all that was acknowledged before the round.
+  abbrev pub GivesRound : {E : Type 0} → (image : List ℕ) → Answer E → Type 0
+  GivesRound image told = (h : Home) (p : Past) (x y : Parts D) (answer : Result ℕ StoreError) → IsServing device x (plan h) p → HasMadeRound device h p x y answer
+      → MayBeLeft (device x.store.disk) (device y.store.disk) image → Gives y.store.known.layout (plan h) p y.seat.view.history image told
+
+  -- A crash came between two rounds: so it gives, with all that was acknowledged by then.
+  abbrev pub GivesNow : {E : Type 0} → (image : List ℕ) → Answer E → Type 0
+  GivesNow image told = (h : Home) (p : Past) (x : Parts D) (seen : List (ℕ × Event)) → Rests device h p x seen
+      → MayBeLeft (device x.store.disk) (device x.store.disk) image → Gives x.store.known.layout (plan h) p seen image told

@@ -1,0 +1,31 @@
+-- The headline for a heap whose calls a host makes on a device of its own (this project's own).
+use Rattle.std.specs.Prelude.{ℕ, List, Result}
+use Rattle.heap_model.specs.declared.event.Event.{Event}
+use Rattle.block_disk.specs.Device.{Device}
+use Rattle.deferred_disk.specs.Deferred.{Deferred}
+use Rattle.deferred_disk.specs.Host.{Host}
+use Rattle.monitor.specs.Seats.{Home}
+use Rattle.steps.specs.Views.{plan}
+use Rattle.store_past.specs.Past.{Past}
+use Rattle.store_past.specs.declared.error.StoreError.{StoreError}
+use Rattle.survival.specs.Promise.{Answer}
+use Rattle.trim_helper.specs.Parts.{Parts}
+use Rattle.running_life.specs.Running.{RunsOn}
+use Rattle.hosted_heap.specs.Hosting.{Hosting, hosted_device}
+use Rattle.hosted_heap.specs.Rounds.{HearsThreads, MakesRound}
+use Rattle.hosted_life.specs.Running.{HasRunOn}
+use Rattle.hosted_life.specs.Safe.{LeavesSince}
+use Rattle.headline.specs.Headline.{Gives}
+
+-- A store of this past had the old device, and has run since; a helper serves it now, and has seen this history. The host has made the calls that
+-- were handed over by then. A crash of its device came at whatever moment of those that are left: so recovery gives, with all that was acknowledged
+-- in that past.
+abbrev pub GivesHostRun : {E : Type 0} → (image : List ℕ) → Answer E → Type 0
+GivesHostRun image told = (h : Home) (p : Past) (old : Device) (y : Parts Deferred) (seen : List (ℕ × Event)) (c : Host)
+    → RunsOn hosted_device h p old y seen → LeavesSince old y.store.disk c image → Gives y.store.known.layout (plan h) p seen image told
+
+-- So it is over a round of the heap, whatever the round answers.
+abbrev pub GivesHostRound : {E : Type 0} → (image : List ℕ) → Answer E → Type 0
+GivesHostRound image told = (x y : Hosting) (answer : Result ℕ StoreError) (p : Past) (old : Device) (c : Host)
+    → HasRunOn x p old → MakesRound x y answer → HearsThreads x y → LeavesSince old y.helper.store.disk c image
+    → Gives y.helper.store.known.layout (plan x.home) p y.helper.seat.view.history image told

@@ -1,0 +1,51 @@
+//! Recovery of what a crash left of a heap while its threads ran.
+ghost use Rattle.headline.specs.Headline.{GivesNow, GivesRound};
+ghost use Rattle.headline.specs.Hosts.{GivesHostRound, GivesHostRun};
+
+use block_disk::Disk;
+use hosted_life::running_law;
+use image::Recovered;
+use recover::{RecoverError, Report, one_study_law, recover};
+use running_life::round_law;
+use std::alloc::Global;
+
+/// Recovers a device that holds what a crash left of a heap while its threads ran, on a device of kind `D`.
+///
+/// It gives the heap of one set of sections, and counts them. In each legal history that goes on from what the helper has seen of the
+/// threads, they are whole sections, each with every section that it depends on. Every section is among them that was acknowledged
+/// before the round of the crash, or by then if the crash came between two rounds. It fails only if a call of its own device fails,
+/// memory runs out, or the control's sequence is at its end.
+pub fn recover_left<D: Disk, E: Disk>(
+    alloc: Global,
+    left: E,
+) -> Result<(Recovered<E>, Report), (E, RecoverError)>
+    // Of what a crash left at any moment of a round, recovery gives whole sections of the threads' history, each with all
+    // that it depends on, and with all that was acknowledged before the round.
+    ensures round { GivesRound D.device (E.device left).now.bytes result }
+    // Of what a crash leaves between two rounds, recovery gives all that is acknowledged by then.
+    ensures now { GivesNow D.device (E.device left).now.bytes result }
+{
+    round_law::<D>();
+    one_study_law();
+    recover(alloc, left)
+}
+
+/// The same for a heap whose calls a host makes on a device of its own, which a crash of that device left.
+///
+/// Every section is among those that it gives that was acknowledged when the host had made the calls handed over by then, or when the
+/// round of the crash began.
+pub fn recover_left_of_host<E: Disk>(
+    alloc: Global,
+    left: E,
+) -> Result<(Recovered<E>, Report), (E, RecoverError)>
+    // Of what a crash of a host's device left while threads ran, recovery gives whole sections of the threads' history,
+    // with all that was acknowledged when the host had made the calls that were handed over by then.
+    ensures run { GivesHostRun (E.device left).now.bytes result }
+    // So it does of what a crash of the host's device left by the end of a round, by the history that the helper has seen
+    // at that end.
+    ensures round { GivesHostRound (E.device left).now.bytes result }
+{
+    running_law();
+    one_study_law();
+    recover::<E>(alloc, left)
+}

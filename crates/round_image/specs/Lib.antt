@@ -1,0 +1,3 @@
+-- What public clauses state.
+pub mod Turning
+pub mod Promises

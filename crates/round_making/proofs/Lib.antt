@@ -1,0 +1,4 @@
+pub mod Leading
+pub mod Following
+pub mod HelperRecords
+pub mod BeyondLemmas

@@ -1,0 +1,6 @@
+-- What public clauses state.
+pub mod Rounds
+pub mod Promises
+pub mod Joining
+pub mod Helper
+pub mod Beyond

@@ -1,0 +1,4 @@
+pub mod Legal
+pub mod Studied
+pub mod Rounds
+pub mod WorkedRounds

@@ -1,0 +1,3 @@
+-- What public clauses state.
+pub mod Laws
+pub mod Worked
