@@ -108,6 +108,15 @@ static void let_go(judge *it, uint32_t lane) {
     end_section(it, lane, own->object);
 }
 
+/* The heap's end has answered an exit or a wait. Its lane goes on with nothing, so the monitor may be free, and who tries may find it held. */
+static void cut_off(judge *it, uint32_t lane) {
+    judged_lane *own = &it->of[lane];
+    if (own->has_let_go) return;
+    let_go(it, lane);
+    it->set[own->object] &= ~((uint64_t)1 << lane);
+    it->cut[own->object] |= (uint64_t)1 << lane;
+}
+
 /* Whoever tries meanwhile may have found the monitor taken. */
 static void tell_of_owner(judge *it, uint32_t lane, uint32_t object) {
     for (uint32_t other = 0; other < it->lanes; other++)
@@ -146,7 +155,8 @@ void judge_entered(judge *it, uint32_t lane, zelamiku_status status) {
     bool is_answer = status == ZELAMIKU_HELD || status == ZELAMIKU_BEHIND, is_late = own->deadline == 0 || search_time() >= own->deadline;
     if (status == ZELAMIKU_OK) return take(it, lane, own->object, 1);
     if (is_answer && !is_late) search_fail("lane %u: enter %u answers %u before its deadline", lane, own->object, status);
-    if (status == ZELAMIKU_HELD && !own->may_be_held) search_fail("lane %u: object %u is HELD, and nobody has it", lane, own->object);
+    bool may_be_held = own->may_be_held || it->cut[own->object] != 0;
+    if (status == ZELAMIKU_HELD && !may_be_held) search_fail("lane %u: object %u is HELD, and nobody has it", lane, own->object);
     if (status == ZELAMIKU_BEHIND && judge_held(it, lane) > 0) search_fail("lane %u: no room in the middle of a section", lane);
     if (status == ZELAMIKU_DEVICE && it->has_trouble) return;
     if (status == ZELAMIKU_SECTION_FULL && may_be_full(it, lane)) return;
@@ -160,7 +170,8 @@ void judge_exits(judge *it, uint32_t lane, uint32_t object) {
 void judge_exited(judge *it, uint32_t lane, zelamiku_status status) {
     judged_lane *own = &it->of[lane];
     bool is_held = own->call == EXITS;
-    if (is_held && (status == ZELAMIKU_OK || judge_is_end(it, status)) && !own->has_let_go) let_go(it, lane);
+    if (is_held && status == ZELAMIKU_OK && !own->has_let_go) let_go(it, lane);
+    if (is_held && judge_is_end(it, status)) cut_off(it, lane);
     if (judge_held(it, lane) == 0) {
         own->slips_through = false;
         own->must_end = own->was_ended;
@@ -178,6 +189,7 @@ void judge_waited(judge *it, uint32_t lane, zelamiku_status status) {
     judged_lane *own = &it->of[lane];
     bool was_held = own->call == WAITS;
     uint64_t bit = (uint64_t)1 << lane;
+    if (was_held && judge_is_end(it, status)) cut_off(it, lane);
     if (is_over(it, lane, status)) return;
     if (!was_held && status == ZELAMIKU_NOT_HELD) return;
     bool is_refused = status == ZELAMIKU_BEHIND || (status == ZELAMIKU_DEVICE && it->has_trouble);
@@ -193,8 +205,9 @@ void judge_notified(judge *it, uint32_t lane, uint32_t object, zelamiku_status s
     bool is_held = it->of[lane].locks[object] > 0;
     if (is_over(it, lane, status)) return;
     if (status != (is_held ? ZELAMIKU_OK : ZELAMIKU_NOT_HELD)) search_fail("lane %u: notify %u answers %u", lane, object, status);
-    uint64_t set = is_held ? it->set[object] : 0;
-    bool is_right = is_all ? lanes == set : set == 0 ? lanes == 0 : (lanes & set) == lanes && lanes != 0 && (lanes & (lanes - 1)) == 0;
+    uint64_t set = is_held ? it->set[object] : 0, cut = is_held ? it->cut[object] : 0, may_wait = set | cut;
+    bool is_one = lanes == 0 ? set == 0 : (lanes & may_wait) == lanes && (lanes & (lanes - 1)) == 0;
+    bool is_right = is_all ? (lanes & ~cut) == set : is_one;
     if (!is_right) search_fail("lane %u: notify %u wakes %llx, and %llx wait", lane, object, (unsigned long long)lanes, (unsigned long long)set);
     it->set[object] &= ~lanes;
     it->notified[object] |= lanes;

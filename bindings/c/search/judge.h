@@ -49,6 +49,7 @@ typedef struct {
     zelamiku_heap heap;
     uint32_t owner[OBJECTS];
     uint64_t set[OBJECTS], notified[OBJECTS]; /* a bit for each lane */
+    uint64_t cut[OBJECTS]; /* whose wait or exit the heap's end has cut off: nobody is told whether it had freed the monitor */
     uint32_t signals[OBJECTS]; /* the program's, guarded by the monitor */
     uint64_t values[FIELDS];
     judged_lane of[MOST_LANES];
