@@ -1,66 +1,38 @@
-/* Zelamiku: a failure-atomic object heap for threads that synchronize by monitors.
+/* Zelamiku for the threads of a program: a heap in a file, by its path, or on another device. A program begins with this header.
  *
- * A heap has objects, which are monitors, and fields of 64 bits, each guarded by an object. A thread enters monitors, loads and
- * stores the fields that they guard, and exits. What it does from its first enter to its last exit is a section: after a crash
- * each section is there whole or not at all, and with it each section that it has seen.
+ *     static const zelamiku_field FIELDS[] = {{0, 0, 100, 0}};                field 0: of object 0, guarded by it, at first 100
+ *     zelamiku_plan plan = {.objects = 1, .fields = FIELDS, .count = 1};
+ *     zelamiku_heap heap;
+ *     zelamiku_thread own;
+ *     if (zelamiku_heap_open(&heap, "accounts.heap", &plan, NULL) != ZELAMIKU_OK) ...     makes the heap, or recovers it
+ *     if (zelamiku_thread_begin(&own, heap) != ZELAMIKU_OK) ...                           in each thread
+ *     if (zelamiku_thread_enter(own, 0) != ZELAMIKU_OK) ...                               sleeps while another thread has the monitor
+ *     if (zelamiku_thread_store(own, 0, 90) != ZELAMIKU_OK) ...
+ *     if (zelamiku_thread_exit(own, 0) != ZELAMIKU_OK) ...                                the section ends
+ *     if (zelamiku_thread_await(own) != ZELAMIKU_OK) ...                                  sleeps until no crash loses it
+ *     if (zelamiku_thread_end(own) != ZELAMIKU_OK) ...
+ *     if (zelamiku_heap_close(heap) != ZELAMIKU_OK) ...
  *
- * Build and link, after tools/c-library:
- *     cc program.c -I bindings/c crates/zelamiku/out/host/libzelamiku.a -pthread
+ * Threads use the heap as they use mutexes and condition variables. The helper, a thread of the library, makes what they do durable, in
+ * rounds of four syncs each. Link with -lzelamiku and -pthread. docs/EMBEDDING.md is the manual.
  *
- * What the caller upholds, for each call:
- *  - a handle begins as ZELAMIKU_NONE, isn't copied, and is changed by these calls alone. A handle may go to another thread;
- *  - one call at a time has a handle: the threads order their calls by a mutex, a start or join, or sequentially consistent atomics;
- *  - pointers are never NULL, also where a size or count is 0; they are valid for the call, point to initialized memory that nothing
- *    else reads or writes meanwhile, and don't overlap;
- *  - the device is changed by the calls of zelamiku_next_call alone, in their order, one at a time;
- *  - malloc, realloc and free are of one allocator, and align a block to each power of two up to 16 that divides its size, as those
- *    of C11 do;
- *  - no call comes from a signal handler, or in a child that was forked by a process with threads.
- * Everything else is answered by a status. No call waits, blocks, starts a thread or panics; each out-parameter is always set.
+ * Answers. Every call answers on every argument. A call that fails sets a text for its thread, with path, cause and cure:
+ * zelamiku_heap_message. A NULL pointer that may not be one, and a handle that never began or has ended, are answered NOTHING. In a child
+ * that was forked every call on its parent's heaps answers FORKED, and the parent goes on. Once a heap is at its end each call on it
+ * answers why, until its place serves another heap, and NOTHING then:
+ *   CLOSED               it was closed or stopped
+ *   ABANDONED            zelamiku_heap_abandon
+ *   LOST                 a sync has failed: what wasn't durable may be gone, though the file still reads as it was written. Close the heap,
+ *                        mount the file system again, and open the heap again
+ *   FAULT, FAILED, WORN  the library has stopped, mostly for want of memory. Close the heap, and open it again
+ * A section of which an enter or a wait was underway just then may go on until its last exit, which answers why. What was durable stays in
+ * each case. DEVICE is not the end: a write has failed, as on a full disk. Nothing is lost, and the write is made
+ * again by the next call that waits for a round, and by the helper each second.
  *
- * The device. The proved library has no file: it works in memory, and asks the host to write and sync. On a file of the system
- * zelamiku_threads.h does that, with a scheduler for threads; on a network block device zelamiku_nbd.h; on whole sectors
- * zelamiku_sectors.h. Elsewhere zelamiku_next_call tells the next call, the host makes it on a device
- * of its own (a volume, a ring of requests), and zelamiku_call_done says that it has:
- *     uint8_t buffer[ZELAMIKU_MOST_BYTES];
- *     zelamiku_call call = {0};
- *     for (;;) {
- *         if (zelamiku_next_call(&heap, &call, buffer, sizeof buffer) != ZELAMIKU_OK) return -1;
- *         if (call.kind == ZELAMIKU_NO_CALL) return 0;
- *         if (call.size > sizeof buffer) return -1; // it isn't whole in the buffer
- *         bool made = call.kind == ZELAMIKU_WRITE ? pwrite(fd, buffer, call.size, (off_t)call.at) == (ssize_t)call.size
- *                                                 : fdatasync(fd) == 0;
- *         if (!made) return zelamiku_call_failed(&heap) == ZELAMIKU_OK ? 1 : -1; // and never zelamiku_call_done for it
- *         if (zelamiku_call_done(&heap) != ZELAMIKU_OK) return -1;
- *     }
- * A write that fails may be made again: the same call is told again. Only on the same device, though: over a connection that was made anew,
- * what was answered since the last sync may be gone, so all of it is written again, or the heap let go (zelamiku_nbd.h does so).
- * A sync that fails may not be made again, nor any later call. What was written before it may be lost, though the file still reads
- * as it was written, and though a later sync succeeds: systems drop the pages that they couldn't write. Told of it by
- * zelamiku_call_failed, the library lets the heap go: each later call of it answers ZELAMIKU_STOPPED, and so does each session that
- * would enter, wait or resume. Free the handles, and open the heap again from bytes that the device itself has: read past the
- * system's cache, or after the file system was mounted again.
+ * Rules. One call at a time has a thread's handle, but for those of which it says "any thread may". No call comes from a signal handler, and
+ * no thread is cancelled in one. Handles are numbers: they may be copied, kept, and handed to other threads.
  *
- * The premise on the device: between two syncs each range that is written may hold any bytes after a crash, and every other byte stays. A
- * device of sectors, and the system's page cache, write the neighbours of a range again too, so there it holds exactly where rewriting a
- * durable byte with its own value can't lose it (SQLite's powersafe overwrite). NVMe promises that of a logical block, and replicated Ceph
- * RBD does; ATA and SCSI don't, nor drives without power-loss protection, nor parity RAID without a journal: docs/FORMAT.md, "What the
- * device keeps". zelamiku_threads.h and zelamiku_nbd.h rest on it too.
- * One host writes the device at a time. Where another machine may open it, the device ends the other one's access first, with its requests
- * that are underway: docs/EMBEDDING.md, "Another machine".
- *
- * Waiting is the host's. Where a call answers ZELAMIKU_HELD, ZELAMIKU_BEHIND or ZELAMIKU_IN_SET, try again later; other answers stay:
- *     for (unsigned spins = 0; (answer = zelamiku_try_enter(&session, object)) == ZELAMIKU_HELD || answer == ZELAMIKU_BEHIND; spins++)
- *         if (spins > 100) sched_yield();
- *     if (answer != ZELAMIKU_OK) ...
- * With a condition variable of the host's own, an exit or a notification is told to those that wait, and so is a call that failed:
- *     pthread_mutex_lock(&m);
- *     while ((answer = zelamiku_try_resume(&session)) == ZELAMIKU_IN_SET || answer == ZELAMIKU_HELD) pthread_cond_wait(&changed, &m);
- *     pthread_mutex_unlock(&m);
- *     if (answer != ZELAMIKU_OK) ...
- *     if (zelamiku_exit(&session, object) != ZELAMIKU_OK) ...
- *     pthread_mutex_lock(&m); pthread_cond_broadcast(&changed); pthread_mutex_unlock(&m);
- */
+ * This is C over the proved library. Nothing proves it; docs/TESTED.md says how it is tested. */
 #ifndef ZELAMIKU_H
 #define ZELAMIKU_H
 #include <stdbool.h>
@@ -90,17 +62,6 @@ extern "C" {
 #define ZELAMIKU_MOST_FAT 1024       /* monitors that were ever waited for, or locked more often than that, in one opening */
 #define ZELAMIKU_MOST_BYTES 4096     /* of a write */
 #define ZELAMIKU_MOST_SLOTS 16383    /* of a pool */
-
-/* A handle: of a heap, or of a session. One of static storage begins as ZELAMIKU_NONE by itself. */
-typedef struct {
-    void *at;
-    bool is_open;
-} zelamiku_handle;
-#ifdef __cplusplus
-#define ZELAMIKU_NONE (zelamiku_handle{nullptr, false})
-#else
-#define ZELAMIKU_NONE ((zelamiku_handle){NULL, false})
-#endif
 
 /* A status that is dropped may be the only word of a heap that has stopped: the compiler warns. */
 #if defined(__GNUC__)
@@ -145,16 +106,16 @@ typedef enum {
     ZELAMIKU_ILLEGAL_LOG = 31,    /* no threads can have left the image's log */
     ZELAMIKU_DEVICE = 32,         /* of the hosts: a call of the file, the server or the sectors has failed */
     ZELAMIKU_LOST = 33,           /* of the hosts: a sync has failed, or the connection has ended, and the heap has stopped */
-    ZELAMIKU_BUSY = 34,           /* of zelamiku_threads.h: another open of the file has its heap, or the file was replaced or removed */
-    ZELAMIKU_STOPPED = 35,        /* the heap has stopped since the host told that it couldn't make a sync (zelamiku_call_failed) */
+    ZELAMIKU_BUSY = 34,           /* of a heap by its name: another open of the file has its heap, or the file was replaced or removed */
+    ZELAMIKU_STOPPED = 35,        /* the heap has stopped since the host told the proved library that it couldn't make a sync */
     ZELAMIKU_POOL_EMPTY = 36,     /* no slot of the pool is free */
     ZELAMIKU_NOT_TAKEN = 37,      /* the slot isn't taken, or the pool has no such slot */
     ZELAMIKU_DAMAGED = 38,        /* a field of the pool names no slot: it isn't a pool's, or was stored to by other calls */
     ZELAMIKU_CLOSED = 39,         /* the heap was closed */
-    ZELAMIKU_OLD_VERSION = 40,    /* the image has version 1, from before there were transient fields: zelamiku_upgrade opens it */
-    ZELAMIKU_FORKED = 41,         /* of zelamiku_threads.h: the heap is that of the process that has forked this one */
-    ZELAMIKU_ABANDONED = 42,      /* of zelamiku_threads.h: the heap was abandoned */
-    ZELAMIKU_OTHER_HEAP = 43,     /* of zelamiku_threads.h: the file's heap isn't that of the plan */
+    ZELAMIKU_OLD_VERSION = 40,    /* the image has version 1, from before there were transient fields: a plan with `upgrades` opens it */
+    ZELAMIKU_FORKED = 41,         /* of a heap by its name: the heap is that of the process that has forked this one */
+    ZELAMIKU_ABANDONED = 42,      /* of a heap by its name: the heap was abandoned */
+    ZELAMIKU_OTHER_HEAP = 43,     /* of a heap by its name: the file's heap isn't that of the plan */
     ZELAMIKU_RING = 44            /* a lane's ring would hold fewer than 4,096 records, or more than 65,536 */
 } zelamiku_status;
 
@@ -200,15 +161,6 @@ typedef struct {
     uint32_t other_lane;    /* and that one's lane; else ZELAMIKU_NOBODY */
 } zelamiku_dropped;
 
-enum { ZELAMIKU_NO_CALL = 0, ZELAMIKU_WRITE = 1, ZELAMIKU_SYNC = 2 };
-
-/* A call of the device. */
-typedef struct {
-    uint32_t kind;
-    uint64_t at;   /* where to write, in bytes from the device's start */
-    uint64_t size; /* how many bytes */
-} zelamiku_call;
-
 /* What a look shows of a monitor. */
 typedef struct {
     uint32_t owner; /* its owner's lane; ZELAMIKU_NOBODY where it is free */
@@ -218,6 +170,313 @@ typedef struct {
 
 #define ZELAMIKU_NOBODY 64
 
+/* A heap, and a thread's use of one: a lane of it. All zeros is no handle. To other languages each is a uint64_t. */
+typedef struct {
+    uint64_t number;
+} zelamiku_heap;
+typedef struct {
+    uint64_t number;
+} zelamiku_thread;
+
+enum {
+    ZELAMIKU_MOST_HEAPS = 256,     /* one more than may be open at once in a process */
+    ZELAMIKU_MOST_MESSAGE = 1024,  /* bytes of a message, with its end */
+    ZELAMIKU_DEFAULT_LANES = 8,
+    ZELAMIKU_DEFAULT_RING = 16384,
+    ZELAMIKU_DEFAULT_LINGER = 5000 /* microseconds */
+};
+#define ZELAMIKU_NO_DEADLINE 18446744073709551615u
+#define ZELAMIKU_ALL_SECTIONS 18446744073709551615u
+
+/* What the log hook is told: `level` is one of these, `text` one line without its end. It is called by the helper's thread, by one that
+ * opens, closes, copies or waits for a round, or by one that has slept for a monitor for a second, and never while that thread has a mutex of
+ * the library. It calls nothing of this heap. */
+enum { ZELAMIKU_LOG_INFO = 0, ZELAMIKU_LOG_WARNING = 1, ZELAMIKU_LOG_ERROR = 2 };
+typedef void zelamiku_log(void *of, uint32_t level, const char *text);
+
+/* What a heap is made of, and how it works. All zeros but for objects, fields and count is a good plan.
+ * What a thread does lies in its lane's ring until a round takes it, and in the lane's log until it is durable. One that has no room in either
+ * sleeps until a round. So a larger ring and a larger log give more sections a second where syncs are slow and few threads wait. A ring holds no
+ * more than its log. */
+typedef struct {
+    const zelamiku_field *fields; /* numbered from 0 */
+    uint32_t count;               /* of fields: 1 to 16,384, or with a fingerprint to 16,383 */
+    uint32_t objects;             /* 1 to 4,096, numbered from 0 */
+    uint32_t lanes;               /* how many threads use the heap at once: 1 to 32; 0 is 8. A heap that is there may have more */
+    uint32_t capacity;            /* records of a lane's log: 2,000 to 1,048,576; 0: as its ring. A heap that is there keeps its own */
+    uint32_t ring;                /* records of a lane's ring: 4,096 to 65,536; 0 is 16,384. 24 bytes of memory each: 393 kB a lane */
+    uint32_t linger;              /* microseconds that a section which has stored, and nobody waits for, may lie before a round; 0 is 5,000 */
+    uint32_t upgrades;            /* 1: a heap of an older version is upgraded in place; 0: OLD_VERSION */
+    uint32_t must_exist;          /* 1: a path without a heap is refused, and no file is made */
+    uint32_t reverts;             /* 1: zelamiku_thread_revert takes back what a section has stored. 24 bytes of memory a lane and field */
+    uint32_t keeps_slice;         /* 1: threads keep the time slice that they have; 0: those that make rounds or wait for them ask for a short one */
+    uint64_t fingerprint;         /* of the names that the fields have in the program, or any number: see zelamiku_heap_open. 0: none */
+    zelamiku_log *log;            /* or NULL */
+    void *log_of;                 /* handed to it */
+} zelamiku_plan;
+
+/* In what the file's heap differs from the plan. */
+enum {
+    ZELAMIKU_SAME = 0,
+    ZELAMIKU_DIFFERENT_LANES = 1, /* the file has fewer */
+    ZELAMIKU_DIFFERENT_OBJECTS = 2,
+    ZELAMIKU_DIFFERENT_COUNT = 3, /* of fields */
+    ZELAMIKU_DIFFERENT_OWNER = 4,
+    ZELAMIKU_DIFFERENT_GUARD = 5,
+    ZELAMIKU_DIFFERENT_MARK = 6,  /* is_transient */
+    ZELAMIKU_DIFFERENT_FINGERPRINT = 7 /* the plan's names, or their order */
+};
+
+/* What an open found. */
+typedef struct {
+    zelamiku_told told;     /* what the heap has, and which sections recovery kept; after BAD_RECORD and ILLEGAL_LOG the record */
+    uint32_t is_made;       /* 1: the path had no heap, and this open made one */
+    uint32_t is_upgraded;   /* 1: it had an older version */
+    uint32_t difference;    /* after OTHER_HEAP: the first one found, and then */
+    uint32_t field;         /* which field, for OWNER, GUARD and MARK */
+    uint64_t has, planned;  /* what the file has there, and what the plan says */
+} zelamiku_report;
+
+/* Why the last round came. */
+enum {
+    ZELAMIKU_ROUND_NONE = 0,
+    ZELAMIKU_ROUND_OPENING = 1, /* the calls of opening and making */
+    ZELAMIKU_ROUND_AWAITED = 2, /* a thread waits for its sections */
+    ZELAMIKU_ROUND_ROOM = 3,    /* a thread has no room for a section's records */
+    ZELAMIKU_ROUND_FULL = 4,    /* a lane has sent three quarters of what its ring or its log takes */
+    ZELAMIKU_ROUND_LINGER = 5,  /* the linger has passed */
+    ZELAMIKU_ROUND_AGAIN = 6,   /* a second after a write has failed */
+    ZELAMIKU_ROUND_CLOSING = 7,
+    ZELAMIKU_ROUND_LEFT = 8     /* the last one has left records, for its bound */
+};
+
+/* Counts since the open; each is exact, and they are of moments close to each other. Times are nanoseconds. */
+typedef struct {
+    uint64_t rounds;        /* that have ended, also those of which a call failed */
+    uint64_t sections;      /* that are durable */
+    uint64_t records;       /* that rounds took */
+    uint64_t calls, syncs;  /* made on the device; syncs are among the calls */
+    uint64_t troubles;      /* rounds of which a write failed */
+    uint64_t calls_time;    /* in the calls of all rounds */
+    uint64_t longest_round; /* from its first record to its last call */
+    uint32_t lent;          /* lanes in use */
+    uint32_t awaiting;      /* threads that sleep until their sections are durable, or until there is room; or wait for that by an event loop */
+    uint32_t entering;      /* threads that sleep for a monitor */
+    uint32_t last_cause;    /* ZELAMIKU_ROUND_.. */
+    uint32_t is_astray;     /* 1: the path led to another file than the heap's or to none, at the last look: rounds look each second */
+    uint32_t reserved;      /* 0 */
+} zelamiku_stats;
+
+/* A thread that sleeps for a monitor. */
+typedef struct {
+    uint32_t lane;      /* the thread's */
+    uint32_t object;    /* whose monitor it wants */
+    uint32_t owner;     /* the lane that has that; ZELAMIKU_NOBODY: none now, or it can't be told, since all lanes are in sections and none sleeps */
+    uint32_t in_circle; /* 1: it is one of threads that wait for each other: none of them goes on by itself */
+} zelamiku_wait;
+
+/* ---- texts ---- */
+
+/* A text of a status, for people. zelamiku_heap_message tells more of a call that failed. */
+const char *zelamiku_status_text(uint32_t status);
+
+/* The version of the library, as ZELAMIKU_VERSION_NUMBER is of this header: other numbers, other releases. */
+ZELAMIKU_MUST_USE uint32_t zelamiku_version(void);
+
+/* The text of the calling thread's last call here that failed: "PATH: what; the cause; the cure", or "" where none has. HELD, BEHIND and
+ * POOL_EMPTY are answers, and no failures: they leave it as it was. It is good until the thread's next call that fails. */
+const char *zelamiku_heap_message(void);
+
+/* The system's number of the cause of that failure (errno), as ENOSPC; 0 where it had none. */
+int zelamiku_heap_error(void);
+
+/* ---- a heap ---- */
+
+/* Opens the heap of the file at this path, and starts its helper; makes the heap where there is no file, or one that is free: it is empty, has
+ * only zeros, or is a heap whose making was cut off. A heap that was there is recovered. The file is locked for this open. `report` may be
+ * NULL. It is filled in also where the call fails. After a failure `heap` is no handle.
+ * A heap is made in a new file beside the path (PATH.heapctl-new, at the end of links). It is locked, synced and renamed to the path, and the
+ * folder is synced. A process that dies meanwhile leaves the path as it was, and the file beside, which the next making there takes up.
+ * A heap that is made by a plan with a fingerprint has one field more, the last: transient, of object 0, with the fingerprint as its first
+ * value. The report doesn't count it. A heap without one, with as many fields as the plan, is opened too.
+ * BUSY: another process has the heap, or makes one there, or this one has it open already (by device and inode: another name of the file is
+ * the same), or the file was replaced meanwhile. OTHER_HEAP: the file's heap isn't that of the plan: the report has the first difference.
+ * NOT_FORMATTED: the file has something else, also a heap whose first bytes were damaged; or there is no heap, and by the plan there must be.
+ * DEVICE: it can't be opened, made, locked, read or written: zelamiku_heap_error has the cause. These, and what zelamiku_open and
+ * zelamiku_format answer, leave a file that was there as it was, and no file where there was none; but where a new heap's folder can't be
+ * synced (DEVICE) a file that was free may be one with the heap. NONE_LEFT: 255 heaps are open. NO_MEMORY: no memory, or no thread could be
+ * started. */
+#define zelamiku_heap_open zelamiku_heap_open_2 /* the plan's layout: a program of an older header, whose plans are shorter, doesn't link */
+ZELAMIKU_MUST_USE zelamiku_status zelamiku_heap_open(zelamiku_heap *heap, const char *path, const zelamiku_plan *plan,
+                                                     zelamiku_report *report);
+
+/* Sections that recovery dropped, by lane and then by number, from that one on: `told` gets how many were written into `dropped`. */
+ZELAMIKU_MUST_USE zelamiku_status zelamiku_heap_dropped(zelamiku_heap heap, size_t from, zelamiku_dropped *dropped, size_t count,
+                                                        size_t *told);
+
+/* Closes the heap, whose sections have all ended, once all are durable. Threads that have lanes still are answered CLOSED.
+ * RUNNING: a section is open, or a thread waits. DEVICE: a write has failed. The heap goes on in both cases. What the heap has ended with:
+ * it is let go, and that answer says why. */
+ZELAMIKU_MUST_USE zelamiku_status zelamiku_heap_close(zelamiku_heap heap);
+
+/* The same for a heap whose threads are in sections or wait: these are answered CLOSED at once, also where they sleep. What has ended is
+ * made durable first, but for what depends on a section that is open. The next open drops that and the open sections, as after a crash. */
+ZELAMIKU_MUST_USE zelamiku_status zelamiku_heap_stop(zelamiku_heap heap);
+
+/* The same, and calls answer ABANDONED: for a heap one of whose threads has ended, or failed, inside its section. The lane's memory is kept
+ * until that thread calls again. */
+ZELAMIKU_MUST_USE zelamiku_status zelamiku_heap_abandon(zelamiku_heap heap);
+
+/* Writes a copy of the heap, of a moment between two rounds, to the path: beside it (PATH.heapctl-new, at the end of links), synced, and renamed
+ * over what is there, which is locked until then. Threads go on meanwhile. Opening the copy gives all that was durable when the call began. A
+ * copy that a kill has cut off leaves the file beside, which the next copy or making there takes up.
+ * DEVICE: the copy can't be written: what is at the path stays. So it is for each heap that has no file. Where the
+ * message says that the folder can't be synced, the new copy is at the path, and a power failure may bring back what was there before.
+ * NO_MEMORY. BUSY: a heap of that path is open, this one or another, or something else is made there now. */
+ZELAMIKU_MUST_USE zelamiku_status zelamiku_heap_copy(zelamiku_heap heap, const char *path);
+
+ZELAMIKU_MUST_USE zelamiku_status zelamiku_heap_stats(zelamiku_heap heap, zelamiku_stats *stats);
+
+/* Which threads sleep for monitors now, and who has them, by lane: `told` gets how many were written into `waits`. There are
+ * ZELAMIKU_MOST_LANES at most. Threads that wait for a notification aren't among them. Nothing is done to a circle: of its threads one that
+ * has a deadline gives up, or the heap is stopped. The log hook is told of each circle once, after one of its threads has slept for a second. */
+ZELAMIKU_MUST_USE zelamiku_status zelamiku_heap_waits(zelamiku_heap heap, zelamiku_wait *waits, size_t count, size_t *told);
+
+/* Sleeps until more rounds than `seen` have ended, or until the deadline: nanoseconds of CLOCK_MONOTONIC, as zelamiku_now tells them, or
+ * ZELAMIKU_NO_DEADLINE. `rounds` gets how many have. It asks for a round where a section has ended that none has taken. Any thread may
+ * call it, without a lane: so one thread waits for the sections of many (zelamiku_thread_durable).
+ * DEVICE: the write of a round has failed; `rounds` is told. */
+ZELAMIKU_MUST_USE zelamiku_status zelamiku_heap_await_round(zelamiku_heap heap, uint64_t seen, uint64_t deadline, uint64_t *rounds);
+
+uint64_t zelamiku_now(void);
+
+/* ---- a thread's use of it ---- */
+
+/* Hands out a lane that nobody has. NONE_LEFT: each is in use: `thread` is no handle. */
+ZELAMIKU_MUST_USE zelamiku_status zelamiku_thread_begin(zelamiku_thread *thread, zelamiku_heap heap);
+
+/* Gives the lane back. UNFINISHED: it holds a monitor: nothing was done. At the heap's end it answers why; the lane is given back too. */
+ZELAMIKU_MUST_USE zelamiku_status zelamiku_thread_end(zelamiku_thread thread);
+
+/* Takes the object's monitor, or one lock more of it, and sleeps while another thread has it or the lane has no room before a round.
+ * Threads that sleep for one monitor get it in the order in which they came; one that comes while it is free takes it before them. Take
+ * monitors in one order everywhere: two threads that wait for each other's wait for ever.
+ * UNKNOWN_OBJECT, SECTION_FULL, TOO_MANY, TOO_DEEP, NO_FAT, WORN; DEVICE, where a round that was waited for can't write: what is held
+ * stays as it was. */
+ZELAMIKU_MUST_USE zelamiku_status zelamiku_thread_enter(zelamiku_thread thread, uint32_t object);
+
+/* The same, and doesn't sleep. HELD: another thread has the monitor. BEHIND: the lane has no room: a round was asked for. */
+ZELAMIKU_MUST_USE zelamiku_status zelamiku_thread_try_enter(zelamiku_thread thread, uint32_t object);
+
+/* The same, and sleeps until the deadline at most. HELD, BEHIND: so it still was then. */
+ZELAMIKU_MUST_USE zelamiku_status zelamiku_thread_enter_until(zelamiku_thread thread, uint32_t object, uint64_t deadline);
+
+/* Gives one lock back, and with the last one the monitor. With the last monitor the section ends.
+ * UNKNOWN_OBJECT, NOT_HELD: nothing was done. At the heap's end it answers why, and the lock is given back. */
+ZELAMIKU_MUST_USE zelamiku_status zelamiku_thread_exit(zelamiku_thread thread, uint32_t object);
+
+/* Loads a field whose guard is held. UNKNOWN_FIELD, NOT_HELD: `value` is 0. */
+ZELAMIKU_MUST_USE zelamiku_status zelamiku_thread_load(zelamiku_thread thread, uint32_t field, uint64_t *value);
+
+/* Stores a field whose guard is held. UNKNOWN_FIELD, NOT_HELD, SECTION_FULL: nothing was stored. */
+ZELAMIKU_MUST_USE zelamiku_status zelamiku_thread_store(zelamiku_thread thread, uint32_t field, uint64_t value);
+
+/* Takes back what the open section has stored: each field gets the value again that it had before the section's first store to it, and each
+ * slot of a pool is taken or free as it was. The monitors stay held and the section goes on. It may store again; otherwise it ends as one that
+ * has changed nothing. A crash never shows anything else: all of it is one section. Threads that it has notified stay notified.
+ *   - A section can be reverted while it holds every monitor under which it has stored. Once it has freed one of them, by an exit or a wait,
+ *     and goes on with others, it can't be reverted until it ends: other threads may have seen what it stored there. What a revert has taken
+ *     back doesn't count.
+ *   - A wait with no other monitor held ends the section: what was stored before it stays. A revert after it takes back what was stored since.
+ *   - Room is kept: for each persistent field that the section has stored to, one of its 1,000 records is left free, for the old value. So it
+ *     stores to 499 fields under one monitor. A store, an enter or a wait that would need that room is SECTION_FULL; a revert never is.
+ * WRONG_KIND: the plan hasn't set `reverts`. NOT_HELD: no section is open, or this one has freed a monitor under which it had stored. Nothing
+ * was put back. At the heap's end it answers why: the section never ends, so that nothing of it is durable. */
+ZELAMIKU_MUST_USE zelamiku_status zelamiku_thread_revert(zelamiku_thread thread);
+
+/* Frees a monitor that is held, by all its locks, sleeps until another thread notifies this one, and takes it again by as many. It isn't
+ * woken by anything else. Where no other monitor is held the section ends, and the next one begins when it goes on.
+ * UNKNOWN_OBJECT, NOT_HELD, BEHIND, SECTION_FULL, NO_FAT, WORN, DEVICE: the monitor is held as before. At the heap's end it answers why,
+ * and the monitor isn't held. */
+ZELAMIKU_MUST_USE zelamiku_status zelamiku_thread_wait(zelamiku_thread thread, uint32_t object);
+
+/* Wakes one thread that waits for a monitor that is held, which goes on once the monitor is free; `lane` gets its lane, ZELAMIKU_NOBODY where
+ * none waits. Which of several isn't promised: one of them may never be it. UNKNOWN_OBJECT, NOT_HELD: nobody is woken. */
+ZELAMIKU_MUST_USE zelamiku_status zelamiku_thread_notify(zelamiku_thread thread, uint32_t object, uint32_t *lane);
+
+/* The same with all that wait; `lanes` gets a bit for each, 1 << its lane. In which order they go on isn't promised. */
+ZELAMIKU_MUST_USE zelamiku_status zelamiku_thread_notify_all(zelamiku_thread thread, uint32_t object, uint64_t *lanes);
+
+/* Looks at a monitor, which needn't be held: who has it, by the lane, and by how many locks. UNKNOWN_OBJECT: that of a free one. */
+ZELAMIKU_MUST_USE zelamiku_status zelamiku_thread_look(zelamiku_thread thread, uint32_t object, zelamiku_sight *sight);
+
+/* The lane; how many sections the thread has ended since zelamiku_thread_begin; how many of these are durable, from the first on. Any
+ * thread may ask. ZELAMIKU_NOBODY and 0 where there is no such thread. */
+uint32_t zelamiku_thread_lane(zelamiku_thread thread);
+uint64_t zelamiku_thread_sections(zelamiku_thread thread);
+uint64_t zelamiku_thread_durable(zelamiku_thread thread);
+
+/* How many sections the lane had ended in this opening before zelamiku_thread_begin lent it. Section `n` of the lane in the next opening's
+ * report (zelamiku_dropped, and `kept`) is this thread's section n - earlier. Any thread may ask; 0 where there is no such thread. */
+uint64_t zelamiku_thread_earlier(zelamiku_thread thread);
+
+/* Sleeps until all sections that the thread has ended are durable: it asks for a round, and sleeps on while a section that one of them
+ * depends on is open. UNFINISHED: the thread has a section open: exit its monitors before. DEVICE: a write has failed: call again. At the
+ * heap's end: they weren't durable before, or the end has cut off a section that was open. */
+ZELAMIKU_MUST_USE zelamiku_status zelamiku_thread_await(zelamiku_thread thread);
+
+/* The same for the first `sections` of them (ZELAMIKU_ALL_SECTIONS, or more than have ended: all), and until the deadline at most;
+ * `is_durable` gets whether they are. After the deadline the sections are as good as if nobody had waited. A deadline that has passed asks
+ * for the round and doesn't sleep. Any thread may call it. Of sections that have ended it may be asked while another one is open, and after
+ * one was cut off: UNFINISHED, and the heap's end for such a section, answer only who asks for all. */
+ZELAMIKU_MUST_USE zelamiku_status zelamiku_thread_await_until(zelamiku_thread thread, uint64_t sections, uint64_t deadline,
+                                                              bool *is_durable);
+
+/* ---- a pool: slots that are taken and given back ----
+ *
+ * A pool has slots, numbered from 0. It lies in persistent fields of one object, which guards them: the head, and after it a field for
+ * each slot. What a program keeps in a slot lies in fields of its own, as field BASE + slot, and may link to others by their numbers: so
+ * lists and trees are built. A slot that a section takes or gives back is taken or free after a crash as that section is there or not.
+ * Nothing else stores to the pool's fields. Where a heap has a pool the program knows: it is no part of the image. */
+
+/* Tells the fields of a pool of `count - 1` slots, all of which are free: `fields` gets the head's and then those of the slots, for the plan,
+ * one after another.
+ * EMPTY: there are fewer than 2. TOO_MANY: there are more than ZELAMIKU_MOST_SLOTS + 1. `fields` is as it was. */
+ZELAMIKU_MUST_USE zelamiku_status zelamiku_pool_fields(uint32_t object, zelamiku_field *fields, size_t count);
+
+/* Takes a slot of the pool whose head is this field, and which has so many slots. Its object's monitor is held; it makes two records.
+ * POOL_EMPTY, DAMAGED, UNKNOWN_FIELD, NOT_HELD, SECTION_FULL: nothing was stored, and `slot` is ZELAMIKU_NO_SLOT. */
+ZELAMIKU_MUST_USE zelamiku_status zelamiku_thread_take(zelamiku_thread thread, uint32_t head, uint32_t slots, uint32_t *slot);
+
+/* Gives a slot back that was taken: it is the next one to be taken. Its object's monitor is held; it makes two records.
+ * NOT_TAKEN, DAMAGED, UNKNOWN_FIELD, NOT_HELD, SECTION_FULL: nothing was stored. */
+ZELAMIKU_MUST_USE zelamiku_status zelamiku_thread_give(zelamiku_thread thread, uint32_t head, uint32_t slots, uint32_t slot);
+
+#define ZELAMIKU_NO_SLOT 4294967295u
+
+/* ---- threads with an event loop ----
+ *
+ * Such a thread serves any number of clients by one lane, and doesn't sleep until their sections are durable. It keeps answers back:
+ *     for (each client that has sent something) a section; its answer waits under zelamiku_thread_sections(own)
+ *     zelamiku_thread_ask(own, &durable)         once for all of them, before it waits for events
+ *     for (each answer that waits under a number up to `durable`) send it
+ *     epoll_wait(..)                             for its clients, and for the event
+ * One round makes durable what all of them wait for. A section that has only loaded is asked for too, where it may have seen what isn't
+ * durable. A thread that has nothing else to do meanwhile may call zelamiku_thread_await in place of the ask, and needs no event. */
+
+/* Tells the thread's event: a descriptor that is readable once a round has made some of those sections durable that were asked for, once a
+ * lane may have room of which zelamiku_thread_try_enter has answered BEHIND, once a write has failed while one of these is waited for, and at
+ * the heap's end; zelamiku_thread_ask makes it unreadable. It is made by the first call, and is the library's: only wait for it, by level or
+ * by edge. zelamiku_thread_end closes it, also at the heap's end: take it out of the loop before. So does a fork in the child.
+ * NO_MEMORY: the system has no descriptor. NOTHING, FORKED: `descriptor` is -1. */
+ZELAMIKU_MUST_USE zelamiku_status zelamiku_thread_event(zelamiku_thread thread, int *descriptor);
+
+/* Tells how many of the thread's sections are durable (zelamiku_thread_durable), and asks for a round where that isn't all that have ended. It
+ * doesn't sleep, but for other threads' short calls. Ask again once more have ended; those that were asked for stay so until they are
+ * durable. DEVICE, once for each write that fails meanwhile: it is made again each second, and nothing is lost. At the heap's end: the
+ * others never were durable, or the end has cut off a section that was open. `durable` is told in each case. */
+ZELAMIKU_MUST_USE zelamiku_status zelamiku_thread_ask(zelamiku_thread thread, uint64_t *durable);
+
 /* The library was built for these sizes. */
 #if defined(__cplusplus) ? __cplusplus >= 201103L : defined(__STDC_VERSION__) && __STDC_VERSION__ >= 201112L
 #ifdef __cplusplus
@@ -226,244 +485,22 @@ typedef struct {
 #define ZELAMIKU_HAS_SIZE(type, size) _Static_assert(sizeof(type) == (size), #type)
 #endif
 ZELAMIKU_HAS_SIZE(zelamiku_status, 4);
-ZELAMIKU_HAS_SIZE(zelamiku_handle, 16);
 ZELAMIKU_HAS_SIZE(zelamiku_field, 24);
 ZELAMIKU_HAS_SIZE(zelamiku_found, 40);
 ZELAMIKU_HAS_SIZE(zelamiku_told, 312);
 ZELAMIKU_HAS_SIZE(zelamiku_dropped, 32);
-ZELAMIKU_HAS_SIZE(zelamiku_call, 24);
 ZELAMIKU_HAS_SIZE(zelamiku_sight, 16);
+ZELAMIKU_HAS_SIZE(zelamiku_heap, 8);
+ZELAMIKU_HAS_SIZE(zelamiku_thread, 8);
+ZELAMIKU_HAS_SIZE(zelamiku_plan, 72);
+ZELAMIKU_HAS_SIZE(zelamiku_report, 344);
+ZELAMIKU_HAS_SIZE(zelamiku_stats, 88);
+ZELAMIKU_HAS_SIZE(zelamiku_wait, 16);
 #endif
-
-/* A text of a status, for people. zelamiku_heap_message (zelamiku_threads.h) tells more of a call that failed. */
-const char *zelamiku_status_text(uint32_t status);
-
-/* The version of the library, as ZELAMIKU_VERSION_NUMBER is of this header: other numbers, other releases. */
-ZELAMIKU_MUST_USE uint32_t zelamiku_version(void);
-
-/* ---- the heap ---- */
-
-/* Each call of a heap that isn't to be opened also answers NOTHING, WRONG_KIND, and STOPPED once zelamiku_call_failed was told of a sync;
- * nothing was done then. */
-
-/* Makes a heap of so many objects and of these fields, with `lanes` (1 to 32) sessions of `capacity` (2,000 to 1,048,576) records
- * each, and opens it. `size` gets the bytes of its image.
- * Needs: before the first call of zelamiku_next_call is made, the device has `size` zero bytes, durably. Where it may have an image, that
- * one's gate, byte 8, is made zero first, alone and durably: an old header over zeros would be a heap of zeros.
- * OPEN, EMPTY, UNKNOWN_OBJECT, TOO_MANY, BAD_HEADER, NO_MEMORY, FAULT (want of memory too): the handle is as it was, and `size`
- * is 0. */
-#define zelamiku_format zelamiku_format_marked /* a program of an older header, whose fields are shorter, doesn't link */
-ZELAMIKU_MUST_USE zelamiku_status zelamiku_format(zelamiku_handle *heap, uint32_t objects, const zelamiku_field *fields, size_t count,
-                                                  uint32_t lanes, uint32_t capacity, uint64_t *size);
-
-/* The same, where a lane's ring holds `ring` (4,096 to 65,536) records. A session sends what it does through its lane's ring, from which a
- * round takes it. So a larger ring lets the session go on for longer while the host makes a round's calls, up to the lane's capacity. It
- * takes 24 bytes of memory a record. The ring is no part of the image: each opening chooses it anew. The calls without `_rings` give rings
- * of 4,096 records.
- * RING, before any other answer: `ring` is out of these limits; the handle is as it was, and `size` is 0. Else as zelamiku_format. */
-ZELAMIKU_MUST_USE zelamiku_status zelamiku_format_rings(zelamiku_handle *heap, uint32_t objects, const zelamiku_field *fields, size_t count,
-                                                        uint32_t lanes, uint32_t capacity, uint32_t ring, uint64_t *size);
-
-/* Recovers the heap of these bytes, and opens it.
- * Needs: the device has these bytes, all of them, durably.
- * OPEN, NOT_FORMATTED, BAD_HEADER, TOO_SMALL, NO_CONTROL, BAD_CONTROL, OLD_VERSION, WORN, BAD_RECORD, ILLEGAL_LOG, NO_MEMORY, FAULT
- * (want of memory too): the handle is as it was, and `found` is all 0. Nothing was asked of the device.
- * OLD_VERSION: an older library made the heap, and zelamiku_upgrade opens it. */
-ZELAMIKU_MUST_USE zelamiku_status zelamiku_open(zelamiku_handle *heap, const uint8_t *image, size_t size, zelamiku_found *found);
-
-/* The same, and tells what recovery did: `told` gets the sections that were kept, and the first `count` of `dropped` those that weren't,
- * by lane and then by number, as many as there are; `told->found.dropped` is how many there are. After a refusal `told` says for which
- * record, if it was for one. */
-ZELAMIKU_MUST_USE zelamiku_status zelamiku_open_telling(zelamiku_handle *heap, const uint8_t *image, size_t size, zelamiku_told *told,
-                                                        zelamiku_dropped *dropped, size_t count);
-
-/* The same as zelamiku_open, and as zelamiku_open_telling, with rings of so many records (zelamiku_format_rings).
- * RING, before any other answer: `ring` is less than 4,096 or more than 65,536; the handle is as it was, `found` is all 0, and `told` and
- * `dropped` tell nothing. */
-ZELAMIKU_MUST_USE zelamiku_status zelamiku_open_rings(zelamiku_handle *heap, const uint8_t *image, size_t size, uint32_t ring,
-                                                      zelamiku_found *found);
-ZELAMIKU_MUST_USE zelamiku_status zelamiku_open_telling_rings(zelamiku_handle *heap, const uint8_t *image, size_t size, uint32_t ring,
-                                                              zelamiku_told *told, zelamiku_dropped *dropped, size_t count);
-
-/* Opens the heap of these bytes as zelamiku_open does, also where their image has version 1, from before there were transient fields. The
- * calls of its recovery, which zelamiku_next_call tells first, give the image version 2, in place, with the same heap. A crash while the host
- * makes them leaves that heap too: call zelamiku_upgrade again, which takes both versions. The image has version 1 until the last gate is
- * written. Between that write and the return of its sync it may have either version, and after the sync it has version 2.
- * A library from before can't open version 2. So call this where the user has asked for it, or keep a copy of the image first; call
- * zelamiku_open otherwise.
- * As zelamiku_open, but for OLD_VERSION. */
-ZELAMIKU_MUST_USE zelamiku_status zelamiku_upgrade(zelamiku_handle *heap, const uint8_t *image, size_t size, zelamiku_found *found);
-
-/* The same as zelamiku_upgrade, and tells what recovery did, as zelamiku_open_telling does. */
-ZELAMIKU_MUST_USE zelamiku_status zelamiku_upgrade_telling(zelamiku_handle *heap, const uint8_t *image, size_t size, zelamiku_told *told,
-                                                           zelamiku_dropped *dropped, size_t count);
-
-/* The same as zelamiku_upgrade, and as zelamiku_upgrade_telling, with rings of so many records; RING as zelamiku_open_rings. */
-ZELAMIKU_MUST_USE zelamiku_status zelamiku_upgrade_rings(zelamiku_handle *heap, const uint8_t *image, size_t size, uint32_t ring,
-                                                         zelamiku_found *found);
-ZELAMIKU_MUST_USE zelamiku_status zelamiku_upgrade_telling_rings(zelamiku_handle *heap, const uint8_t *image, size_t size, uint32_t ring,
-                                                                 zelamiku_told *told, zelamiku_dropped *dropped, size_t count);
-
-/* Hands out the session of the next lane, from 0 on; once each was, that of a lane whose session has ended (zelamiku_end) and held no
- * monitor then, whichever it is: so threads may come and go. zelamiku_lane tells which lane it has.
- * OPEN: `session` has something behind it. NONE_LEFT: each lane has a session. CLOSED. NO_MEMORY: none was handed out, and it may be
- * asked for again. The handles are as they were. */
-ZELAMIKU_MUST_USE zelamiku_status zelamiku_session(zelamiku_handle *heap, zelamiku_handle *session);
-
-/* Tells the call of the device that the host makes next, and copies its bytes. It tells the same call until zelamiku_call_done.
- * `call->kind` is ZELAMIKU_NO_CALL where none is left; another round may leave more. Into a buffer of fewer bytes than the call has,
- * which one of ZELAMIKU_MOST_BYTES never is, only the first of them are copied, though `call` tells all of it: the host may look at
- * such a call, and can't make it.
- * After a refusal `call` is ZELAMIKU_NO_CALL. */
-ZELAMIKU_MUST_USE zelamiku_status zelamiku_next_call(zelamiku_handle *heap, zelamiku_call *call, uint8_t *bytes, size_t size);
-
-/* Says that the host has made the call that zelamiku_next_call told, which is the first of those that are left. The library can't see
- * whether the host has made it: say it once for each call, and only after that call was told and made.
- * NONE_LEFT: of the calls that the library has taken up to a sync, by zelamiku_next_call or zelamiku_acknowledged, none is left; nothing was
- * done. */
-ZELAMIKU_MUST_USE zelamiku_status zelamiku_call_done(zelamiku_handle *heap);
-
-/* Says that the host couldn't make the call that zelamiku_next_call told.
- * OK: it was a write, and nothing has changed: the same call is told again, and may be made again.
- * STOPPED: it was a sync, or one had failed before. The memory of the heap is let go, and nothing that the sessions do from now on is
- * made durable; what was acknowledged before stays. Free the handles.
- * NONE_LEFT: no call was told. */
-ZELAMIKU_MUST_USE zelamiku_status zelamiku_call_failed(zelamiku_handle *heap);
-
-#define ZELAMIKU_ALL UINT64_MAX /* no bound on a round */
-
-/* Takes what the sessions have done, at most `most` records of it, writes it to the log, acknowledges each section that has ended and
- * depends on none that hasn't, and leaves the calls of that to zelamiku_next_call: make them after each round, or in a thread that orders
- * its calls with this one. `applied` gets how many records were taken. With none there is no call.
- * A round that has taken `most` may have left some: make another one, also where nothing comes meanwhile. A session that waits for its
- * section is kept until all rounds are over that take what its section depends on: so where threads wait beside others that send much,
- * choose a bound that takes about as long as the calls of a round. The lanes have equal parts of it. ZELAMIKU_ALL is no bound.
- * After each refusal `applied` is 0. CLOSED: nothing was done. CALLS_LEFT: the host hasn't made its calls for so many rounds
- * that those of one more might have no room: nothing was done; make them, and go on. FAULT, FAILED: the heap has stopped; what was
- * acknowledged stays: free the handles, and open it again. WORN: the control's sequence is at its end. The heap hasn't stopped, but no round
- * that has to write acknowledges anything from now on; what was acknowledged stays. */
-#define zelamiku_round zelamiku_round_most /* a program of an older header, whose rounds have no bound, doesn't link */
-ZELAMIKU_MUST_USE zelamiku_status zelamiku_round(zelamiku_handle *heap, uint64_t most, uint64_t *applied);
-
-/* How many sections of the lane are acknowledged since the heap was opened: no crash of the device loses them.
- * CLOSED, BAD_LANE. CALLS_LEFT: make the calls that are left, and ask again.
- * `sections` is 0 then. */
-ZELAMIKU_MUST_USE zelamiku_status zelamiku_acknowledged(zelamiku_handle *heap, uint32_t lane, uint64_t *sections);
-
-/* Copies bytes of the heap's image, from byte `at` on, into `bytes`: as many as there are and `size` has room for. `copied` gets how many; it
- * is 0 where `at` is at the image's end or past it. After the copied bytes `bytes` stays as it was. The image is that of the heap's disk in
- * memory: what the device holds once the host has made each call that is told or left. So it may be ahead of the device, and never behind it.
- * Nothing else changes: no call is made or told by it, and a heap that stopped by FAULT, FAILED or WORN, or was closed, has its image too.
- * Needs: between the first and the last piece of a copy, no zelamiku_round and no zelamiku_close of this heap. Sessions may go on meanwhile,
- * and so may zelamiku_next_call and zelamiku_call_done.
- *     for (uint64_t at = 0; zelamiku_copy(&heap, at, buffer, sizeof buffer, &copied) == ZELAMIKU_OK && copied > 0; at += copied)
- *         if (pwrite(file, buffer, copied, (off_t)at) != (ssize_t)copied) ...
- * A whole copy, once it is durable in a file of its own, is a heap that zelamiku_open takes: as if this one had crashed just then, with
- * nothing in flight. It keeps each section that was acknowledged by then, also by zelamiku_round_sections; after zelamiku_close has
- * answered OK it keeps all sections.
- * After a refusal `copied` is 0, and `bytes` is as it was. */
-ZELAMIKU_MUST_USE zelamiku_status zelamiku_copy(zelamiku_handle *heap, uint64_t at, uint8_t *bytes, size_t size, uint64_t *copied);
-
-/* Closes the heap, once each session that was handed out has ended: the last round. Make the calls that are left, and then free it.
- * RUNNING: a session that was handed out hasn't ended, or each has and another thread is still inside zelamiku_end; the heap goes on. In
- * the second case the lanes that were never handed out have ended too, so that zelamiku_session hands out none of them anew but goes on
- * with their sessions. CALLS_LEFT: the calls of the last round might have no room: make those that are left, and close it then; the heap
- * goes on. UNFINISHED, NO_MEMORY, FAULT, FAILED, WORN: the heap is closed without its last round, or with a part of it. What was
- * acknowledged stays: make the calls that are left, free the handle, and open the heap again. UNFINISHED and NO_MEMORY have left no call.
- * WORN: the control's sequence is at its end, and zelamiku_open answers WORN too. CLOSED, by an earlier call: nothing was done. */
-ZELAMIKU_MUST_USE zelamiku_status zelamiku_close(zelamiku_handle *heap);
-
-/* Lets go of what a handle holds, which is as at the beginning then. A heap stops, as if the process had: what was acknowledged stays.
- * A session that is freed never ends, so its heap can't be closed any more (RUNNING). What it holds stays held: others that want those
- * monitors are answered HELD for as long as the heap is open. No section that depends on its last one is ever acknowledged, so that in
- * the end their sessions are BEHIND. zelamiku_look tells the lane that holds an object. If that lane's thread is gone, free the handles
- * and open the heap again. The section that was cut off is dropped then, with those that depend on it. A thread that may be ended by
- * force, or end by itself in a section, costs its heap an opening. */
-void zelamiku_free(zelamiku_handle *handle);
-
-/* ---- a session: one thread's use of the heap ---- */
-
-/* Each call of a session also answers NOTHING, WRONG_KIND and WAITING; nothing was done then. try_enter, begin_wait and try_resume answer
- * STOPPED once the heap has stopped by zelamiku_call_failed, so that no loop that tries again spins for ever: what is held and what
- * waits stays as it was. The others go on, so that a section may be ended, though nothing of it will be durable. */
-
-/* Takes the object's monitor, or one lock more of it. The first of a section needs room for a whole one.
- * UNKNOWN_OBJECT, BEHIND, SECTION_FULL, TOO_MANY, TOO_DEEP, NO_FAT, WORN, HELD: what is held stays as it was. */
-ZELAMIKU_MUST_USE zelamiku_status zelamiku_try_enter(zelamiku_handle *session, uint32_t object);
-
-/* Gives one lock back, and with the last one the monitor. With the last monitor the section ends.
- * UNKNOWN_OBJECT, NOT_HELD: nothing was done. */
-ZELAMIKU_MUST_USE zelamiku_status zelamiku_exit(zelamiku_handle *session, uint32_t object);
-
-/* Loads a field whose guard is held.
- * UNKNOWN_FIELD, NOT_HELD: `value` is 0. */
-ZELAMIKU_MUST_USE zelamiku_status zelamiku_load(zelamiku_handle *session, uint32_t field, uint64_t *value);
-
-/* Stores a field whose guard is held.
- * UNKNOWN_FIELD, NOT_HELD, SECTION_FULL: nothing was stored. */
-ZELAMIKU_MUST_USE zelamiku_status zelamiku_store(zelamiku_handle *session, uint32_t field, uint64_t value);
-
-/* Joins the wait set of a monitor that is held, and frees it, whatever the count of its locks. Resume it then.
- * UNKNOWN_OBJECT, NOT_HELD, BEHIND, SECTION_FULL, NO_FAT, WORN: the monitor is held as before. */
-ZELAMIKU_MUST_USE zelamiku_status zelamiku_begin_wait(zelamiku_handle *session, uint32_t object);
-
-/* Takes the monitor again, by as many locks as before, if the session was notified and the monitor is free.
- * IN_SET: nobody has notified it. HELD: another session has the monitor, or had it when this one tried; or the monitor has its last
- * number, 2^40 - 1, and can't be taken again. It waits on. WRONG_KIND: the session doesn't wait. */
-ZELAMIKU_MUST_USE zelamiku_status zelamiku_try_resume(zelamiku_handle *session);
-
-/* Takes one session out of the wait set of a monitor that is held; `lane` gets its lane, or ZELAMIKU_NOBODY.
- * UNKNOWN_OBJECT, NOT_HELD: `lane` is ZELAMIKU_NOBODY. */
-ZELAMIKU_MUST_USE zelamiku_status zelamiku_notify(zelamiku_handle *session, uint32_t object, uint32_t *lane);
-
-/* Takes all sessions out of the wait set of a monitor that is held; `lanes` gets a bit for each, 1 << its lane.
- * UNKNOWN_OBJECT, NOT_HELD: `lanes` is 0. */
-ZELAMIKU_MUST_USE zelamiku_status zelamiku_notify_all(zelamiku_handle *session, uint32_t object, uint64_t *lanes);
-
-/* Looks at a monitor, which needn't be held.
- * UNKNOWN_OBJECT: `sight` is that of a free monitor. */
-ZELAMIKU_MUST_USE zelamiku_status zelamiku_look(zelamiku_handle *session, uint32_t object, zelamiku_sight *sight);
-
-/* How many sections of the session's lane the last round acknowledged. They are durable once the host has made that round's calls: from then
- * on no crash loses them, even if the heap is never closed. zelamiku_acknowledged tells only of such. */
-ZELAMIKU_MUST_USE zelamiku_status zelamiku_round_sections(zelamiku_handle *session, uint64_t *sections);
-
-/* Tells the session's lane, and how many sections of it have ended since the heap was opened, also those of the sessions that had the lane
- * before. What the session has done by then is durable once zelamiku_acknowledged tells as many of that lane.
- * After a refusal `lane` is ZELAMIKU_NOBODY and `sections` 0. */
-ZELAMIKU_MUST_USE zelamiku_status zelamiku_lane(zelamiku_handle *session, uint32_t *lane, uint64_t *sections);
-
-/* ---- a pool, by a session: slots that are taken and given back ---- */
-
-/* A pool has slots, numbered from 0. It lies in persistent fields of one object, which guards them: the head, and after it a field for
- * each slot. What a program keeps in a slot lies in fields of its own, as field BASE + slot, and may link to others by their numbers: so
- * lists and trees are built. A slot that a section takes or gives back is taken or free after a crash as that section is there or not.
- * Nothing else stores to the pool's fields. Where a heap has a pool the program knows: it is no part of the image. */
-
-/* Tells the fields of a pool of `count - 1` slots, all of which are free: `fields` gets the head's and then those of the slots, to be
- * declared to zelamiku_format one after another.
- * EMPTY: there are fewer than 2. TOO_MANY: there are more than ZELAMIKU_MOST_SLOTS + 1. `fields` is as it was. */
-ZELAMIKU_MUST_USE zelamiku_status zelamiku_pool_fields(uint32_t object, zelamiku_field *fields, size_t count);
-
-/* Takes a slot of the pool whose head is this field, and which has so many slots. Its object's monitor is held; it makes two records.
- * POOL_EMPTY, DAMAGED, UNKNOWN_FIELD, NOT_HELD, SECTION_FULL: nothing was stored, and `slot` is ZELAMIKU_NO_SLOT. */
-ZELAMIKU_MUST_USE zelamiku_status zelamiku_pool_take(zelamiku_handle *session, uint32_t head, uint32_t slots, uint32_t *slot);
-
-/* Gives a slot back that was taken: it is the next one to be taken. Its object's monitor is held; it makes two records.
- * NOT_TAKEN, DAMAGED, UNKNOWN_FIELD, NOT_HELD, SECTION_FULL: nothing was stored. */
-ZELAMIKU_MUST_USE zelamiku_status zelamiku_pool_give(zelamiku_handle *session, uint32_t head, uint32_t slots, uint32_t slot);
-
-#define ZELAMIKU_NO_SLOT 4294967295u
-
-/* ---- the end of a session ---- */
-
-/* Ends the session, and gives it back to its heap: its lane may be handed out again. Exit all monitors first: else it isn't, and its heap can't
- * be closed. The handle keeps what is left of the session, a few hundred bytes, until it is opened again or freed: so free it, or hand it to
- * zelamiku_session. Until then each call of a session answers NOTHING for it, and each call of a heap WRONG_KIND.
- * WAITING, WRONG_KIND: the handle is as it was. */
-ZELAMIKU_MUST_USE zelamiku_status zelamiku_end(zelamiku_handle *session);
 
 #ifdef __cplusplus
 }
 #endif
+
+#include "zelamiku_inline.h"
 #endif

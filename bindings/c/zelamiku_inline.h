@@ -1,11 +1,11 @@
-/* The calls that every section makes, for the compiler to write out in the program. zelamiku_threads.h includes this at its end; what it says
- * of these calls holds. Where a section is open by the handle, or its lane may begin one, the proved library is called at once. Everything
+/* The calls that every section makes, for the compiler to write out in the program. zelamiku.h includes this at its end; what it says of
+ * these calls holds. Where a section is open by the handle, or its lane may begin one, the proved library is called at once. Everything
  * else, and whatever the proved library refuses, goes to the library's own function of that name, which makes the whole call: one that was
  * refused has done nothing.
  *
  * A program that defines ZELAMIKU_NO_INLINE calls functions alone. It may run with the shared object of another release; any other program has
  * the library that came with this header. */
-#include "zelamiku_threads.h"
+#include "zelamiku.h"
 #ifndef ZELAMIKU_INLINE_H
 #define ZELAMIKU_INLINE_H
 #ifdef __cplusplus
@@ -13,10 +13,30 @@ extern "C" {
 #endif
 
 #ifdef __GNUC__
-#define ZELAMIKU_SHARED __attribute__((__may_alias__)) /* zelamiku_threads.c has structures of its own for them */
+#define ZELAMIKU_SHARED __attribute__((__may_alias__)) /* the library has structures of its own for them */
 #else
 #define ZELAMIKU_SHARED
 #endif
+
+/* A handle of the proved library: of a heap, or of a session. One of static storage begins as ZELAMIKU_NONE by itself. */
+typedef struct {
+    void *at;
+    bool is_open;
+} zelamiku_handle;
+#ifdef __cplusplus
+#define ZELAMIKU_NONE (zelamiku_handle{nullptr, false})
+#else
+#define ZELAMIKU_NONE ((zelamiku_handle){NULL, false})
+#endif
+#ifdef ZELAMIKU_HAS_SIZE
+ZELAMIKU_HAS_SIZE(zelamiku_handle, 16);
+#endif
+
+/* Four calls of the proved library, by a session of it. No program makes them by itself. */
+ZELAMIKU_MUST_USE zelamiku_status zelamiku_try_enter(zelamiku_handle *session, uint32_t object);
+ZELAMIKU_MUST_USE zelamiku_status zelamiku_exit(zelamiku_handle *session, uint32_t object);
+ZELAMIKU_MUST_USE zelamiku_status zelamiku_load(zelamiku_handle *session, uint32_t field, uint64_t *value);
+ZELAMIKU_MUST_USE zelamiku_status zelamiku_store(zelamiku_handle *session, uint32_t field, uint64_t value);
 
 /* What a section's end asks of its heap. The library's own, as all here: no program reads or writes it by itself. */
 typedef struct {

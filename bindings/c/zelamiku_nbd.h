@@ -1,6 +1,6 @@
-/* Zelamiku on a network block device: a heap on an NBD export, over zelamiku.h and libnbd.
+/* Zelamiku on a network block device: a heap on an NBD export, over zelamiku_core.h and libnbd.
  *
- * As zelamiku_threads.h does for a file, these functions make the calls that the library tells: they are C, and nothing proves them. Link
+ * As zelamiku.h does for a file, these functions make the calls that the library tells: they are C, and nothing proves them. Link
  * with -lnbd, and define _POSIX_C_SOURCE as 200809L, or _GNU_SOURCE, before the first #include.
  *
  *     struct nbd_handle *nbd = nbd_create();
@@ -17,12 +17,12 @@
  * flush; and the sync is done when that is answered. A batch of one request has its flush with it, where the server can (FUA). The image is
  * kept in memory, so that nothing is read to fill a block.
  *
- * What the caller upholds besides the rules of zelamiku.h:
+ * What the caller upholds besides the rules of zelamiku_core.h:
  *  - whoever wrote the export before has ended, its requests too: those of a host that was killed, paused or cut off may lie in the
  *    server or behind it, and come later. NBD has no lease: the server, or what is behind it, ends the other host first
  *    (docs/EMBEDDING.md, "Another machine"). From then until zelamiku_end_nbd nobody else writes it;
  *  - a flush that the server answers has made durable what any client wrote before;
- *  - what is behind the server keeps the premise on the device (zelamiku.h), and the server doesn't connect again by itself to what is
+ *  - what is behind the server keeps the premise on the device (zelamiku_core.h), and the server doesn't connect again by itself to what is
  *    behind it: after that, writes that were answered and not flushed may be gone (nbdkit's filter retry is such a thing);
  *  - one heap at a time is on a host, one call at a time has them, and nothing else uses the connection. */
 #ifndef ZELAMIKU_NBD_H
@@ -32,7 +32,7 @@
 #include <poll.h>
 #include <stdlib.h>
 #include <string.h>
-#include "zelamiku_threads.h"
+#include "zelamiku_core.h"
 #ifdef __cplusplus
 extern "C" {
 #endif

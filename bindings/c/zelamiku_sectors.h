@@ -1,6 +1,6 @@
-/* Zelamiku on a device of sectors: a heap on whatever reads, writes and flushes whole sectors, over zelamiku.h.
+/* Zelamiku on a device of sectors: a heap on whatever reads, writes and flushes whole sectors, over zelamiku_core.h.
  *
- * As zelamiku_threads.h does for a file, these functions make the calls that the library tells: they are C, and nothing proves them. How two
+ * As zelamiku.h does for a file, these functions make the calls that the library tells: they are C, and nothing proves them. How two
  * places lie on a device is in docs/FORMAT.md, "Sectors in two places"; heapctl reads one that is in a file.
  *
  *     zelamiku_sectors host = {.device = {&disk, read, write, flush, sectors}, .sector = 4096, .layout = ZELAMIKU_TWO_PLACES};
@@ -18,7 +18,7 @@
  *                        sector that was being written has any bytes after a crash, or can't be read. Twice the space and two sectors, two
  *                        flushes for each sync, and each sector that was written is written again with the next sync.
  *
- * The image is kept in memory, so that nothing is read to fill a sector. What the caller upholds besides the rules of zelamiku.h: one
+ * The image is kept in memory, so that nothing is read to fill a sector. What the caller upholds besides the rules of zelamiku_core.h: one
  * heap at a time is on a host, and one call at a time has them; nobody else writes the device; what it says is flushed is durable; and a
  * device that has once refused a flush and goes on has kept what was written before, or takes it again: the batch is written whole with
  * the next try. A device that is gone is the caller's to see. */
@@ -26,7 +26,7 @@
 #define ZELAMIKU_SECTORS_H
 #include <stdlib.h>
 #include <string.h>
-#include "zelamiku.h"
+#include "zelamiku_core.h"
 #ifdef __cplusplus
 extern "C" {
 #endif

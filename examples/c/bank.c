@@ -12,7 +12,7 @@
 #include <stdlib.h>
 #include <string.h>
 #include <time.h>
-#include "zelamiku_threads.h"
+#include "zelamiku.h"
 
 /* Object and field i are account i; the object and field after these are those of a thread's count. */
 enum { ACCOUNTS = 64, THREADS = 8, FIELDS = ACCOUNTS + THREADS, BEGUN_WITH = 1000000 };

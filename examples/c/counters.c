@@ -14,7 +14,7 @@
 #include <stdlib.h>
 #include <string.h>
 #include <time.h>
-#include "zelamiku_threads.h"
+#include "zelamiku.h"
 #ifdef HELGRIND /* which knows nothing of atomics */
 #include <valgrind/helgrind.h>
 #endif

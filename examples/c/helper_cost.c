@@ -11,7 +11,7 @@
 #include <time.h>
 #include <fcntl.h>
 #include <unistd.h>
-#include "zelamiku_threads.h"
+#include "zelamiku_core.h"
 
 enum { LANES = 4, SHARED = LANES, CAPACITY = 4000 };
 

@@ -4,9 +4,9 @@
  * lets so many threads (1) work for so long (2 seconds) at each of these, by turns, so many times (5):
  *   ceiling   compare-exchange on words, as thin locks are; the records into a ring of 4,096 of the thread's own; and a helper that takes
  *             them out of the rings and throws them away
- *   handles   a heap of zelamiku.h whose lanes have so many records (4,096), and a helper that makes rounds all the time and throws their
+ *   handles   a heap of zelamiku_core.h whose lanes have so many records (4,096), and a helper that makes rounds all the time and throws their
  *             calls away
- *   threads   the same over zelamiku_threads.h
+ *   threads   the same over zelamiku.h
  * A section takes a monitor of the thread's own and one for all, loads and stores a field of each, and frees both: six records. No thread
  * waits for its sections; those of a heap are counted once they are acknowledged. It prints, of each turn, millions of sections a second
  * with how many times the ceiling's rate of that turn, and microseconds of processor time a section, of all threads; and then medians. */
@@ -21,7 +21,7 @@
 #include <sys/resource.h>
 #include <time.h>
 #include <unistd.h>
-#include "zelamiku_threads.h"
+#include "zelamiku_core.h"
 
 enum { MOST = 32, SHARED = MOST, RING = 4096, KINDS = 3, MOST_ROUNDS = 100, SPINS = 100 };
 
@@ -195,7 +195,7 @@ static void *help_by_rounds(void *data) {
     return NULL;
 }
 
-/* ---- a heap over zelamiku_threads.h ---- */
+/* ---- a heap over zelamiku.h ---- */
 
 static zelamiku_heap all;
 

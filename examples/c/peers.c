@@ -6,7 +6,7 @@
  * -DSYNCS=MICROSECONDS -rdynamic, each sync of the store is a sleep of so long, whose processor time lacks the kernel's work for a sync.
  * Then it also prints how many syncs a section had, and how long one took, in microseconds (the median).
  *
- * zelamiku: a section of two monitors over zelamiku_threads.h, which awaits after the group.
+ * zelamiku: a section of two monitors over zelamiku.h, which awaits after the group.
  * sqlite:   two UPDATEs a section, a transaction a group, in WAL mode with synchronous=FULL; threads take turns by a mutex.
  * lmdb:     two gets and two puts a section, a transaction a group, synced; its writers take turns by its own lock.
  * pmemobj:  two words a section, a transaction a group, on a file that isn't persistent memory (so by msync); threads take turns by a mutex.
@@ -26,7 +26,7 @@
 #include <sys/syscall.h>
 #include <time.h>
 #include <unistd.h>
-#include "zelamiku_threads.h"
+#include "zelamiku.h"
 #ifdef WITH_SQLITE
 #include <sqlite3.h>
 #endif

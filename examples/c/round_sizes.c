@@ -1,4 +1,4 @@
-/* How many sections of a thread one round takes, over zelamiku_threads.h, where syncs are slow and no thread waits for its sections.
+/* How many sections of a thread one round takes, over zelamiku.h, where syncs are slow and no thread waits for its sections.
  *
  *     round_sizes FILE [own|shared [THREADS [CAPACITY [MILLISECONDS [SECONDS]]]]]
  * makes a heap of so many lanes (4) of so many records (1,048,576) in the file, which it replaces, and lets as many threads work for so
@@ -18,7 +18,7 @@
 #include <sys/resource.h>
 #include <time.h>
 #include <unistd.h>
-#include "zelamiku_threads.h"
+#include "zelamiku_core.h"
 
 enum { MOST = ZELAMIKU_MOST_LANES, SHARED = 2 * MOST, MOST_SEEN = 1 << 16 };
 

@@ -16,7 +16,7 @@
 #include <stdio.h>
 #include <stdlib.h>
 #include <time.h>
-#include "zelamiku.h"
+#include "zelamiku_core.h"
 
 enum { OWN = 0, SHARED = 1, SECTIONS = 500, CAPACITY = 65536 };
 

@@ -1,4 +1,4 @@
-/* What sections cost over zelamiku_threads.h: two monitors and two stores each, by threads that each wait until theirs is durable, that wait
+/* What sections cost over zelamiku.h: two monitors and two stores each, by threads that each wait until theirs is durable, that wait
  * for none, or of which one waits.
  *
  *     threads_cost FILE [THREADS [SECONDS [SECTIONS | none | one | apart]]]
@@ -21,7 +21,7 @@
 #include <string.h>
 #include <sys/resource.h>
 #include <unistd.h>
-#include "zelamiku_threads.h"
+#include "zelamiku_core.h"
 
 enum { MOST = 32, SHARED = 0, OBJECTS = 2 * MOST + 1, MOST_WAITS = 1 << 20 };
 
@@ -44,7 +44,7 @@ static inline void add_one(zelamiku_thread own, uint32_t field) {
     must(zelamiku_thread_store(own, field, value + 1), "store");
 }
 
-/* A section over zelamiku_threads.h. */
+/* A section over zelamiku.h. */
 __attribute__((noinline)) static void by_threads(zelamiku_thread own, uint32_t object, uint32_t other) {
     must(zelamiku_thread_enter(own, object), "enter");
     add_one(own, object);

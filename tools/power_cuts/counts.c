@@ -1,6 +1,6 @@
 /* Four threads that count in a heap (counts.h), in a guest whose power is cut (tools/power-cuts).
  *
- *     counts count FILE [CAPACITY [LANES]]   over zelamiku_threads.h; so many lanes of so many records
+ *     counts count FILE [CAPACITY [LANES]]   over zelamiku.h; so many lanes of so many records
  *     counts copy FILE                       the same, and copies the running heap to FILE.copy again and again
  *     counts count-device DEVICE SECTOR      over zelamiku_sectors.h in two places: a disk past the page cache, a file through it
  *     counts look FILE, counts look-device DEVICE SECTOR

@@ -13,7 +13,7 @@
 #include <stdlib.h>
 #include <string.h>
 #include <unistd.h>
-#include "zelamiku_threads.h"
+#include "zelamiku.h"
 
 /* Object 0 has the total, the last thread and its count; objects t and t + WORKERS the counters of thread t. */
 enum { WORKERS = 4, TOTAL = 0, OBJECTS = 2 * WORKERS + 1, LAST = OBJECTS, LAST_COUNT, COUNTED };

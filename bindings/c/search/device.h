@@ -1,7 +1,7 @@
 /* A device in memory, which fails and hangs as it is told, and knows what a crash leaves. */
 #ifndef DEVICE_H
 #define DEVICE_H
-#include "zelamiku_threads.h"
+#include "zelamiku_core.h"
 
 typedef enum { NEVER_FAILS, WRITE_FAILS, SYNC_FAILS, CALL_HANGS } device_fault;
 

@@ -3,7 +3,7 @@
 #ifndef JUDGE_H
 #define JUDGE_H
 #include "search.h"
-#include "zelamiku_threads.h"
+#include "zelamiku_core.h"
 
 enum {
     OBJECTS = 3,

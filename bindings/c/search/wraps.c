@@ -2,7 +2,7 @@
  * is one step, as its proofs allow; one of the system is search.c's. */
 #define _GNU_SOURCE
 #include "search.h"
-#include "zelamiku.h"
+#include "zelamiku_core.h"
 #include <pthread.h>
 #include <stdarg.h>
 #include <time.h>

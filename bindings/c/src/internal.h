@@ -1,6 +1,6 @@
 /* What the rooms of the scheduler share: a lane's seat, a heap, their places, and the constants. */
 #define _GNU_SOURCE
-#include "zelamiku_threads.h"
+#include "zelamiku_core.h"
 #include <assert.h>
 #include <errno.h>
 #include <fcntl.h>

@@ -12,7 +12,7 @@
 #include <sys/socket.h>
 #include <sys/types.h>
 #include <unistd.h>
-#include "zelamiku.h"
+#include "zelamiku_core.h"
 
 /* What a fault does to a request. HALF: the first part of a write has reached the device, and the answer is an error; GARBLED: with it
  * other bytes have, which no device may leave where the host ends there, and which the next try puts right. */

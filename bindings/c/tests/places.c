@@ -9,7 +9,7 @@
 #include <stdlib.h>
 #include <string.h>
 #include <unistd.h>
-#include "zelamiku_threads.h"
+#include "zelamiku.h"
 
 #define MUST(is_so) \
     do { \

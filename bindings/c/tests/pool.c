@@ -4,7 +4,7 @@
 #include <stdio.h>
 #include <stdlib.h>
 #include <string.h>
-#include "zelamiku.h"
+#include "zelamiku_core.h"
 
 #define MUST(is_so) \
     do { \

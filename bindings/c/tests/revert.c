@@ -14,7 +14,7 @@
 #include <sys/mman.h>
 #include <sys/wait.h>
 #include <unistd.h>
-#include "zelamiku.h"
+#include "zelamiku_core.h"
 
 #define MUST(is_so) \
     do { \
@@ -664,7 +664,7 @@ static void ends(void) {
 
 /* ---- random steps, and a model of them ---- */
 
-/* What the section that is open has done, by the rules of zelamiku_threads.h. */
+/* What the section that is open has done, by the rules of zelamiku.h. */
 static struct {
     uint64_t value[PLAIN], before[PLAIN];
     bool is_changed[PLAIN];

@@ -40,7 +40,7 @@ static int flaky_fdatasync(int file) {
 
 #include <stdio.h>
 #include <stdlib.h>
-#include "zelamiku.h"
+#include "zelamiku_core.h"
 
 #define MUST(is_so) \
     do { \

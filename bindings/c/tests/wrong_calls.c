@@ -1,4 +1,4 @@
-/* Wrong calls of zelamiku_threads.h: each is answered by its status, says why, and breaks nothing.
+/* Wrong calls of zelamiku.h: each is answered by its status, says why, and breaks nothing.
  *
  *     wrong_calls FOLDER      prints how many there were, and answers 0, where each was answered as it must be */
 #define _GNU_SOURCE
@@ -12,7 +12,7 @@
 #include <sys/stat.h>
 #include <sys/wait.h>
 #include <unistd.h>
-#include "zelamiku_threads.h"
+#include "zelamiku_core.h"
 
 static unsigned calls, wrong;
 

@@ -1,6 +1,6 @@
 """The shared library, ``libzelamiku.so.0``: where it is found, and its calls.
 
-The declarations are those of ``zelamiku.h`` and ``zelamiku_threads.h``, by the same names. A call that may sleep lets the interpreter's
+The declarations are those of ``zelamiku.h``, by the same names. A call that may sleep lets the interpreter's
 lock go, so that other threads run meanwhile. The others are short, call nothing of Python, and keep it: a thread that gave it away at each
 load would wait for it as long as any other thread computes.
 """

@@ -1,4 +1,4 @@
-//! The functions of `zelamiku_threads.h`. Handles are numbers, and a call on any number answers: so each call here is safe.
+//! The functions of `zelamiku.h`. Handles are numbers, and a call on any number answers: so each call here is safe.
 use super::{Dropped, Field, Handle, Sight, Told, OK};
 use std::ffi::{c_char, c_void, CStr, CString};
 use std::mem::{offset_of, size_of};
@@ -111,7 +111,7 @@ pub struct Wait {
     pub in_circle: u32,
 }
 
-// The library was built for these sizes, and zelamiku_threads.h has them.
+// The library was built for these sizes, and zelamiku.h has them.
 const _: () = assert!(size_of::<HeapNumber>() == 8 && size_of::<ThreadNumber>() == 8);
 const _: () = assert!(size_of::<RawPlan>() == 72 && size_of::<Report>() == 344);
 const _: () = assert!(size_of::<Stats>() == 88 && size_of::<Wait>() == 16);

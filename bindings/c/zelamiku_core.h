@@ -1,0 +1,319 @@
+/* The calls of the proved library. This header is the scheduler's own (bindings/c/src), and that of tests and measurements. It isn't
+ * installed: a program includes zelamiku.h. The names here may change with each release.
+ *
+ * What the caller upholds, for each call:
+ *  - a handle begins as ZELAMIKU_NONE, isn't copied, and is changed by these calls alone. A handle may go to another thread;
+ *  - one call at a time has a handle: the threads order their calls by a mutex, a start or join, or sequentially consistent atomics;
+ *  - pointers are never NULL, also where a size or count is 0; they are valid for the call, point to initialized memory that nothing
+ *    else reads or writes meanwhile, and don't overlap;
+ *  - the device is changed by the calls of zelamiku_next_call alone, in their order, one at a time;
+ *  - malloc, realloc and free are of one allocator, and align a block to each power of two up to 16 that divides its size, as those
+ *    of C11 do;
+ *  - no call comes from a signal handler, or in a child that was forked by a process with threads.
+ * Everything else is answered by a status. No call waits, blocks, starts a thread or panics; each out-parameter is always set.
+ *
+ * The device. The proved library has no file: it works in memory, and asks the host to write and sync. On a file of the system
+ * zelamiku.h does that, with a scheduler for threads; on a network block device zelamiku_nbd.h; on whole sectors
+ * zelamiku_sectors.h. Elsewhere zelamiku_next_call tells the next call, the host makes it on a device
+ * of its own (a volume, a ring of requests), and zelamiku_call_done says that it has:
+ *     uint8_t buffer[ZELAMIKU_MOST_BYTES];
+ *     zelamiku_call call = {0};
+ *     for (;;) {
+ *         if (zelamiku_next_call(&heap, &call, buffer, sizeof buffer) != ZELAMIKU_OK) return -1;
+ *         if (call.kind == ZELAMIKU_NO_CALL) return 0;
+ *         if (call.size > sizeof buffer) return -1; // it isn't whole in the buffer
+ *         bool made = call.kind == ZELAMIKU_WRITE ? pwrite(fd, buffer, call.size, (off_t)call.at) == (ssize_t)call.size
+ *                                                 : fdatasync(fd) == 0;
+ *         if (!made) return zelamiku_call_failed(&heap) == ZELAMIKU_OK ? 1 : -1; // and never zelamiku_call_done for it
+ *         if (zelamiku_call_done(&heap) != ZELAMIKU_OK) return -1;
+ *     }
+ * A write that fails may be made again: the same call is told again. Only on the same device, though: over a connection that was made anew,
+ * what was answered since the last sync may be gone, so all of it is written again, or the heap let go (zelamiku_nbd.h does so).
+ * A sync that fails may not be made again, nor any later call. What was written before it may be lost, though the file still reads
+ * as it was written, and though a later sync succeeds: systems drop the pages that they couldn't write. Told of it by
+ * zelamiku_call_failed, the library lets the heap go: each later call of it answers ZELAMIKU_STOPPED, and so does each session that
+ * would enter, wait or resume. Free the handles, and open the heap again from bytes that the device itself has: read past the
+ * system's cache, or after the file system was mounted again.
+ *
+ * The premise on the device: between two syncs each range that is written may hold any bytes after a crash, and every other byte stays. A
+ * device of sectors, and the system's page cache, write the neighbours of a range again too, so there it holds exactly where rewriting a
+ * durable byte with its own value can't lose it (SQLite's powersafe overwrite). NVMe promises that of a logical block, and replicated Ceph
+ * RBD does; ATA and SCSI don't, nor drives without power-loss protection, nor parity RAID without a journal: docs/FORMAT.md, "What the
+ * device keeps". zelamiku.h and zelamiku_nbd.h rest on it too.
+ * One host writes the device at a time. Where another machine may open it, the device ends the other one's access first, with its requests
+ * that are underway: docs/EMBEDDING.md, "Another machine".
+ *
+ * Waiting is the host's. Where a call answers ZELAMIKU_HELD, ZELAMIKU_BEHIND or ZELAMIKU_IN_SET, try again later; other answers stay:
+ *     for (unsigned spins = 0; (answer = zelamiku_try_enter(&session, object)) == ZELAMIKU_HELD || answer == ZELAMIKU_BEHIND; spins++)
+ *         if (spins > 100) sched_yield();
+ *     if (answer != ZELAMIKU_OK) ...
+ * With a condition variable of the host's own, an exit or a notification is told to those that wait, and so is a call that failed:
+ *     pthread_mutex_lock(&m);
+ *     while ((answer = zelamiku_try_resume(&session)) == ZELAMIKU_IN_SET || answer == ZELAMIKU_HELD) pthread_cond_wait(&changed, &m);
+ *     pthread_mutex_unlock(&m);
+ *     if (answer != ZELAMIKU_OK) ...
+ *     if (zelamiku_exit(&session, object) != ZELAMIKU_OK) ...
+ *     pthread_mutex_lock(&m); pthread_cond_broadcast(&changed); pthread_mutex_unlock(&m);
+ */
+#ifndef ZELAMIKU_CORE_H
+#define ZELAMIKU_CORE_H
+#include "zelamiku.h"
+#ifdef __cplusplus
+extern "C" {
+#endif
+
+enum { ZELAMIKU_NO_CALL = 0, ZELAMIKU_WRITE = 1, ZELAMIKU_SYNC = 2 };
+
+/* A call of the device. */
+typedef struct {
+    uint32_t kind;
+    uint64_t at;   /* where to write, in bytes from the device's start */
+    uint64_t size; /* how many bytes */
+} zelamiku_call;
+
+/* ---- the heap ---- */
+
+/* Each call of a heap that isn't to be opened also answers NOTHING, WRONG_KIND, and STOPPED once zelamiku_call_failed was told of a sync;
+ * nothing was done then. */
+
+/* Makes a heap of so many objects and of these fields, with `lanes` (1 to 32) sessions of `capacity` (2,000 to 1,048,576) records
+ * each, and opens it. `size` gets the bytes of its image.
+ * Needs: before the first call of zelamiku_next_call is made, the device has `size` zero bytes, durably. Where it may have an image, that
+ * one's gate, byte 8, is made zero first, alone and durably: an old header over zeros would be a heap of zeros.
+ * OPEN, EMPTY, UNKNOWN_OBJECT, TOO_MANY, BAD_HEADER, NO_MEMORY, FAULT (want of memory too): the handle is as it was, and `size`
+ * is 0. */
+#define zelamiku_format zelamiku_format_marked /* a program of an older header, whose fields are shorter, doesn't link */
+ZELAMIKU_MUST_USE zelamiku_status zelamiku_format(zelamiku_handle *heap, uint32_t objects, const zelamiku_field *fields, size_t count,
+                                                  uint32_t lanes, uint32_t capacity, uint64_t *size);
+
+/* The same, where a lane's ring holds `ring` (4,096 to 65,536) records. A session sends what it does through its lane's ring, from which a
+ * round takes it. So a larger ring lets the session go on for longer while the host makes a round's calls, up to the lane's capacity. It
+ * takes 24 bytes of memory a record. The ring is no part of the image: each opening chooses it anew. The calls without `_rings` give rings
+ * of 4,096 records.
+ * RING, before any other answer: `ring` is out of these limits; the handle is as it was, and `size` is 0. Else as zelamiku_format. */
+ZELAMIKU_MUST_USE zelamiku_status zelamiku_format_rings(zelamiku_handle *heap, uint32_t objects, const zelamiku_field *fields, size_t count,
+                                                        uint32_t lanes, uint32_t capacity, uint32_t ring, uint64_t *size);
+
+/* Recovers the heap of these bytes, and opens it.
+ * Needs: the device has these bytes, all of them, durably.
+ * OPEN, NOT_FORMATTED, BAD_HEADER, TOO_SMALL, NO_CONTROL, BAD_CONTROL, OLD_VERSION, WORN, BAD_RECORD, ILLEGAL_LOG, NO_MEMORY, FAULT
+ * (want of memory too): the handle is as it was, and `found` is all 0. Nothing was asked of the device.
+ * OLD_VERSION: an older library made the heap, and zelamiku_upgrade opens it. */
+ZELAMIKU_MUST_USE zelamiku_status zelamiku_open(zelamiku_handle *heap, const uint8_t *image, size_t size, zelamiku_found *found);
+
+/* The same, and tells what recovery did: `told` gets the sections that were kept, and the first `count` of `dropped` those that weren't,
+ * by lane and then by number, as many as there are; `told->found.dropped` is how many there are. After a refusal `told` says for which
+ * record, if it was for one. */
+ZELAMIKU_MUST_USE zelamiku_status zelamiku_open_telling(zelamiku_handle *heap, const uint8_t *image, size_t size, zelamiku_told *told,
+                                                        zelamiku_dropped *dropped, size_t count);
+
+/* The same as zelamiku_open, and as zelamiku_open_telling, with rings of so many records (zelamiku_format_rings).
+ * RING, before any other answer: `ring` is less than 4,096 or more than 65,536; the handle is as it was, `found` is all 0, and `told` and
+ * `dropped` tell nothing. */
+ZELAMIKU_MUST_USE zelamiku_status zelamiku_open_rings(zelamiku_handle *heap, const uint8_t *image, size_t size, uint32_t ring,
+                                                      zelamiku_found *found);
+ZELAMIKU_MUST_USE zelamiku_status zelamiku_open_telling_rings(zelamiku_handle *heap, const uint8_t *image, size_t size, uint32_t ring,
+                                                              zelamiku_told *told, zelamiku_dropped *dropped, size_t count);
+
+/* Opens the heap of these bytes as zelamiku_open does, also where their image has version 1, from before there were transient fields. The
+ * calls of its recovery, which zelamiku_next_call tells first, give the image version 2, in place, with the same heap. A crash while the host
+ * makes them leaves that heap too: call zelamiku_upgrade again, which takes both versions. The image has version 1 until the last gate is
+ * written. Between that write and the return of its sync it may have either version, and after the sync it has version 2.
+ * A library from before can't open version 2. So call this where the user has asked for it, or keep a copy of the image first; call
+ * zelamiku_open otherwise.
+ * As zelamiku_open, but for OLD_VERSION. */
+ZELAMIKU_MUST_USE zelamiku_status zelamiku_upgrade(zelamiku_handle *heap, const uint8_t *image, size_t size, zelamiku_found *found);
+
+/* The same as zelamiku_upgrade, and tells what recovery did, as zelamiku_open_telling does. */
+ZELAMIKU_MUST_USE zelamiku_status zelamiku_upgrade_telling(zelamiku_handle *heap, const uint8_t *image, size_t size, zelamiku_told *told,
+                                                           zelamiku_dropped *dropped, size_t count);
+
+/* The same as zelamiku_upgrade, and as zelamiku_upgrade_telling, with rings of so many records; RING as zelamiku_open_rings. */
+ZELAMIKU_MUST_USE zelamiku_status zelamiku_upgrade_rings(zelamiku_handle *heap, const uint8_t *image, size_t size, uint32_t ring,
+                                                         zelamiku_found *found);
+ZELAMIKU_MUST_USE zelamiku_status zelamiku_upgrade_telling_rings(zelamiku_handle *heap, const uint8_t *image, size_t size, uint32_t ring,
+                                                                 zelamiku_told *told, zelamiku_dropped *dropped, size_t count);
+
+/* Hands out the session of the next lane, from 0 on; once each was, that of a lane whose session has ended (zelamiku_end) and held no
+ * monitor then, whichever it is: so threads may come and go. zelamiku_lane tells which lane it has.
+ * OPEN: `session` has something behind it. NONE_LEFT: each lane has a session. CLOSED. NO_MEMORY: none was handed out, and it may be
+ * asked for again. The handles are as they were. */
+ZELAMIKU_MUST_USE zelamiku_status zelamiku_session(zelamiku_handle *heap, zelamiku_handle *session);
+
+/* Tells the call of the device that the host makes next, and copies its bytes. It tells the same call until zelamiku_call_done.
+ * `call->kind` is ZELAMIKU_NO_CALL where none is left; another round may leave more. Into a buffer of fewer bytes than the call has,
+ * which one of ZELAMIKU_MOST_BYTES never is, only the first of them are copied, though `call` tells all of it: the host may look at
+ * such a call, and can't make it.
+ * After a refusal `call` is ZELAMIKU_NO_CALL. */
+ZELAMIKU_MUST_USE zelamiku_status zelamiku_next_call(zelamiku_handle *heap, zelamiku_call *call, uint8_t *bytes, size_t size);
+
+/* Says that the host has made the call that zelamiku_next_call told, which is the first of those that are left. The library can't see
+ * whether the host has made it: say it once for each call, and only after that call was told and made.
+ * NONE_LEFT: of the calls that the library has taken up to a sync, by zelamiku_next_call or zelamiku_acknowledged, none is left; nothing was
+ * done. */
+ZELAMIKU_MUST_USE zelamiku_status zelamiku_call_done(zelamiku_handle *heap);
+
+/* Says that the host couldn't make the call that zelamiku_next_call told.
+ * OK: it was a write, and nothing has changed: the same call is told again, and may be made again.
+ * STOPPED: it was a sync, or one had failed before. The memory of the heap is let go, and nothing that the sessions do from now on is
+ * made durable; what was acknowledged before stays. Free the handles.
+ * NONE_LEFT: no call was told. */
+ZELAMIKU_MUST_USE zelamiku_status zelamiku_call_failed(zelamiku_handle *heap);
+
+#define ZELAMIKU_ALL UINT64_MAX /* no bound on a round */
+
+/* Takes what the sessions have done, at most `most` records of it, writes it to the log, acknowledges each section that has ended and
+ * depends on none that hasn't, and leaves the calls of that to zelamiku_next_call: make them after each round, or in a thread that orders
+ * its calls with this one. `applied` gets how many records were taken. With none there is no call.
+ * A round that has taken `most` may have left some: make another one, also where nothing comes meanwhile. A session that waits for its
+ * section is kept until all rounds are over that take what its section depends on: so where threads wait beside others that send much,
+ * choose a bound that takes about as long as the calls of a round. The lanes have equal parts of it. ZELAMIKU_ALL is no bound.
+ * After each refusal `applied` is 0. CLOSED: nothing was done. CALLS_LEFT: the host hasn't made its calls for so many rounds
+ * that those of one more might have no room: nothing was done; make them, and go on. FAULT, FAILED: the heap has stopped; what was
+ * acknowledged stays: free the handles, and open it again. WORN: the control's sequence is at its end. The heap hasn't stopped, but no round
+ * that has to write acknowledges anything from now on; what was acknowledged stays. */
+#define zelamiku_round zelamiku_round_most /* a program of an older header, whose rounds have no bound, doesn't link */
+ZELAMIKU_MUST_USE zelamiku_status zelamiku_round(zelamiku_handle *heap, uint64_t most, uint64_t *applied);
+
+/* How many sections of the lane are acknowledged since the heap was opened: no crash of the device loses them.
+ * CLOSED, BAD_LANE. CALLS_LEFT: make the calls that are left, and ask again.
+ * `sections` is 0 then. */
+ZELAMIKU_MUST_USE zelamiku_status zelamiku_acknowledged(zelamiku_handle *heap, uint32_t lane, uint64_t *sections);
+
+/* Copies bytes of the heap's image, from byte `at` on, into `bytes`: as many as there are and `size` has room for. `copied` gets how many; it
+ * is 0 where `at` is at the image's end or past it. After the copied bytes `bytes` stays as it was. The image is that of the heap's disk in
+ * memory: what the device holds once the host has made each call that is told or left. So it may be ahead of the device, and never behind it.
+ * Nothing else changes: no call is made or told by it, and a heap that stopped by FAULT, FAILED or WORN, or was closed, has its image too.
+ * Needs: between the first and the last piece of a copy, no zelamiku_round and no zelamiku_close of this heap. Sessions may go on meanwhile,
+ * and so may zelamiku_next_call and zelamiku_call_done.
+ *     for (uint64_t at = 0; zelamiku_copy(&heap, at, buffer, sizeof buffer, &copied) == ZELAMIKU_OK && copied > 0; at += copied)
+ *         if (pwrite(file, buffer, copied, (off_t)at) != (ssize_t)copied) ...
+ * A whole copy, once it is durable in a file of its own, is a heap that zelamiku_open takes: as if this one had crashed just then, with
+ * nothing in flight. It keeps each section that was acknowledged by then, also by zelamiku_round_sections; after zelamiku_close has
+ * answered OK it keeps all sections.
+ * After a refusal `copied` is 0, and `bytes` is as it was. */
+ZELAMIKU_MUST_USE zelamiku_status zelamiku_copy(zelamiku_handle *heap, uint64_t at, uint8_t *bytes, size_t size, uint64_t *copied);
+
+/* Closes the heap, once each session that was handed out has ended: the last round. Make the calls that are left, and then free it.
+ * RUNNING: a session that was handed out hasn't ended, or each has and another thread is still inside zelamiku_end; the heap goes on. In
+ * the second case the lanes that were never handed out have ended too, so that zelamiku_session hands out none of them anew but goes on
+ * with their sessions. CALLS_LEFT: the calls of the last round might have no room: make those that are left, and close it then; the heap
+ * goes on. UNFINISHED, NO_MEMORY, FAULT, FAILED, WORN: the heap is closed without its last round, or with a part of it. What was
+ * acknowledged stays: make the calls that are left, free the handle, and open the heap again. UNFINISHED and NO_MEMORY have left no call.
+ * WORN: the control's sequence is at its end, and zelamiku_open answers WORN too. CLOSED, by an earlier call: nothing was done. */
+ZELAMIKU_MUST_USE zelamiku_status zelamiku_close(zelamiku_handle *heap);
+
+/* Lets go of what a handle holds, which is as at the beginning then. A heap stops, as if the process had: what was acknowledged stays.
+ * A session that is freed never ends, so its heap can't be closed any more (RUNNING). What it holds stays held: others that want those
+ * monitors are answered HELD for as long as the heap is open. No section that depends on its last one is ever acknowledged, so that in
+ * the end their sessions are BEHIND. zelamiku_look tells the lane that holds an object. If that lane's thread is gone, free the handles
+ * and open the heap again. The section that was cut off is dropped then, with those that depend on it. A thread that may be ended by
+ * force, or end by itself in a section, costs its heap an opening. */
+void zelamiku_free(zelamiku_handle *handle);
+
+/* ---- a session: one thread's use of the heap ---- */
+
+/* Each call of a session also answers NOTHING, WRONG_KIND and WAITING; nothing was done then. try_enter, begin_wait and try_resume answer
+ * STOPPED once the heap has stopped by zelamiku_call_failed, so that no loop that tries again spins for ever: what is held and what
+ * waits stays as it was. The others go on, so that a section may be ended, though nothing of it will be durable. */
+
+/* Takes the object's monitor, or one lock more of it. The first of a section needs room for a whole one.
+ * UNKNOWN_OBJECT, BEHIND, SECTION_FULL, TOO_MANY, TOO_DEEP, NO_FAT, WORN, HELD: what is held stays as it was. */
+ZELAMIKU_MUST_USE zelamiku_status zelamiku_try_enter(zelamiku_handle *session, uint32_t object);
+
+/* Gives one lock back, and with the last one the monitor. With the last monitor the section ends.
+ * UNKNOWN_OBJECT, NOT_HELD: nothing was done. */
+ZELAMIKU_MUST_USE zelamiku_status zelamiku_exit(zelamiku_handle *session, uint32_t object);
+
+/* Loads a field whose guard is held.
+ * UNKNOWN_FIELD, NOT_HELD: `value` is 0. */
+ZELAMIKU_MUST_USE zelamiku_status zelamiku_load(zelamiku_handle *session, uint32_t field, uint64_t *value);
+
+/* Stores a field whose guard is held.
+ * UNKNOWN_FIELD, NOT_HELD, SECTION_FULL: nothing was stored. */
+ZELAMIKU_MUST_USE zelamiku_status zelamiku_store(zelamiku_handle *session, uint32_t field, uint64_t value);
+
+/* Joins the wait set of a monitor that is held, and frees it, whatever the count of its locks. Resume it then.
+ * UNKNOWN_OBJECT, NOT_HELD, BEHIND, SECTION_FULL, NO_FAT, WORN: the monitor is held as before. */
+ZELAMIKU_MUST_USE zelamiku_status zelamiku_begin_wait(zelamiku_handle *session, uint32_t object);
+
+/* Takes the monitor again, by as many locks as before, if the session was notified and the monitor is free.
+ * IN_SET: nobody has notified it. HELD: another session has the monitor, or had it when this one tried; or the monitor has its last
+ * number, 2^40 - 1, and can't be taken again. It waits on. WRONG_KIND: the session doesn't wait. */
+ZELAMIKU_MUST_USE zelamiku_status zelamiku_try_resume(zelamiku_handle *session);
+
+/* Takes one session out of the wait set of a monitor that is held; `lane` gets its lane, or ZELAMIKU_NOBODY.
+ * UNKNOWN_OBJECT, NOT_HELD: `lane` is ZELAMIKU_NOBODY. */
+ZELAMIKU_MUST_USE zelamiku_status zelamiku_notify(zelamiku_handle *session, uint32_t object, uint32_t *lane);
+
+/* Takes all sessions out of the wait set of a monitor that is held; `lanes` gets a bit for each, 1 << its lane.
+ * UNKNOWN_OBJECT, NOT_HELD: `lanes` is 0. */
+ZELAMIKU_MUST_USE zelamiku_status zelamiku_notify_all(zelamiku_handle *session, uint32_t object, uint64_t *lanes);
+
+/* Looks at a monitor, which needn't be held.
+ * UNKNOWN_OBJECT: `sight` is that of a free monitor. */
+ZELAMIKU_MUST_USE zelamiku_status zelamiku_look(zelamiku_handle *session, uint32_t object, zelamiku_sight *sight);
+
+/* How many sections of the session's lane the last round acknowledged. They are durable once the host has made that round's calls: from then
+ * on no crash loses them, even if the heap is never closed. zelamiku_acknowledged tells only of such. */
+ZELAMIKU_MUST_USE zelamiku_status zelamiku_round_sections(zelamiku_handle *session, uint64_t *sections);
+
+/* Tells the session's lane, and how many sections of it have ended since the heap was opened, also those of the sessions that had the lane
+ * before. What the session has done by then is durable once zelamiku_acknowledged tells as many of that lane.
+ * After a refusal `lane` is ZELAMIKU_NOBODY and `sections` 0. */
+ZELAMIKU_MUST_USE zelamiku_status zelamiku_lane(zelamiku_handle *session, uint32_t *lane, uint64_t *sections);
+
+/* ---- a pool, by a session (zelamiku.h has what a pool is, and zelamiku_pool_fields) ---- */
+
+/* Takes a slot of the pool whose head is this field, and which has so many slots. Its object's monitor is held; it makes two records.
+ * POOL_EMPTY, DAMAGED, UNKNOWN_FIELD, NOT_HELD, SECTION_FULL: nothing was stored, and `slot` is ZELAMIKU_NO_SLOT. */
+ZELAMIKU_MUST_USE zelamiku_status zelamiku_pool_take(zelamiku_handle *session, uint32_t head, uint32_t slots, uint32_t *slot);
+
+/* Gives a slot back that was taken: it is the next one to be taken. Its object's monitor is held; it makes two records.
+ * NOT_TAKEN, DAMAGED, UNKNOWN_FIELD, NOT_HELD, SECTION_FULL: nothing was stored. */
+ZELAMIKU_MUST_USE zelamiku_status zelamiku_pool_give(zelamiku_handle *session, uint32_t head, uint32_t slots, uint32_t slot);
+
+/* ---- the end of a session ---- */
+
+/* Ends the session, and gives it back to its heap: its lane may be handed out again. Exit all monitors first: else it isn't, and its heap can't
+ * be closed. The handle keeps what is left of the session, a few hundred bytes, until it is opened again or freed: so free it, or hand it to
+ * zelamiku_session. Until then each call of a session answers NOTHING for it, and each call of a heap WRONG_KIND.
+ * WAITING, WRONG_KIND: the handle is as it was. */
+ZELAMIKU_MUST_USE zelamiku_status zelamiku_end(zelamiku_handle *session);
+
+/* ---- hosts of other devices, and hosts with threads of their own ---- */
+
+/* Makes the calls of the device that are left, in order (zelamiku_next_call), as zelamiku_make_calls does on a file, and with its answers. */
+typedef zelamiku_status zelamiku_device_calls(zelamiku_handle *heap, void *device, uint64_t *made);
+
+/* Takes over a heap that zelamiku_open or zelamiku_format has opened, on a device whose calls `make_calls` makes, and starts its helper. Of
+ * the plan `linger`, `reverts`, `log`, `log_of` and `ring` count: the ring is what the heap was opened with, and 0 is 4,096 here, as of the calls
+ * without `_rings`. NULL is a plan of zeros. `name` stands for the path in messages. `handle` is ZELAMIKU_NONE then, also after NO_MEMORY.
+ * RUNNING: a session that was handed out before hasn't ended, or held a monitor when it did. NOTHING, CLOSED, STOPPED, WRONG_KIND:
+ * `handle` is as it was, and may only be freed. */
+#define zelamiku_heap_start zelamiku_heap_start_2 /* the same */
+ZELAMIKU_MUST_USE zelamiku_status zelamiku_heap_start(zelamiku_heap *heap, const char *name, zelamiku_handle *handle,
+                                                      zelamiku_device_calls *make_calls, void *device, const zelamiku_plan *plan);
+
+/* Makes all calls of the device that are left on a file. `made` gets how many. DEVICE: a write has failed, and no call after it was made; the
+ * next zelamiku_make_calls begins with it. LOST: a sync has failed, and no call may follow (zelamiku_call_failed). errno has the cause: EBADF
+ * after DEVICE where the descriptor is for appending or for reading alone, by which no call was made. */
+ZELAMIKU_MUST_USE zelamiku_status zelamiku_make_calls(zelamiku_handle *heap, int descriptor, uint64_t *made);
+
+/* An image's header, in bytes; and how many bytes of a device of `size` its image has, by its header, or just the header's, where these
+ * can't be an image's. */
+#define ZELAMIKU_HEADER_BYTES 64
+uint64_t zelamiku_image_size(const uint8_t *header, uint64_t size);
+
+/* zelamiku_open_telling_rings, or zelamiku_upgrade_telling_rings. */
+typedef zelamiku_status zelamiku_opening(zelamiku_handle *heap, const uint8_t *image, size_t size, uint32_t ring, zelamiku_told *told,
+                                         zelamiku_dropped *dropped, size_t count);
+
+#ifdef ZELAMIKU_HAS_SIZE
+ZELAMIKU_HAS_SIZE(zelamiku_call, 24);
+#endif
+
+#ifdef __cplusplus
+}
+#endif
+#endif
