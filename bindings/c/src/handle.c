@@ -2,15 +2,16 @@
 /* ---- places of heaps, and forks ---- */
 
 /* In the child: its parent's heaps are at their end here, and so are their descriptors, which would keep the locks. Nothing else is touched:
- * another thread may have been in the middle of it. */
+ * another thread may have been in the middle of it, also of a heap that had ended before: so calls with its handles may not take its mutex. */
 static void forked(void) {
     for (size_t place = 1; place < ZELAMIKU_MOST_HEAPS; place++) {
         heap *of = &heaps[place];
         close_events(of);
-        if (!of->is_used) continue;
+        if (!of->is_used && of->number == 0) continue;
         of->over = ZELAMIKU_FORKED;
-        of->volume = of->inode = 0;
         shut(of, true);
+        if (!of->is_used) continue;
+        of->volume = of->inode = 0;
         if (of->file >= 0) (void)close(of->file);
     }
     for (const draft *it = drafts; it != NULL; it = it->next) {

@@ -13,7 +13,8 @@ static void clear_seat(heap *of, uint32_t lane) {
     own->wanted = own->locks = own->records = own->has_stored = 0;
     own->is_lent = own->is_left = own->is_told = false;
     own->turn = own->counted = 0;
-    own->asked = own->told = own->troubles = own->lacked = own->begun = 0;
+    own->begun = 0;
+    own->asked = own->told = own->troubles = own->lacked = 0;
     own->demands = 0;
     own->is_short = own->is_counted = own->is_rung = false;
     own->is_plain = !of->reverts;
@@ -70,7 +71,8 @@ static void clear_place(heap *of, const zelamiku_plan *plan) {
     of->log = plan->log;
     of->log_of = plan->log_of;
     of->reverts = plan->reverts != 0;
-    of->last_calls = of->paid = of->syncs_made = of->turns = of->looks = 0;
+    of->looks = 0;
+    of->last_calls = of->paid = of->syncs_made = of->turns = 0;
     of->urgent = of->guests = of->left = of->sleepers = of->loops = of->expected_sections = 0;
     of->is_led = of->is_own = of->is_ending = of->is_troubled = of->is_taken = false;
     memset(&of->stats, 0, sizeof of->stats);
