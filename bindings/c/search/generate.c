@@ -143,13 +143,70 @@ static void add_end(program *it) {
     add(it, thread, KINDS[below(3)], 0, 0);
 }
 
-static void make_small(program *it, unsigned number);
-
 static void choose_fault(program *it) {
     it->fault = one_in(6) ? (device_fault)(1 + below(3)) : NEVER_FAILS;
     it->fault_at = 20 + below(80);
     it->fault_for = it->fault == SYNC_FAILS ? 1000000 : 1 + below(3);
 }
+
+/* ---- programs of a second kind: event loops, files, forks, and ends that come two at once ---- */
+
+typedef enum { LOOPS, SHORT_LOOPS, FILES, FORKS, TWO_ENDS, MORE_THEMES } more_theme;
+
+/* Of a thread with an event loop: some sections, and then it asks, or sleeps until it is told. */
+static void add_loop_turn(program *it, uint32_t thread, more_theme of) {
+    uint32_t object = (uint32_t)below(OBJECTS);
+    for (uint64_t sections = below(3) + (of == SHORT_LOOPS); sections > 0; sections--) {
+        add(it, thread, of == SHORT_LOOPS ? TRY : one_in(3) ? TRY : ENTER, object, 0);
+        if (!one_in(4)) add(it, thread, STORE, VALUE_OF + object, 0);
+        if (of == SHORT_LOOPS) add(it, thread, FILL, object, 900 + below(90));
+        add(it, thread, EXIT, object, 0);
+        if (of == SHORT_LOOPS && one_in(3)) add(it, thread, LISTEN, 0, one_in(3) ? some_time() : 0);
+    }
+    switch (below(6)) {
+    case 0: break;
+    case 1: add(it, thread, ASK_ALL, 0, 0); break;
+    case 2: add(it, thread, ASK_ALL, 0, 0); add(it, thread, LISTEN, 0, some_time()); break;
+    case 3: if (one_in(3)) add(it, thread, RENEW, 0, 0), add(it, thread, EVENT, 0, 0); break;
+    default: add(it, thread, ASK_ALL, 0, 0); add(it, thread, LISTEN, 0, 0);
+    }
+}
+
+static void add_more_turn(program *it, uint32_t thread, more_theme of) {
+    switch (of) {
+    case LOOPS: case SHORT_LOOPS: if (one_in(4)) add_turn(it, thread, MIXED); else add_loop_turn(it, thread, of); return;
+    case FILES: if (one_in(3)) add(it, thread, one_in(6) ? OPEN_AGAIN : COPY, (uint32_t)below(COPIES_OF), 0); else add_turn(it, thread, one_in(2) ? ROUNDS : MIXED); return;
+    case FORKS: if (one_in(6)) add(it, thread, FORK, 0, 0); else if (one_in(4)) add_loop_turn(it, thread, LOOPS); else add_turn(it, thread, MIXED); return;
+    default: add_turn(it, thread, (theme[]){MIXED, SETS, ROUNDS, LANES}[below(4)]);
+    }
+}
+
+static void make_more(program *it) {
+    static const uint32_t LINGERS[] = {1, 20, 200, 5000, 5000};
+    more_theme of = (more_theme)below(MORE_THEMES);
+    it->threads = it->lanes = 2 + (uint32_t)below(3);
+    it->heaps = of != FILES && one_in(12) ? 2 : 1;
+    it->ring = 4096;
+    it->capacity = one_in(4) ? 6000 : 2000;
+    it->linger = LINGERS[below(sizeof LINGERS / sizeof *LINGERS)];
+    it->processors = 1 + (uint32_t)below(4);
+    common_time = 0;
+    common_time = one_in(2) ? 1000 * it->linger : 800 + some_time();
+    it->is_whole = one_in(2);
+    it->reverts = one_in(4);
+    it->is_in_file = of == FILES || (of == FORKS && one_in(3));
+    choose_fault(it);
+    if (it->is_in_file) it->fault = NEVER_FAILS;
+    for (uint32_t thread = 0; thread < it->threads; thread++) {
+        if ((of == LOOPS || of == SHORT_LOOPS || of == FORKS) && !one_in(4)) add(it, thread, EVENT, 0, 0);
+        for (uint64_t turn = 1 + below(6); turn > 0; turn--) add_more_turn(it, thread, of);
+    }
+    uint64_t ends = of == TWO_ENDS ? 2 + below(2) : one_in(4);
+    for (; ends > 0; ends--) add_end(it);
+    if (of == FILES && one_in(3)) add(it, (uint32_t)below(it->threads), OPEN_AGAIN, 0, 0);
+}
+
+static void make_small(program *it, unsigned number);
 
 void program_make(program *it, uint64_t seed) {
     static const uint32_t LINGERS[] = {1, 1, 20, 200, 5000, 5000};
@@ -158,6 +215,7 @@ void program_make(program *it, uint64_t seed) {
     it->seed = seed;
     if (seed < SMALL_PROGRAMS) return make_small(it, (unsigned)seed);
     for (int i = 0; i < 8; i++) (void)below(2);
+    if (seed % 3 == 0) return make_more(it); /* so that the others are what they were */
     theme of = (theme)below(THEMES);
     if (of == LEFTOVERS && one_in(2)) of = DEADLINES; /* the former is dear */
     it->threads = 2 + (uint32_t)below(of == LEFTOVERS ? 2 : 3);
@@ -243,13 +301,15 @@ static const char *const NAMES[] = {
     [NOTIFY_ALL] = "notify all of %u", [TAKE] = "take a slot", [GIVE] = "give slot %u", [REVERT] = "revert", [AWAIT] = "await",
     [AWAIT_UNTIL] = "await all for (%u) %llu ns", [AWAIT_SOME] = "await all but one", [AWAIT_ROUND] = "await a round for (%u) %llu ns",
     [NAP] = "nap for (%u) %llu ns", [STATS] = "stats", [LOOK] = "look at %u", [WAITS_OF] = "waits", [RENEW] = "end and begin",
-    [ASK] = "ask of thread %u", [CLOSE] = "close", [STOP] = "stop", [ABANDON] = "abandon",
+    [ASK] = "ask of thread %u", [CLOSE] = "close", [STOP] = "stop", [ABANDON] = "abandon", [EVENT] = "make an event",
+    [ASK_ALL] = "ask for all", [LISTEN] = "sleep until the event is readable, for (%u) %llu ns (0: for ever)", [COPY] = "copy to place %u",
+    [OPEN_AGAIN] = "open the file again", [FORK] = "fork",
 };
 
 void program_print(const program *it) {
     static const char *const FAULTS[] = {"", ", writes fail", ", syncs fail", ", calls hang"};
-    printf("%u threads, %u lanes, %u heaps, capacity %u, ring %u, linger %u us, %u processors%s%s%s", it->threads, it->lanes, it->heaps, it->capacity,
-           it->ring, it->linger, it->processors, it->is_whole ? "" : ", calls written out", it->reverts ? ", reverts" : "", FAULTS[it->fault]);
+    printf("%u threads, %u lanes, %u heaps%s, capacity %u, ring %u, linger %u us, %u processors%s%s%s", it->threads, it->lanes, it->heaps,
+           it->is_in_file ? " in a file" : "", it->capacity, it->ring, it->linger, it->processors, it->is_whole ? "" : ", calls written out", it->reverts ? ", reverts" : "", FAULTS[it->fault]);
     if (it->fault != NEVER_FAILS) printf(" from call %llu, %llu of them", (unsigned long long)it->fault_at, (unsigned long long)it->fault_for);
     puts("");
     for (uint32_t i = 0; i < it->count; i++) {

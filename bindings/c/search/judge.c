@@ -19,8 +19,18 @@ void judge_begin(judge *it, uint32_t lanes, bool reverts) {
 
 void judge_ends(judge *it, zelamiku_status status) {
     it->ends |= 1u << (status - ZELAMIKU_LOST);
+    it->closers += status == ZELAMIKU_CLOSED;
+    it->ending += status != ZELAMIKU_LOST;
     for (uint32_t lane = 0; lane < it->lanes; lane++)
         it->of[lane].slips_through |= it->of[lane].call == ENTERS || it->of[lane].call == WAITS;
+}
+
+/* What one of two calls is told may come before the other one, which does the work, has done it. */
+void judge_ended(judge *it, zelamiku_status status, bool is_refused) {
+    it->ending--;
+    if (is_refused && status == ZELAMIKU_CLOSED && --it->closers == 0) it->ends &= ~(1u << (status - ZELAMIKU_LOST));
+    it->was_told |= !is_refused;
+    it->has_ended = it->was_told && it->ending == 0;
 }
 
 bool judge_is_end(const judge *it, zelamiku_status status) {
@@ -40,6 +50,26 @@ bool judge_is_open(const judge *it) {
     return false;
 }
 
+void judge_note_sections(const judge *it, judged_sections *before) {
+    before->is_any_open = judge_is_open(it);
+    for (uint32_t lane = 0; lane < it->lanes; lane++) {
+        before->is_open[lane] = judge_held(it, lane) > 0 && it->of[lane].call == NO_CALL;
+        before->ended[lane] = it->of[lane].ended;
+    }
+}
+
+void judge_closed(const judge *it, const judged_sections *before) {
+    judged_sections now;
+    judge_note_sections(it, &now);
+    for (uint32_t lane = 0; lane < it->lanes; lane++)
+        if (before->is_open[lane] && now.is_open[lane] && before->ended[lane] == now.ended[lane]) search_fail("close is OK, and a section of lane %u is open", lane);
+}
+
+void judge_settled(judge *it, const judged_sections *before) {
+    for (uint32_t lane = 0; lane < it->lanes && !before->is_any_open; lane++)
+        if (it->of[lane].durable < before->ended[lane]) it->of[lane].durable = before->ended[lane];
+}
+
 /* Whether the section may have as many records as one may. */
 static bool may_be_full(const judge *it, uint32_t lane) {
     return judge_held(it, lane) > 0 && it->of[lane].records > 400;
@@ -56,7 +86,7 @@ static judged_lane *begin_call(judge *it, uint32_t lane, judged_call call, uint3
     own->call = call;
     own->object = object;
     own->has_let_go = false;
-    if (call == ENTERS && it->ends != 0 && !it->has_ended) own->slips_through = true;
+    if ((call == ENTERS || call == WAITS) && it->ends != 0 && !it->has_ended) own->slips_through = true;
     own->was_ended = it->has_ended;
     own->must_end = it->has_ended && !own->slips_through;
     return own;
@@ -69,6 +99,14 @@ static bool is_over(judge *it, uint32_t lane, zelamiku_status status) {
     if (judge_is_end(it, status)) return true;
     if (own->must_end) search_fail("lane %u: %u after the heap's end", lane, status);
     return false;
+}
+
+/* Another thread has the lane now. Of the one before it has nothing, also where a sync has failed and what that one held stays held. */
+void judge_lent(judge *it, uint32_t lane) {
+    judged_lane *own = &it->of[lane];
+    memset(own->locks, 0, sizeof own->locks);
+    own->call = NO_CALL;
+    own->slips_through = own->must_end = own->has_stored = own->is_past = own->has_asked = own->is_short = false;
 }
 
 /* ---- monitors ---- */
@@ -108,11 +146,11 @@ static void let_go(judge *it, uint32_t lane) {
     end_section(it, lane, own->object);
 }
 
-/* The heap's end has answered an exit or a wait. Its lane goes on with nothing, so the monitor may be free, and who tries may find it held. */
+/* The heap's end has answered an exit or a wait. Its lane goes on with nothing, so the monitor may be free, and who tries may find it held. Who
+ * waited may be in the set still. */
 static void cut_off(judge *it, uint32_t lane) {
     judged_lane *own = &it->of[lane];
-    if (own->has_let_go) return;
-    let_go(it, lane);
+    if (!own->has_let_go) let_go(it, lane);
     it->set[own->object] &= ~((uint64_t)1 << lane);
     it->cut[own->object] |= (uint64_t)1 << lane;
 }
@@ -285,18 +323,54 @@ void judge_gave(judge *it, uint32_t lane, zelamiku_status status, uint32_t slot)
 
 /* ---- what is durable ---- */
 
-void judge_awaits(judge *it, uint32_t lane, bool is_round) {
-    (void)begin_call(it, lane, is_round ? AWAITS_ROUND : AWAITS, 0);
+void judge_awaits(judge *it, uint32_t lane, bool is_round, uint64_t deadline) {
+    begin_call(it, lane, is_round ? AWAITS_ROUND : AWAITS, 0)->deadline = deadline;
 }
 
 void judge_awaited(judge *it, uint32_t lane, zelamiku_status status, bool is_all, uint64_t sections) {
     judged_lane *own = &it->of[lane];
-    if (status == ZELAMIKU_OK && is_all) own->must_end = false; /* they were durable before */
+    if (status == ZELAMIKU_OK && (is_all || search_time() >= own->deadline)) own->must_end = false; /* they were durable before, or a last round is underway */
     if (is_over(it, lane, status)) return;
     if (status == ZELAMIKU_OK && is_all && own->durable < sections) own->durable = sections;
     if (own->durable == own->ended) own->records = 0;
     bool is_right = status == ZELAMIKU_OK || (status == ZELAMIKU_DEVICE && it->has_trouble);
     if (!is_right) search_fail("lane %u: await answers %u", lane, status);
+}
+
+void judge_asks(judge *it, uint32_t lane) {
+    (void)begin_call(it, lane, ASKS, 0);
+}
+
+void judge_asked(judge *it, uint32_t lane, zelamiku_status status, uint64_t earlier, uint64_t durable) {
+    judged_lane *own = &it->of[lane];
+    uint64_t all = own->ended - earlier;
+    bool is_trouble = status == ZELAMIKU_DEVICE && it->has_trouble;
+    if (durable > all) search_fail("lane %u has ended %llu sections, and %llu are durable", lane, (unsigned long long)all, (unsigned long long)durable);
+    if (earlier + durable < own->durable) search_fail("lane %u is told fewer durable sections than before", lane);
+    if (status == ZELAMIKU_OK && durable == all) own->must_end = false;
+    if (durable > 0) own->durable = earlier + durable;
+    own->has_asked = durable < all;
+    own->is_short = false;
+    if (durable > 0 && durable == all && judge_held(it, lane) == 0) own->records = 0;
+    if (is_over(it, lane, status)) return;
+    if (status != ZELAMIKU_OK && !is_trouble) search_fail("lane %u: ask answers %u", lane, status);
+}
+
+void judge_listens(judge *it, uint32_t lane, uint64_t deadline) {
+    judged_lane *own = &it->of[lane];
+    own->call = LISTENS;
+    own->deadline = deadline;
+}
+
+void judge_listened(judge *it, uint32_t lane, bool is_readable) {
+    judged_lane *own = &it->of[lane];
+    own->call = NO_CALL;
+    if (is_readable) own->is_short = false;
+    if (!is_readable && search_time() < own->deadline) search_fail("lane %u: its event isn't readable", lane);
+}
+
+void judge_copies(judge *it, uint32_t lane) {
+    (void)begin_call(it, lane, COPIES, 0);
 }
 
 /* How many sections are durable, by the library, without a step. */
@@ -332,6 +406,12 @@ static void judge_sleeper(judge *it, uint32_t lane, bool has_rounds) {
     case AWAITS:
         if (waits_for_rounds) return;
         search_fail("lane %u waits for its sections, and no round comes", lane);
+    case LISTENS:
+        if (waits_for_rounds) return;
+        search_fail("lane %u waits for its event, and no round comes", lane);
+    case COPIES:
+        if (has_rounds) return;
+        search_fail("lane %u copies, and sleeps", lane);
     case AWAITS_ROUND:
         if (waits_for_rounds || all_durable(it) == sum_of(it, false)) return;
         search_fail("lane %u waits for a round, and none comes", lane);
@@ -341,6 +421,19 @@ static void judge_sleeper(judge *it, uint32_t lane, bool has_rounds) {
 
 void judge_sleepers(judge *it, bool has_rounds) {
     for (uint32_t lane = 0; lane < it->lanes; lane++) judge_sleeper(it, lane, has_rounds);
+}
+
+uint64_t judge_durable(const judge *it) {
+    uint64_t durable = 0;
+    for (uint32_t lane = 0; lane < it->lanes; lane++) durable += it->of[lane].durable;
+    return durable;
+}
+
+void judge_stats(const judge *it, const zelamiku_stats *stats, uint64_t durable) {
+    uint64_t ended = sum_of(it, false);
+    for (uint32_t lane = 0; lane < it->lanes; lane++) ended += judge_held(it, lane) > 0; /* its last exit may be underway */
+    bool is_right = stats->sections >= durable && stats->sections <= ended && stats->lent <= it->lanes && stats->entering <= it->lanes;
+    if (!is_right) search_fail("stats tell %llu sections, %u lanes and %u that enter", (unsigned long long)stats->sections, stats->lent, stats->entering);
 }
 
 void judge_alone(const judge *it) {
@@ -397,18 +490,22 @@ static void check_image(zelamiku_handle *heap, const uint64_t *values) {
     zelamiku_free(&session);
 }
 
-void judge_image(judge *it, const uint8_t *image, size_t size, bool is_all) {
+void judge_kept(const judge *it, bool is_all, uint64_t *least) {
+    for (uint32_t lane = 0; lane < it->lanes; lane++) least[lane] = is_all ? it->of[lane].ended : it->of[lane].durable;
+}
+
+void judge_image(judge *it, const uint8_t *image, size_t size, const uint64_t *least) {
     static zelamiku_told told;
     zelamiku_handle again = ZELAMIKU_NONE;
     uint64_t values[FIELDS];
-    bool was_quiet = search_be_quiet(true), is_told = is_all;
-    for (uint32_t lane = 0; lane < it->lanes; lane++) is_told |= it->of[lane].durable > 0;
+    bool was_quiet = search_be_quiet(true), is_told = false;
+    for (uint32_t lane = 0; lane < it->lanes; lane++) is_told |= least[lane] > 0;
     zelamiku_status opened = zelamiku_open_telling(&again, image, size, &told, NULL, 0);
     if (opened == ZELAMIKU_OK) {
         for (uint32_t lane = 0; lane < it->lanes; lane++)
-            if (told.kept[lane] < (is_all ? it->of[lane].ended : it->of[lane].durable))
-                search_fail("lane %u was told that %llu sections are durable, and a crash leaves %llu", lane,
-                            (unsigned long long)(is_all ? it->of[lane].ended : it->of[lane].durable), (unsigned long long)told.kept[lane]);
+            if (told.kept[lane] < least[lane])
+                search_fail("lane %u was told that %llu sections are durable, and a crash leaves %llu", lane, (unsigned long long)least[lane],
+                            (unsigned long long)told.kept[lane]);
         fold_stores(it, &told, values);
         check_image(&again, values);
         zelamiku_free(&again);

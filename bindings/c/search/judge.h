@@ -17,7 +17,7 @@ enum {
     FIRST_VALUE = 7
 };
 
-typedef enum { NO_CALL, ENTERS, EXITS, WAITS, AWAITS, AWAITS_ROUND } judged_call;
+typedef enum { NO_CALL, ENTERS, EXITS, WAITS, AWAITS, AWAITS_ROUND, ASKS, LISTENS, COPIES } judged_call;
 
 typedef struct {
     judged_call call;   /* that it makes now */
@@ -33,6 +33,7 @@ typedef struct {
     uint64_t stored;    /* the last of them that has stored */
     uint64_t durable;   /* told */
     uint32_t records;   /* about how many it has sent since all were durable */
+    bool has_asked, is_short; /* its event will be readable: of sections that it has asked for, or since it has found no room */
     bool has_stored;    /* the section that is open has, */
     bool is_past;       /* and has freed a monitor under which it had */
 } judged_lane;
@@ -42,6 +43,12 @@ typedef struct {
     uint64_t section, value, before;
     bool is_back; /* a revert has taken it back, or has made it */
 } judged_store;
+
+typedef struct {
+    bool is_any_open;
+    bool is_open[MOST_LANES]; /* and its thread is in no call */
+    uint64_t ended[MOST_LANES];
+} judged_sections;
 
 typedef struct {
     uint32_t lanes;
@@ -54,7 +61,9 @@ typedef struct {
     uint64_t values[FIELDS];
     judged_lane of[MOST_LANES];
     uint32_t ends;        /* a bit for each status that a thread may be told as the heap's end */
-    bool has_ended;       /* and must, since stop or close has come back */
+    uint32_t closers, ending; /* calls that end the heap by CLOSED; all that do and have yet to come back */
+    bool was_told;        /* one of these has come back */
+    bool has_ended;       /* and a thread must be told so: all of them have */
     bool has_trouble;     /* writes fail */
     judged_store *stores;
     size_t count, room;
@@ -62,6 +71,12 @@ typedef struct {
 
 void judge_begin(judge *it, uint32_t lanes, bool reverts);
 void judge_ends(judge *it, zelamiku_status status); /* from now on a thread may be told so */
+void judge_ended(judge *it, zelamiku_status status, bool is_refused); /* that call has come back; is_refused: the heap goes on */
+void judge_lent(judge *it, uint32_t lane);
+/* A call that ends the heap begins, and has come back with OK, alone: what was open has ended before a close, and what had ended is durable. */
+void judge_note_sections(const judge *it, judged_sections *before);
+void judge_closed(const judge *it, const judged_sections *before);
+void judge_settled(judge *it, const judged_sections *before);
 bool judge_is_end(const judge *it, zelamiku_status status);
 uint32_t judge_held(const judge *it, uint32_t lane); /* locks, all together */
 bool judge_is_open(const judge *it); /* whether a section is */
@@ -78,15 +93,26 @@ void judge_stored(judge *it, uint32_t lane, uint32_t field, zelamiku_status stat
 void judge_took(judge *it, uint32_t lane, zelamiku_status status, uint32_t slot);
 void judge_reverted(judge *it, uint32_t lane, zelamiku_status status);
 void judge_gave(judge *it, uint32_t lane, zelamiku_status status, uint32_t slot);
-void judge_awaits(judge *it, uint32_t lane, bool is_round);
+void judge_awaits(judge *it, uint32_t lane, bool is_round, uint64_t deadline);
 void judge_awaited(judge *it, uint32_t lane, zelamiku_status status, bool is_all, uint64_t sections);
+
+void judge_asks(judge *it, uint32_t lane);
+void judge_asked(judge *it, uint32_t lane, zelamiku_status status, uint64_t earlier, uint64_t durable); /* `earlier`: of the thread before */
+void judge_listens(judge *it, uint32_t lane, uint64_t deadline); /* sleeps until its event is readable */
+void judge_listened(judge *it, uint32_t lane, bool is_readable);
+void judge_copies(judge *it, uint32_t lane);
 
 /* Nobody can go on now: whether each that sleeps has to. `has_rounds`: a round may come by itself before long. */
 void judge_sleepers(judge *it, bool has_rounds);
 /* All that has stored is durable, a good while after. */
 void judge_quiet(judge *it);
-/* No thread is left: what the library counts. */
+/* What the library counts, while threads go on; so many sections were told durable before. */
+uint64_t judge_durable(const judge *it);
+void judge_stats(const judge *it, const zelamiku_stats *stats, uint64_t durable);
+/* The same, and no thread is left. */
 void judge_alone(const judge *it);
-/* The bytes that a crash leaves, opened anew. `is_all`: after a close. */
-void judge_image(judge *it, const uint8_t *image, size_t size, bool is_all);
+/* How many sections of each lane no crash loses from now on; `is_all`: after a close. */
+void judge_kept(const judge *it, bool is_all, uint64_t *least);
+/* The bytes that a crash leaves, or a copy, opened anew: they have to have so many sections of each lane. */
+void judge_image(judge *it, const uint8_t *image, size_t size, const uint64_t *least);
 #endif

@@ -1,5 +1,6 @@
-/* search small SECONDS [PROCESSOR]: each small program under each schedule of at most two preemptions, with more and more choices against the
- * usual one (AS_TOLD's own), until the time is over.
+/* search small SECONDS [PROCESSOR [MOST [ONE]]]: each small program under each schedule of at most two preemptions, with more and more choices
+ * against the usual one (AS_TOLD's own), until the time is over, or until that would be more than MOST schedules of it: of these so many are tried
+ * then, spread over all. ONE: that small program alone.
  * search programs FROM COUNT SECONDS [PROCESSOR]: a program and a schedule for each seed, for so many seconds at most, or of a processor.
  * search one SEED TRIES [LEFT-OUT] [CHOICES]: the program of a seed under its own schedule (TRIES 0) or under so many others, without the deeds
  * of that list, or with these choices (PLACE:TASK,..). It tells the program, and the choices of what has failed.
@@ -113,7 +114,7 @@ static void run_programs(uint64_t from, uint64_t count) {
 enum { MOST_PREEMPTIONS = 2, MOST_DEPTH = 64 };
 static search_choice path[MOST_DEPTH];
 static size_t path_length;
-static uint64_t schedules;
+static uint64_t schedules, most_schedules, stride, passed_by; /* of so many schedules of the last choice one is tried */
 static bool has_more, is_time_over;
 static double program_begun, program_used, programs_left;
 
@@ -151,6 +152,7 @@ static void try_schedules(size_t choices, int preemptions) {
             if (!is_one || (!other.is_free[place] && preemptions == 0)) continue;
             has_more |= choices == 0;
             if (choices == 0) break;
+            if (choices == 1 && passed_by++ % stride != 0) continue;
             path[path_length++] = (search_choice){(uint32_t)place, task};
             try_schedules(choices - 1, preemptions - !other.is_free[place]);
             path_length--;
@@ -161,32 +163,45 @@ static void try_schedules(size_t choices, int preemptions) {
     free(other.is_free);
 }
 
-static void begin_small(uint64_t seed) {
+static void begin_small(uint64_t seed, uint64_t end) {
     seed_now = seed;
     schedules = 0;
     has_more = is_time_over = false;
     program_begun = seconds_now();
     program_used = used_seconds();
-    programs_left = (double)(SMALL_PROGRAMS - seed);
+    programs_left = (double)(end - seed);
     program_make(&now, seed);
 }
 
+/* How many of the small program's schedules have that number of choices is guessed by those of one choice: each of these again, later. */
+static uint64_t stride_of(uint64_t of_one, size_t choices) {
+    double all = 1;
+    for (size_t i = 1; i <= choices; i++) all *= (double)of_one / (double)i;
+    double most = (double)most_schedules;
+    return all <= most ? 1 : (uint64_t)(all / most) + 1;
+}
+
 /* The programs by turns: all schedules of one choice more than before, while the time is enough for those of each. */
-static void run_small(void) {
+static void run_small(uint64_t first, uint64_t end) {
     bool is_whole[SMALL_PROGRAMS] = {false}, is_left = true;
+    uint64_t of_one[SMALL_PROGRAMS] = {0};
     tells = true;
     for (size_t choices = 0; choices < MOST_DEPTH && is_left; choices++) {
         bool is_late = is_left = false;
-        for (uint64_t seed = 0; seed < SMALL_PROGRAMS; seed++) {
+        for (uint64_t seed = first; seed < end; seed++) {
             if (is_whole[seed]) continue;
-            begin_small(seed);
+            begin_small(seed, end);
+            stride = choices < 2 ? 1 : stride_of(of_one[seed], choices);
+            passed_by = 0;
             try_schedules(choices, MOST_PREEMPTIONS);
+            if (choices == 1) of_one[seed] = schedules;
             is_late |= is_time_over;
-            is_whole[seed] = !has_more && !is_time_over;
+            bool is_part = is_time_over || stride > 1;
+            is_whole[seed] = stride > 1 || (!has_more && !is_time_over);
             is_left |= !is_whole[seed] && !is_late;
             if (choices == 0) continue;
             printf("%s: %llu schedules of %zu choices at most%s\n", program_name(seed), (unsigned long long)schedules, choices,
-                   is_whole[seed] ? ", which are all" : is_time_over ? ", and not all of these" : "");
+                   is_part ? ", and not all of these" : is_whole[seed] ? ", which are all" : "");
             fflush(stdout);
         }
     }
@@ -255,7 +270,9 @@ int main(int count, char **words) {
         run_programs(number(count, words, 2, SMALL_PROGRAMS), number(count, words, 3, 1000));
     } else if (strcmp(what, "small") == 0) {
         bound_time(number(count, words, 2, 60), number(count, words, 3, long_time));
-        run_small();
+        most_schedules = number(count, words, 4, UINT64_MAX);
+        uint64_t one = number(count, words, 5, SMALL_PROGRAMS);
+        run_small(one < SMALL_PROGRAMS ? one : 0, one < SMALL_PROGRAMS ? one + 1 : SMALL_PROGRAMS);
     } else if (strcmp(what, "one") == 0) {
         run_one(number(count, words, 2, SMALL_PROGRAMS), number(count, words, 3, 0), count > 4 ? words[4] : "", count > 5 ? words[5] : NULL);
     } else {

@@ -2,9 +2,12 @@
  * stands (an exit of what isn't held, since an enter before was refused) is left out or answers as the judge says, so each part of a program is
  * one too. When no thread can go on, and by the judge none can, main stops the heaps, so that all come back. */
 #include "programs.h"
+#include <fcntl.h>
 #include <stdio.h>
 #include <stdlib.h>
 #include <string.h>
+#include <sys/wait.h>
+#include <unistd.h>
 
 #define MUST(is_so, what) do { if (!(is_so)) search_fail("%s", what); } while (0)
 
@@ -12,6 +15,7 @@ typedef struct {
     zelamiku_thread own[HEAPS], old[HEAPS]; /* `old`: the handle before */
     uint32_t lane[HEAPS];
     bool has_lane[HEAPS], is_out[HEAPS];
+    int event[HEAPS]; /* or -1 */
     int task;
 } worker;
 
@@ -21,7 +25,11 @@ static device devices[HEAPS];
 static worker workers[MOST_THREADS];
 static uint64_t next_value;
 static uint32_t left; /* threads that have yet to come back */
-static bool is_stopping;
+static bool is_stopping, is_forking;
+static zelamiku_field fields[FIELDS];
+static zelamiku_plan plan;
+static uint32_t copying[COPIES_OF], copies_begun[COPIES_OF], opening, opens_begun;
+static bool is_opened_again; /* the file: what is in it is another opening's */
 uint64_t programs_crashes, programs_stuck;
 extern long searched_processors;
 
@@ -33,29 +41,44 @@ static void device_fails(void *of, device_fault fault) {
     if (fault == SYNC_FAILS) judge_ends(it, ZELAMIKU_LOST);
 }
 
-static void look_at_crash(uint32_t heap, bool is_all) {
-    programs_crashes++;
-    judge_image(&judges[heap], devices[heap].durable, devices[heap].size, is_all);
+static void look_at_file(judge *it, const char *name, const uint64_t *least) {
+    static uint8_t bytes[1 << 20];
+    int file = open(name, O_RDONLY | O_CLOEXEC);
+    ssize_t size = file < 0 ? -1 : read(file, bytes, sizeof bytes);
+    MUST(size > 0 && close(file) == 0, "a file can't be read");
+    judge_image(it, bytes, (size_t)size, least);
 }
 
-/* What is told is told of by all that come later. */
-static void note_end(judge *it, zelamiku_status status) {
-    if (status == ZELAMIKU_OK || judge_is_end(it, status)) it->has_ended = true;
+static bool is_in_file(uint32_t heap) {
+    return heap == 0 && current->is_in_file;
+}
+
+static void look_at_crash(uint32_t heap, bool is_all) {
+    uint64_t least[MOST_LANES];
+    programs_crashes++;
+    judge_kept(&judges[heap], is_all, least);
+    if (!is_in_file(heap))
+        judge_image(&judges[heap], devices[heap].durable, devices[heap].size, least);
+    else if (!is_opened_again)
+        look_at_file(&judges[heap], "heap", least);
 }
 
 static void end_heap(uint32_t heap, deed_kind kind) {
     judge *it = &judges[heap];
-    uint32_t ends = it->ends;
-    judge_ends(it, kind == ABANDON ? ZELAMIKU_ABANDONED : ZELAMIKU_CLOSED);
+    zelamiku_status why = kind == ABANDON ? ZELAMIKU_ABANDONED : ZELAMIKU_CLOSED;
+    judged_sections before;
+    judge_note_sections(it, &before);
+    judge_ends(it, why);
     zelamiku_status status = kind == CLOSE  ? zelamiku_heap_close(it->heap)
                              : kind == STOP ? zelamiku_heap_stop(it->heap)
                                             : zelamiku_heap_abandon(it->heap);
-    bool is_refused = kind == CLOSE && (status == ZELAMIKU_RUNNING || (status == ZELAMIKU_DEVICE && it->has_trouble));
-    if (is_refused && ends == 0 && it->ends == 1u << (ZELAMIKU_CLOSED - ZELAMIKU_LOST)) it->ends = 0;
-    if (is_refused) return;
-    bool is_right = status == ZELAMIKU_OK || judge_is_end(it, status) || (status == ZELAMIKU_DEVICE && it->has_trouble);
+    bool has_failed = status == ZELAMIKU_DEVICE && it->has_trouble, is_refused = kind == CLOSE && (status == ZELAMIKU_RUNNING || has_failed);
+    bool is_right = status == ZELAMIKU_OK || judge_is_end(it, status) || has_failed || is_refused;
     if (!is_right) search_fail("the end of heap %u answers %u", heap, status);
-    note_end(it, status);
+    judge_ended(it, why, is_refused);
+    if (status != ZELAMIKU_OK) return;
+    if (kind == CLOSE) judge_closed(it, &before);
+    judge_settled(it, &before);
 }
 
 /* ---- what threads do ---- */
@@ -75,6 +98,7 @@ static void enter(worker *own, uint32_t heap, uint32_t object, deed_kind kind, u
                              : current->is_whole ? zelamiku_whole_enter(own->own[heap], object)
                                                  : zelamiku_thread_enter(own->own[heap], object);
     judge_entered(it, own->lane[heap], status);
+    it->of[own->lane[heap]].is_short |= kind == TRY && status == ZELAMIKU_BEHIND && own->event[heap] >= 0;
     (void)is_over(own, heap, status);
 }
 
@@ -159,7 +183,7 @@ static void await(worker *own, uint32_t heap, deed_kind kind, uint64_t time) {
     uint64_t earlier = zelamiku_thread_earlier(own->own[heap]), all = it->of[lane].ended - earlier, some = all > 1 ? all - 1 : all;
     bool is_all = true;
     uint64_t deadline = kind == AWAIT_UNTIL ? search_time() + time : ZELAMIKU_NO_DEADLINE;
-    judge_awaits(it, lane, false);
+    judge_awaits(it, lane, false, deadline);
     zelamiku_status status = kind == AWAIT ? zelamiku_thread_await(own->own[heap])
                                            : zelamiku_thread_await_until(own->own[heap], kind == AWAIT_SOME ? some : ZELAMIKU_ALL_SECTIONS,
                                                                          deadline, &is_all);
@@ -178,12 +202,157 @@ static void await_round(worker *own, uint32_t heap, uint64_t time) {
     bool must_end = it->has_ended;
     zelamiku_status status = zelamiku_heap_stats(it->heap, &stats);
     if (status != ZELAMIKU_OK) return;
-    judge_awaits(it, own->lane[heap], true);
+    judge_awaits(it, own->lane[heap], true, deadline);
     status = zelamiku_heap_await_round(it->heap, stats.rounds, deadline, &rounds);
     it->of[own->lane[heap]].call = NO_CALL;
     bool is_right = (status == ZELAMIKU_OK && !must_end) || judge_is_end(it, status) || (status == ZELAMIKU_DEVICE && it->has_trouble);
     if (!is_right && !(status == ZELAMIKU_OK && rounds > stats.rounds)) search_fail("await a round answers %u", status);
     if (status == ZELAMIKU_OK && rounds <= stats.rounds && search_time() < deadline) search_fail("await a round comes back before its deadline");
+}
+
+/* ---- event loops ---- */
+
+static void make_event(worker *own, uint32_t heap) {
+    zelamiku_status status = zelamiku_thread_event(own->own[heap], &own->event[heap]);
+    if (status != ZELAMIKU_OK || own->event[heap] < 0) search_fail("event answers %u", status);
+}
+
+static void ask_all(worker *own, uint32_t heap) {
+    judge *it = &judges[heap];
+    uint32_t lane = own->lane[heap];
+    uint64_t durable = 0, earlier = zelamiku_thread_earlier(own->own[heap]);
+    judge_asks(it, lane);
+    zelamiku_status status = zelamiku_thread_ask(own->own[heap], &durable);
+    judge_asked(it, lane, status, earlier, durable);
+    if (status == ZELAMIKU_OK && search_chance() % 8 == 1) look_at_crash(heap, false);
+    (void)is_over(own, heap, status);
+}
+
+/* As a loop that has nothing else to do: sleeps until its event is readable, and asks, until it waits for nothing. */
+static void listen_for(worker *own, uint32_t heap, uint64_t time) {
+    judge *it = &judges[heap];
+    judged_lane *lane = &it->of[own->lane[heap]];
+    uint64_t deadline = time > 0 ? search_time() + time : NEVER;
+    if (own->event[heap] < 0 || judge_held(it, own->lane[heap]) > 0) return;
+    for (int rings = 0; (lane->has_asked || lane->is_short) && !own->is_out[heap] && search_time() < deadline; rings++) {
+        if (rings > 1000) search_fail("an event is readable again and again");
+        judge_listens(it, own->lane[heap], deadline);
+        bool is_readable = search_watch(own->event[heap], deadline);
+        judge_listened(it, own->lane[heap], is_readable);
+        ask_all(own, heap);
+    }
+}
+
+/* ---- copies, and the file ---- */
+
+static void copy(worker *own, uint32_t heap, uint32_t to) {
+    static const char *const NAMES[COPIES_OF] = {"copy", "other copy"};
+    judge *it = &judges[heap];
+    uint64_t least[MOST_LANES] = {0};
+    bool is_alone = copying[to]++ == 0, must_end = it->has_ended;
+    uint32_t begun = ++copies_begun[to];
+    judge_kept(it, false, least);
+    judge_copies(it, own->lane[heap]);
+    zelamiku_status status = zelamiku_heap_copy(it->heap, NAMES[to]);
+    it->of[own->lane[heap]].call = NO_CALL;
+    copying[to]--;
+    is_alone &= begun == copies_begun[to];
+    if (judge_is_end(it, status)) return;
+    bool is_other = is_in_file(heap) ? status == ZELAMIKU_BUSY && !is_alone : status == ZELAMIKU_DEVICE;
+    if (must_end || (status != ZELAMIKU_OK && !is_other)) search_fail("copy answers %u", status);
+    if (status != ZELAMIKU_OK) return;
+    programs_crashes++;
+    if (!is_alone) memset(least, 0, sizeof least); /* another copy, that began before, may be there */
+    look_at_file(it, NAMES[to], least);
+}
+
+/* The file is opened once more: it is BUSY, unless its heap has ended. */
+static void open_again(uint32_t heap) {
+    judge *it = &judges[heap];
+    zelamiku_heap other;
+    zelamiku_report report; /* two may be at it */
+    uint64_t least[MOST_LANES];
+    bool may_be_over = it->ends != 0, must_be_over = it->has_ended, is_lone = opening++ == 0;
+    uint32_t begun = ++opens_begun;
+    judge_kept(it, false, least);
+    zelamiku_status status = zelamiku_heap_open(&other, "heap", &plan, &report);
+    bool is_first = !is_opened_again; /* the next one finds what this one has left */
+    is_opened_again |= status == ZELAMIKU_OK;
+    is_lone &= begun == opens_begun;
+    may_be_over |= it->ends != 0;
+    bool is_right = status == ZELAMIKU_OK ? may_be_over : status == ZELAMIKU_BUSY && !(must_be_over && is_lone);
+    if (!is_right) search_fail("a second open of the file answers %u", status);
+    for (uint32_t lane = 0; status == ZELAMIKU_OK && is_first && lane < it->lanes; lane++)
+        if (report.told.kept[lane] < least[lane]) search_fail("an open keeps fewer sections of lane %u than were told durable", lane);
+    if (status == ZELAMIKU_OK && (status = zelamiku_heap_close(other)) != ZELAMIKU_OK) search_fail("close of a second open answers %u", status);
+    opening--;
+}
+
+/* ---- forks ---- */
+
+static void must_be_forked(const char *call, zelamiku_status status) {
+    if (status != ZELAMIKU_FORKED) search_fail("%s answers %u in a child that was forked", call, status);
+}
+
+static void ask_heap_in_child(uint32_t heap) {
+    zelamiku_heap of = judges[heap].heap;
+    zelamiku_stats stats;
+    zelamiku_wait waits[MOST_LANES];
+    zelamiku_thread thread;
+    uint64_t rounds;
+    size_t told;
+    must_be_forked("stats", zelamiku_heap_stats(of, &stats));
+    must_be_forked("waits", zelamiku_heap_waits(of, waits, MOST_LANES, &told));
+    must_be_forked("await a round", zelamiku_heap_await_round(of, UINT64_MAX - 1, 1, &rounds));
+    must_be_forked("begin", zelamiku_thread_begin(&thread, of));
+    must_be_forked("copy", zelamiku_heap_copy(of, "copy of a child"));
+    must_be_forked("stop", zelamiku_heap_stop(of));
+    must_be_forked("close", zelamiku_heap_close(of));
+}
+
+static void ask_lane_in_child(zelamiku_thread of, int event) {
+    uint64_t value;
+    uint32_t lane;
+    int descriptor;
+    zelamiku_sight sight;
+    if (event >= 0 && fcntl(event, F_GETFD) != -1) search_fail("an event is open in a child that was forked");
+    must_be_forked("enter", zelamiku_thread_enter(of, 0));
+    must_be_forked("load", zelamiku_thread_load(of, 0, &value));
+    must_be_forked("store", zelamiku_thread_store(of, 0, 1));
+    must_be_forked("exit", zelamiku_thread_exit(of, 0));
+    must_be_forked("wait", zelamiku_thread_wait(of, 0));
+    must_be_forked("notify", zelamiku_thread_notify(of, 0, &lane));
+    must_be_forked("look", zelamiku_thread_look(of, 0, &sight));
+    must_be_forked("revert", zelamiku_thread_revert(of));
+    must_be_forked("ask", zelamiku_thread_ask(of, &value));
+    must_be_forked("event", zelamiku_thread_event(of, &descriptor));
+    must_be_forked("end", zelamiku_thread_end(of));
+}
+
+static void ask_in_child(const worker *own) {
+    search_be_alone();
+    for (uint32_t heap = 0; heap < current->heaps; heap++) {
+        ask_heap_in_child(heap);
+        if (own->has_lane[heap]) ask_lane_in_child(own->own[heap], own->event[heap]);
+    }
+}
+
+/* A child is forked, in which each call on these heaps is refused; the parent goes on. While one forks nobody else does: the system's fork has a
+ * lock of its own meanwhile. */
+static void fork_once(const worker *own) {
+    int status = 0;
+    if (is_forking) return;
+    is_forking = true;
+    bool was_quiet = search_be_quiet(true);
+    pid_t child = fork();
+    if (child == 0) {
+        ask_in_child(own);
+        _exit(0);
+    }
+    (void)search_be_quiet(was_quiet);
+    is_forking = false;
+    MUST(child > 0 && waitpid(child, &status, 0) == child, "no child");
+    if (status != 0) _exit(3); /* it has told */
 }
 
 /* ---- lives of lanes ---- */
@@ -198,6 +367,7 @@ static void begin_lane(worker *own, uint32_t heap) {
     if (status != ZELAMIKU_OK || must_end) search_fail("begin answers %u", status);
     own->lane[heap] = zelamiku_thread_lane(own->own[heap]);
     if (own->lane[heap] >= it->lanes) search_fail("a lane that isn't: %u", own->lane[heap]);
+    judge_lent(it, own->lane[heap]);
 }
 
 static void end_lane(worker *own, uint32_t heap) {
@@ -206,6 +376,7 @@ static void end_lane(worker *own, uint32_t heap) {
     uint32_t lane = own->lane[heap], held = judge_held(it, lane);
     bool must_end = it->has_ended, was_told = own->is_out[heap]; /* a sync has failed, and who leads has yet to say so */
     own->old[heap] = own->own[heap];
+    own->event[heap] = -1;
     zelamiku_status status = zelamiku_thread_end(own->own[heap]);
     own->has_lane[heap] = false;
     if (is_over(own, heap, status) || (was_told && status == ZELAMIKU_OK)) return;
@@ -232,7 +403,8 @@ static void look_around(worker *own, uint32_t heap, deed_kind kind, uint32_t obj
     zelamiku_wait waits[MOST_LANES];
     zelamiku_sight sight;
     size_t told = 0;
-    if (kind == STATS) (void)!zelamiku_heap_stats(judges[heap].heap, &stats);
+    uint64_t durable = judge_durable(&judges[heap]);
+    if (kind == STATS && zelamiku_heap_stats(judges[heap].heap, &stats) == ZELAMIKU_OK) judge_stats(&judges[heap], &stats, durable);
     if (kind == WAITS_OF) (void)!zelamiku_heap_waits(judges[heap].heap, waits, MOST_LANES, &told);
     if (kind != LOOK) return;
     zelamiku_status status = zelamiku_thread_look(own->own[heap], object, &sight);
@@ -255,6 +427,8 @@ static void do_one(worker *own, const deed *it) {
     if (it->kind == NAP) return search_nap(it->number);
     if (it->kind == ASK) return ask(&workers[it->object % current->threads], heap);
     if (it->kind == CLOSE || it->kind == STOP || it->kind == ABANDON) return end_heap(heap, it->kind);
+    if (it->kind == OPEN_AGAIN) return open_again(heap);
+    if (it->kind == FORK) return fork_once(own);
     if (own->is_out[heap] || !own->has_lane[heap]) return;
     switch (it->kind) {
     case ENTER: case TRY: case UNTIL: return enter(own, heap, it->object, it->kind, it->number);
@@ -269,6 +443,10 @@ static void do_one(worker *own, const deed *it) {
     case AWAIT: case AWAIT_UNTIL: case AWAIT_SOME: return await(own, heap, it->kind, it->number);
     case AWAIT_ROUND: return await_round(own, heap, it->number);
     case RENEW: return renew(own, heap);
+    case EVENT: return make_event(own, heap);
+    case ASK_ALL: return ask_all(own, heap);
+    case LISTEN: return listen_for(own, heap, it->number);
+    case COPY: return copy(own, heap, it->object);
     default: look_around(own, heap, it->kind, it->object);
     }
 }
@@ -312,16 +490,28 @@ static void time_goes_on(uint64_t nanoseconds) {
     }
 }
 
-static void make_heap(uint32_t heap) {
-    judge *it = &judges[heap];
-    zelamiku_field fields[FIELDS] = {0};
-    zelamiku_handle handle = ZELAMIKU_NONE;
-    uint64_t size = 0;
-    judge_begin(it, current->lanes, current->reverts);
+static void make_plan(void) {
     for (uint32_t field = 0; field < POOL; field++)
         fields[field] = (zelamiku_field){field % OBJECTS, field % OBJECTS, FIRST_VALUE, field == PASSING};
     fields[PASSING].owner = fields[PASSING].guard = 0;
     MUST(zelamiku_pool_fields(2, fields + POOL, FIELDS - POOL) == ZELAMIKU_OK, "no pool");
+    plan = (zelamiku_plan){.fields = fields, .count = FIELDS, .objects = OBJECTS, .lanes = current->lanes, .capacity = current->capacity,
+                           .ring = current->ring, .linger = current->linger, .keeps_slice = 1, .reverts = current->reverts};
+}
+
+static void make_file(judge *it) {
+    static const char *const NAMES[] = {"heap", "copy", "other copy"};
+    for (size_t i = 0; i < sizeof NAMES / sizeof *NAMES; i++) (void)unlink(NAMES[i]);
+    MUST(zelamiku_heap_open(&it->heap, "heap", &plan, NULL) == ZELAMIKU_OK, zelamiku_heap_message());
+}
+
+static void make_heap(uint32_t heap) {
+    judge *it = &judges[heap];
+    zelamiku_handle handle = ZELAMIKU_NONE;
+    uint64_t size = 0;
+    judge_begin(it, current->lanes, current->reverts);
+    devices[heap].in_call = 0;
+    if (is_in_file(heap)) return make_file(it);
     MUST(zelamiku_format_rings(&handle, OBJECTS, fields, FIELDS, current->lanes, current->capacity, current->ring, &size) == ZELAMIKU_OK, "no heap");
     device *on = &devices[heap];
     on->fault = heap == 0 ? current->fault : NEVER_FAILS;
@@ -330,7 +520,6 @@ static void make_heap(uint32_t heap) {
     on->fails = device_fails;
     on->of = it;
     device_begin(on, size);
-    zelamiku_plan plan = {.linger = current->linger, .ring = current->ring, .keeps_slice = 1, .reverts = current->reverts};
     MUST(zelamiku_heap_start(&it->heap, "searched", &handle, device_calls, on, &plan) == ZELAMIKU_OK, zelamiku_heap_message());
 }
 
@@ -356,7 +545,11 @@ void program_run(program *it, const search_schedule *schedule) {
     memset(workers, 0, sizeof workers);
     next_value = 100;
     left = it->threads;
-    is_stopping = false;
+    is_stopping = is_forking = is_opened_again = false;
+    for (uint32_t i = 0; i < MOST_THREADS * HEAPS; i++) workers[i / HEAPS].event[i % HEAPS] = -1;
+    memset(copying, 0, sizeof copying);
+    opening = 0;
+    make_plan();
     search_begin(schedule, it->seed < SMALL_PROGRAMS ? 0 : it->seed);
     for (uint32_t heap = 0; heap < it->heaps; heap++) make_heap(heap);
     for (uint32_t i = 0; i < it->threads; i++) workers[i].task = search_start(work, &workers[i]);

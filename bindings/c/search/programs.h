@@ -4,11 +4,11 @@
 #include "device.h"
 #include "judge.h"
 
-enum { MOST_THREADS = 5, MOST_DEEDS = 512, HEAPS = 2 };
+enum { MOST_THREADS = 5, MOST_DEEDS = 512, HEAPS = 2, COPIES_OF = 2 };
 
 typedef enum {
     NO_DEED, ENTER, TRY, UNTIL, EXIT, LOAD, STORE, FILL, WAIT, NOTIFY, NOTIFY_ALL, TAKE, GIVE, REVERT, AWAIT, AWAIT_UNTIL, AWAIT_SOME, AWAIT_ROUND, NAP, STATS,
-    LOOK, WAITS_OF, RENEW, ASK, CLOSE, STOP, ABANDON
+    LOOK, WAITS_OF, RENEW, ASK, CLOSE, STOP, ABANDON, EVENT, ASK_ALL, LISTEN, COPY, OPEN_AGAIN, FORK
 } deed_kind;
 
 typedef struct {
@@ -24,6 +24,7 @@ typedef struct {
     uint32_t threads, heaps, lanes, capacity, ring, linger, processors;
     bool is_whole;          /* calls are functions of the library, and not written out */
     bool reverts;           /* the plan */
+    bool is_in_file;        /* the first heap, on no device of the program's, in the folder that it runs in */
     device_fault fault;
     uint64_t fault_at, fault_for;
     uint32_t count;

@@ -9,6 +9,7 @@
 #include <errno.h>
 #include <limits.h>
 #include <linux/futex.h>
+#include <poll.h>
 #include <pthread.h>
 #include <stdarg.h>
 #include <stdio.h>
@@ -35,7 +36,6 @@ typedef struct {
     const void *on; /* the mutex, the word or the task that it waits for */
     uint64_t due;
     bool is_woken;  /* by a wake, not by time */
-    bool is_helper; /* a thread that the scheduler's C has started */
     bool yields;    /* it lets others go on first */
     bool is_quiet;  /* its steps are none */
     int priority, error; /* `error`: errno, while others run */
@@ -55,10 +55,13 @@ static uint64_t choosing, chance, steps, now;
 static uint64_t earliest; /* no task that sleeps is due before */
 static uint64_t changes[16];
 static int lowest;
+static bool is_alone;
 static struct {
     const void *mutex;
     task *owner;
 } mutexes[MOST_MUTEXES];
+
+ssize_t real_write(int descriptor, const void *bytes, size_t size) __asm__("__real_write");
 
 search_run search_made;
 search_questions search_asks;
@@ -185,14 +188,13 @@ void search_pass(uint64_t nanoseconds) {
 /* Nobody can go on: time does, until the first that sleeps is due. */
 static void pass_time(void) {
     uint64_t due = NEVER;
-    bool is_helper = false;
     for (int i = 0; i < count; i++)
-        if (tasks[i].state == SLEEPS && tasks[i].due < due) due = tasks[i].due, is_helper = tasks[i].is_helper;
+        if (tasks[i].state == SLEEPS && tasks[i].due < due) due = tasks[i].due;
     if (due == NEVER) {
         if (!search_asks.is_stuck()) search_fail("nobody can go on");
         return;
     }
-    if (is_helper && due > now) search_asks.time_goes_on(due - now);
+    if (due > now) search_asks.time_goes_on(due - now);
     if (due > now) now = due;
     wake_those_due();
 }
@@ -234,6 +236,7 @@ void search_step(void) {
 
 static void block(task_state state, const void *on, uint64_t due) {
     if (me->state != RUNS) search_fail("nobody can go on, and one that sleeps has a mutex");
+    if (is_alone) search_fail("a call on a parent's heap sleeps");
     me->state = state;
     me->on = on;
     me->due = due;
@@ -270,6 +273,10 @@ void search_begin(const search_schedule *given, uint64_t chance_seed) {
     *me = (task){.state = RUNS, .due = NEVER, .priority = (int)(100 + next_random(&choosing) % 900)};
 }
 
+void search_be_alone(void) {
+    is_alone = true;
+}
+
 bool search_be_quiet(bool is_quiet) {
     bool was_quiet = me->is_quiet;
     me->is_quiet = is_quiet;
@@ -299,11 +306,11 @@ static void *stack_of(int number) {
     return stacks[number] = stack;
 }
 
-static int new_task(search_body *body, void *argument, bool is_helper) {
+static int new_task(search_body *body, void *argument) {
     if (count == MOST_TASKS) search_fail("too many threads");
     int number = count++;
     int priority = (int)(100 + next_random(&choosing) % 900);
-    tasks[number] = (task){.state = RUNS, .due = NEVER, .body = body, .argument = argument, .is_helper = is_helper, .priority = priority};
+    tasks[number] = (task){.state = RUNS, .due = NEVER, .body = body, .argument = argument, .priority = priority};
     getcontext(&tasks[number].context);
     tasks[number].context.uc_stack.ss_sp = stack_of(number);
     tasks[number].context.uc_stack.ss_size = STACK;
@@ -312,7 +319,7 @@ static int new_task(search_body *body, void *argument, bool is_helper) {
 }
 
 int search_start(search_body *body, void *argument) {
-    int number = new_task(body, argument, false);
+    int number = new_task(body, argument);
     search_step();
     return number;
 }
@@ -324,7 +331,7 @@ void search_join(int number) {
 
 int searched_create(pthread_t *thread, const pthread_attr_t *attributes, search_body *body, void *argument) {
     (void)attributes;
-    *thread = (pthread_t)new_task(body, argument, true);
+    *thread = (pthread_t)new_task(body, argument);
     search_step();
     return 0;
 }
@@ -438,6 +445,32 @@ long searched_call(long number, ...) {
     case FUTEX_WAKE: return wake_on_word(word, (int)value);
     default: search_fail("a futex call that isn't searched: %d", operation);
     }
+}
+
+/* ---- descriptors ---- */
+
+enum { MOST_DESCRIPTORS = 256 };
+static const char descriptors[MOST_DESCRIPTORS]; /* a place for each, on which tasks sleep */
+
+bool search_watch(int descriptor, uint64_t due) {
+    if (descriptor < 0 || descriptor >= MOST_DESCRIPTORS) search_fail("no descriptor of an event: %d", descriptor);
+    for (;;) {
+        struct pollfd it = {descriptor, POLLIN, 0};
+        search_step();
+        if (poll(&it, 1, 0) == 1) return true;
+        if (due <= now) return false;
+        block(SLEEPS, &descriptors[descriptor], due);
+    }
+}
+
+/* Whoever waits for it is woken by a write. */
+ssize_t searched_write(int descriptor, const void *bytes, size_t size) {
+    ssize_t written = real_write(descriptor, bytes, size);
+    if (me == NULL || descriptor < 3 || descriptor >= MOST_DESCRIPTORS) return written;
+    for (int i = 0; i < count; i++)
+        if (tasks[i].state == SLEEPS && tasks[i].on == &descriptors[descriptor]) tasks[i].state = RUNS;
+    search_step();
+    return written;
 }
 
 /* ---- what the compiler calls ---- */

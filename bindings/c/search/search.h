@@ -60,13 +60,19 @@ uint64_t search_steps(void);
 /* While the task that runs is quiet its steps are none: for what is done often, and where no other order shows more. Whether it was. */
 bool search_be_quiet(bool is_quiet);
 
-/* What the program says when nobody can go on, also not by time: whether it has let somebody go on (search_let). And whether time may go on by
- * so much, to wake the helper of a heap, though nobody else can go on before. */
+/* In a child that was forked no other task runs: from now on it fails if the one that runs sleeps. */
+void search_be_alone(void);
+
+/* What the program says when nobody can go on, also not by time: whether it has let somebody go on (search_let). And what it says before time
+ * goes on by so much, since nobody can go on before. */
 typedef struct {
     bool (*is_stuck)(void);
     void (*time_goes_on)(uint64_t nanoseconds);
 } search_questions;
 extern search_questions search_asks;
+
+/* A task sleeps until the descriptor, an event of the scheduler's C, is readable, or until that time; whether it is. */
+bool search_watch(int descriptor, uint64_t due);
 
 /* A task sleeps until search_let lets it go on. */
 void search_park(void);
