@@ -48,9 +48,11 @@ IN_USE = 3
 # What the cases have counted, by part.
 COUNTS = collections.defaultdict(collections.Counter)
 
-needs_heapctl = unittest.skipUnless(os.path.exists(HEAPCTL), f"there is no {os.path.relpath(HEAPCTL, TOP)}: `rt ci` or `rt run` makes it")
-needs_mounts = unittest.skipUnless(ALONE, "wants a namespace of mounts of its own, which tools/tests makes where `unshare` may")
-needs_root = unittest.skipUnless(ALONE == "root", "wants root, and a namespace of mounts of its own: tools/tests makes it")
+needs_heapctl = unittest.skipUnless(os.path.exists(HEAPCTL), "no crates/heapctl/out/heapctl (`rt ci` or `rt run` makes it)")
+needs_bench = unittest.skipUnless(os.path.exists(BENCH), "no crates/bench/out/bench (`rt run` makes it)")
+NO_MOUNTS = "no namespace of mounts (tools/tests makes one, where `unshare` may)"
+needs_mounts = unittest.skipUnless(ALONE, NO_MOUNTS)
+needs_root = unittest.skipUnless(ALONE == "root", "no root in a namespace of mounts (tools/tests makes one)")
 needs_cc = unittest.skipUnless(shutil.which("cc"), "no cc")
 
 

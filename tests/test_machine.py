@@ -297,7 +297,7 @@ class Machine(unittest.TestCase):
             finally:
                 life.end()
 
-    @unittest.skipUnless(hypothesis, "no hypothesis (Debian: python3-hypothesis): no smaller failures are looked for")
+    @unittest.skipUnless(hypothesis, "no hypothesis (Debian: python3-hypothesis)")
     def test_hypothesis_finds_no_other_image(self):
         settings = {"max_examples": tries(5), "stateful_step_count": STEPS, "deadline": None, "database": None, "print_blob": False}
         suppressed = list(hypothesis.HealthCheck.all())

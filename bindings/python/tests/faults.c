@@ -1,6 +1,6 @@
 /* Makes calls of a heap's file fail, as a system does: while there is a file at FAULTS.sync each fdatasync and fsync fails with EIO, and
  * while there is one at FAULTS.write each write at a place with ENOSPC. While there is one at FAULTS.hang no fdatasync returns. FAULTS is a
- * variable. For LD_PRELOAD, also by tools/run-examples. */
+ * variable. For LD_PRELOAD, also by tests/test_examples.py. */
 #define _GNU_SOURCE
 #include <dlfcn.h>
 #include <errno.h>

@@ -3,7 +3,8 @@ dictionary says, with as many sections as the report has kept, and no fewer than
 
     python3 bindings/python/tests/test_machine.py [LIVES [SEED]]
 
-A failure tells the seed. A life that kills itself does so at the same step again; when rounds are made depends on the machine.
+A failure tells the seed. A life that kills itself does so at the same step again; when rounds are made depends on the machine. Where
+hypothesis is installed it chooses lives too, and makes those that fail smaller.
 """
 from __future__ import annotations
 
@@ -15,10 +16,17 @@ import sys
 import threading
 import unittest
 from collections.abc import Callable
+from pathlib import Path
 from typing import Any
 
 import zelamiku
 from support import OnFile
+
+try:
+    import hypothesis
+    from hypothesis import strategies
+except ImportError:
+    hypothesis = None
 
 LIVES = 40
 SEED = random.randrange(2**32)
@@ -305,10 +313,25 @@ def must_raise(kind: type[Exception], call: Callable[[], Any]) -> None:
     raise Wrong(f"{kind.__name__} wasn't raised")
 
 
-def life_of(path: str, seed: str, writer: int) -> None:
+class Choices(random.Random):
+    """Chooses by these bytes, and then the first of all."""
+
+    def __init__(self, left: bytes) -> None:
+        super().__init__()
+        self.left = left
+
+    def getrandbits(self, bits: int) -> int:
+        count = (bits + 7) // 8
+        taken, self.left = self.left[:count], self.left[count:]
+        return int.from_bytes(taken, "big") & ((1 << bits) - 1)
+
+    def random(self) -> float:
+        return self.getrandbits(16) / 2**16
+
+
+def life_of(path: str, chance: random.Random, writer: int) -> None:
     """A forked child's whole life."""
     signal.alarm(60)
-    chance = random.Random(seed)
 
     def tell(*words: Any) -> None:
         os.write(writer, json.dumps(words).encode() + b"\n")
@@ -361,22 +384,38 @@ class Machine(OnFile):
         try:
             for life in range(LIVES):
                 self.be_patient()
-                is_cut = self.life(truth, f"{SEED} {life}", is_cut)
+                seconds = random.Random(f"{SEED} {life} of the parent").expovariate(1 / 0.3)
+                is_cut = self.life(truth, random.Random(f"{SEED} {life}"), seconds, is_cut)
         except Wrong as wrong:
             self.fail(f"seed {SEED}, life {life}: {wrong}")
         self.assertGreater(truth.counts["kept"], LIVES)
         if LIVES > 100:
             print(f"seed {SEED}, {LIVES} lives: {truth.counts}")
 
-    def life(self, truth: Truth, seed: str, is_cut: bool) -> bool:
-        """Answers whether the life was cut off in its opening, or the one before was and this one too."""
-        chance = random.Random(seed + " of the parent")
+    @unittest.skipUnless(hypothesis, "no hypothesis (Debian: python3-hypothesis)")
+    def test_hypothesis_finds_no_other_heap(self):
+        lives = strategies.lists(strategies.tuples(strategies.binary(max_size=400), strategies.floats(0.001, 1)), min_size=1, max_size=5)
+
+        def live(lives: list[tuple[bytes, float]]) -> None:
+            Path(self.path).unlink(missing_ok=True)
+            truth, is_cut = Truth(), False
+            for choices, seconds in lives:
+                self.be_patient()
+                is_cut = self.life(truth, Choices(choices), seconds, is_cut)
+
+        suppressed = list(hypothesis.HealthCheck.all())
+        how = hypothesis.settings(max_examples=LIVES // 4, deadline=None, database=None, suppress_health_check=suppressed)
+        how(hypothesis.given(lives)(live))()
+
+    def life(self, truth: Truth, chance: random.Random, seconds: float, is_cut: bool) -> bool:
+        """A life that is killed after so many seconds. Answers whether it was cut off in its opening, or the one before was and this one
+        too."""
         reader, writer = os.pipe()
         child = os.fork()
         if child == 0:
-            life_of(self.path, seed, writer)
+            life_of(self.path, chance, writer)
         os.close(writer)
-        killer = threading.Timer(chance.expovariate(1 / 0.3), os.kill, (child, signal.SIGKILL))
+        killer = threading.Timer(seconds, os.kill, (child, signal.SIGKILL))
         killer.start()
         with os.fdopen(reader, "rb") as told:
             lines = told.readlines()

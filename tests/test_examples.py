@@ -1,0 +1,264 @@
+"""The examples of the library, killed by kill -9 TRIES times each and started again on the same file.
+
+The counters' totals and the bank's balances are always those of whole sections, and never less than what was told as acknowledged. The
+queue of jobs is killed twice as often: no job that was put is lost, and none is done twice. The lease server has 16 clients, who hold it to
+its word (examples/python/leases/kill.py). Syncs: the bank and the queue meet TRIES syncs that fail, by which a run ends, and as many that
+hang: nothing is acknowledged meanwhile, and nothing is lost that was. Of two runs whose sync hangs one goes on in time.
+
+The library is that of tools/c-library, or in the folder ZELAMIKU_LIBS.
+"""
+import collections
+import os
+import re
+import shutil
+import signal
+import subprocess
+import sys
+import tempfile
+import time
+import unittest
+from pathlib import Path
+
+from .harness import COUNTS, TOP, needs_cc, tries
+
+LIBS = Path(os.environ.get("ZELAMIKU_LIBS", TOP / "crates/zelamiku/out/host"))
+needs_archive = unittest.skipUnless((LIBS / "libzelamiku.a").exists(), "no libzelamiku.a (tools/c-library makes it)")
+needs_shared = unittest.skipUnless((LIBS / "libzelamiku.so.0").exists(), "no libzelamiku.so.0 (tools/c-library makes it)")
+# One that is only a shell's word for a toolchain that isn't there says no version.
+HAS_CARGO = shutil.which("cargo") and subprocess.run(["cargo", "--version"], capture_output=True, check=False).returncode == 0
+
+
+class Judge:
+    """Hears the lines of all runs of an example, one after the other; raises AssertionError where one is wrong."""
+
+    def hear(self, line):
+        for pattern, answer in self.LINES.items():
+            if found := re.fullmatch(pattern, line):
+                return getattr(self, answer)(*map(int, re.findall(r"\d+", found[0])))
+        raise AssertionError(f"no line of the example: {line}")
+
+
+class Totals(Judge):
+    """Of counters."""
+
+    LINES = {r"total \d+ = \d+ \+ \d+ \+ \d+ \+ \d+": "found", r"acknowledged \d+": "told"}
+    total = acknowledged = all = runs = 0
+
+    def found(self, total, *parts):
+        assert total == sum(parts), f"{total} isn't the sum of {parts}"
+        assert total >= self.total + self.acknowledged, f"{total} after {self.total}, of which {self.acknowledged} were acknowledged"
+        self.all, self.runs = self.all + self.acknowledged, self.runs + (self.acknowledged > 0)
+        self.total, self.acknowledged = total, 0
+
+    def told(self, acknowledged):
+        assert acknowledged >= self.acknowledged, f"{acknowledged} acknowledged after {self.acknowledged}"
+        self.acknowledged = acknowledged
+
+    def sum(self):
+        return self.all
+
+
+class Transfers(Judge):
+    """Of the bank: whether an acknowledged transfer was lost."""
+
+    LINES = {r"found( \d+)+": "found", r"acknowledged \d+ \d+": "told"}
+
+    def __init__(self):
+        self.acknowledged, self.all = collections.Counter(), 0
+
+    def found(self, *counts):
+        for thread, count in enumerate(counts):
+            assert count >= self.acknowledged[thread], f"{count} of thread {thread}, and {self.acknowledged[thread]} were acknowledged"
+
+    def told(self, thread, count):
+        assert count > self.acknowledged[thread], f"{count} of thread {thread} was acknowledged before"
+        self.acknowledged[thread], self.all = count, self.all + 1
+
+    def sum(self):
+        return self.all
+
+
+class Jobs(Judge):
+    """Of the queue, by producer: whether a job was lost or done twice."""
+
+    LINES = {r"found \d+ put \d+ done \d+": "found", r"put \d+ \d+": "told_put", r"done \d+ \d+": "told_done"}
+
+    def __init__(self):
+        self.put, self.done, self.last, self.told = (collections.Counter() for _ in range(4))
+
+    def found(self, producer, put, done):
+        assert put >= self.put[producer] and done >= self.done[producer] and done <= put, f"producer {producer}: {put} put, {done} done"
+        self.put[producer], self.done[producer], self.last[producer] = put, done, done
+
+    def told_put(self, producer, job):
+        assert job == self.put[producer] + 1, f"put {job} of producer {producer} after {self.put[producer]}"
+        self.put[producer] = job
+
+    def told_done(self, producer, job):
+        # Two consumers may tell of two jobs of one producer the other way round, and of each once.
+        assert job > self.last[producer] and not self.told[producer, job], f"job {job} of producer {producer} was done before"
+        self.told[producer, job] = 1
+        self.done[producer] = max(self.done[producer], job)
+
+    def sum(self):
+        assert self.put == self.done, f"a job is left: {self.put}, {self.done}"
+        return self.told.total()
+
+
+class Examples(unittest.TestCase):
+    def setUp(self):
+        folder = tempfile.TemporaryDirectory()
+        self.addCleanup(folder.cleanup)
+        self.folder = Path(folder.name)
+        self.image, self.out, self.error = self.folder / "image", self.folder / "out", self.folder / "error"
+
+    def built_in_c(self, name):
+        flags = ["-std=gnu11", "-O2", "-Wall", "-Wextra", "-Werror", "-I", f"{TOP}/bindings/c", "-pthread"]
+        program = self.folder / name
+        subprocess.run(["cc", f"{TOP}/examples/c/{name}.c", *flags, LIBS / "libzelamiku.a", "-o", program], check=True)
+        return program
+
+    def built_in_rust(self, folder, name):
+        if not HAS_CARGO:
+            self.skipTest("no cargo")
+        target = os.environ.get("CARGO_TARGET_DIR", self.folder / "target")
+        env = {**os.environ, "ZELAMIKU_LIBS": str(LIBS), "CARGO_TARGET_DIR": str(target)}
+        subprocess.run(["cargo", "build", "--offline", "--quiet", "--release"], cwd=TOP / folder, env=env, check=True)
+        return Path(target, "release", name)
+
+    def started(self, program, *words, **how):
+        with open(self.out, "wb") as out:
+            how = {"stdin": subprocess.DEVNULL, "stdout": out, "stderr": subprocess.STDOUT, **how}
+            return subprocess.Popen([program, self.image, *words], **how)
+
+    def await_output(self):
+        """Until the run has told what it found, so that the kill comes while it counts; for 20 seconds at most."""
+        end = time.monotonic() + 20
+        while self.out.stat().st_size == 0 and time.monotonic() < end:
+            time.sleep(0.02)
+
+    def heard(self, judge):
+        """Of what the run has told, each line but one that the kill has cut off."""
+        for line in self.out.read_text().split("\n")[:-1]:
+            judge.hear(line)
+
+    def killed(self, program, judge, pauses, kills, last):
+        """Kills runs, after a pause that the number of the kill chooses, from the start or from what it found; `last` are the words of the
+        last runs, which aren't killed."""
+        for number in range(kills):
+            is_awaited, pause = pauses(number)
+            running = self.started(program)
+            if is_awaited:
+                self.await_output()
+            time.sleep(pause)
+            running.kill()
+            self.assertEqual(running.wait(), -signal.SIGKILL, f"kill {number}: it has ended by itself: {self.out.read_text()[-500:]}")
+            self.heard(judge)
+        self.ended_well(program, judge, last)
+        COUNTS["examples"].update({"kills": kills, f"{type(judge).__name__.lower()} told": judge.sum()})
+
+    def ended_well(self, program, judge, last):
+        for words in last:
+            self.assertEqual(self.started(program, words).wait(60), 0, self.out.read_text()[-500:])
+            self.heard(judge)
+        self.assertGreater(judge.sum(), 0, "nothing was told, so nothing was tested")
+
+    def others_are_refused(self, program):
+        """A file that is no heap's, and a heap whose header has one other byte, its gate, are left as they are."""
+        heap = self.image.read_bytes()
+        for content in (b"no heap\n", heap[:8] + b"\0" + heap[9:]):
+            self.image.write_bytes(content)
+            status = self.started(program, "0").wait(60)
+            self.assertTrue(status > 0 and self.image.read_bytes() == content, f"status {status}")
+
+
+def by_quarters(number):
+    """One in four kills may come while the heap is made or opened."""
+    return number % 4 != 0, (number % 9 + 1) / 100 if number % 4 < 2 else (number % 5 + 1) / 10
+
+
+def by_hundredths(number):
+    return number % 4 != 0, (number % 9 + 1) / 100 + (number % 4 != 0 and number % 2) / 10
+
+
+@needs_archive
+class Killed(Examples):
+    @needs_cc
+    def test_counters_in_c(self):
+        program = self.built_in_c("counters")
+        self.killed(program, Totals(), by_quarters, tries(4), ("0.2", "0"))
+        self.others_are_refused(program)
+
+    def test_counters_in_rust(self):
+        program = self.built_in_rust("examples/rust", "counters")
+        self.killed(program, Totals(), by_quarters, tries(4), ("0.2", "0"))
+        self.others_are_refused(program)
+
+    @needs_cc
+    def test_bank_in_c(self):
+        # The first three may come while it is made too.
+        pauses = lambda number: by_hundredths(number) if number > 2 else (False, (number + 1) / 100)
+        self.killed(self.built_in_c("bank"), Transfers(), pauses, tries(4), ("1",))
+
+    def test_jobs_in_rust(self):
+        # At the end all that are left are done.
+        self.killed(self.built_in_rust("examples/rust/jobs", "jobs"), Jobs(), by_hundredths, 2 * tries(4), ("0",))
+
+
+@needs_shared
+class Leases(Examples):
+    def test_leases_in_python(self):
+        env = {**os.environ, "ZELAMIKU_LIBS": str(LIBS), "PYTHONPATH": f"{TOP}/bindings/python", "PYTHONDONTWRITEBYTECODE": "1"}
+        words = [sys.executable, f"{TOP}/examples/python/leases/kill.py", "--kills", str(tries(4)), "--clients", "16"]
+        ran = subprocess.run(words, env=env, capture_output=True, text=True, check=False)
+        self.assertEqual(ran.returncode, 0, ran.stdout + ran.stderr)
+        COUNTS["examples"].update({"kills of leases": tries(4)})
+
+
+@needs_archive
+@needs_cc
+class Syncs(Examples):
+    """Syncs that fail and hang."""
+
+    def test_bank_in_c(self):
+        self.meet_syncs(self.built_in_c("bank"), Transfers(), "1")
+
+    def test_jobs_in_rust(self):
+        self.meet_syncs(self.built_in_rust("examples/rust/jobs", "jobs"), Jobs(), "0")
+
+    def meet_syncs(self, program, judge, last):
+        self.fault = self.folder / "fault"
+        shim = self.folder / "faults.so"
+        subprocess.run(["cc", "-shared", "-fPIC", TOP / "bindings/python/tests/faults.c", "-ldl", "-o", shim], check=True)
+        env = {**os.environ, "LD_PRELOAD": str(shim), "FAULTS": str(self.fault)}
+        for number in range(tries(2)):
+            for meet in (self.fails, self.hangs):
+                with open(self.error, "wb") as error:
+                    running = self.started(program, env=env, stderr=error)
+                self.await_output()
+                time.sleep((number % 3) / 10 + (number % 9 + 1) / 100)
+                meet(running, number)
+                self.heard(judge)
+        self.ended_well(program, judge, (last,))
+        told = f"{type(judge).__name__.lower()} told beside these"
+        COUNTS["examples"].update({"syncs that failed": tries(2), "that hung": tries(2), told: judge.sum()})
+
+    def fails(self, running, _):
+        Path(f"{self.fault}.sync").touch()
+        status = running.wait(60)
+        Path(f"{self.fault}.sync").unlink()
+        told = self.error.read_text()
+        self.assertTrue(status == 2 and re.search("a sync .*failed", told), f"status {status}: {told}")
+
+    def hangs(self, running, number):
+        hang = Path(f"{self.fault}.hang")
+        hang.touch()
+        time.sleep(0.2)
+        told = self.out.stat().st_size
+        time.sleep(0.1)
+        self.assertEqual(self.out.stat().st_size, told, "a sync hangs, and more is told")
+        hang.unlink()
+        if number % 2:
+            time.sleep(0.2)
+        running.kill()
+        self.assertEqual(running.wait(), -signal.SIGKILL, "it has ended by a sync that hung")

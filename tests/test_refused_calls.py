@@ -1,0 +1,260 @@
+"""Each call of `heapctl` to the system refused in turn, and what that leaves.
+
+Each case is run whole once. Then it is run again and again: with its first allocation refused, with its second, and so on (by a library
+that is loaded before); with each call that opens, locks, sizes, reads, writes, syncs, renames or removes a file failing; killed at each of
+these calls; with each thread refused (by `strace -e inject=`, which counts each kind of call of each thread by itself); and, where the
+image lies in two places on sectors, killed at each call while each sector that was written since the file's last sync gets other bytes.
+Without TRIES it is the first call, the second, the fourth, the eighth and so on.
+
+Each run ends by itself within a minute, with status 0 and the whole output or with another status, something told on standard error (but
+for `--help`) and a beginning of the output. Where a case has an image, each run begins on a copy of it, and afterwards recovery, or an
+upgrade where the image began with version 1, gives one of the heaps that the case allows, and where a run over it has printed anything, the
+one that it leaves; where workers were on it, each in which the total is the sum of what they counted each for itself. Beside it no file is
+left, but by a kill.
+"""
+import os
+import random
+import re
+import shutil
+import signal
+import subprocess
+import unittest
+from collections import namedtuple
+
+from .harness import HEAPCTL, InFolder, SCHEMA, TOP, each, heap_of, left_open, made_old, needs_cc, placed, run
+
+FILES = "open,openat,flock,lseek,read,write,pread64,pwrite64,fsync,fdatasync,ftruncate,rename,renameat,renameat2,unlink,unlinkat"
+THREADS = "clone,clone3"
+# By the kind of refusal: what is refused, and how strace is told so.
+KINDS = {
+    "malloc": ("malloc", None),
+    "call": (FILES, "error=EIO"),
+    "kill": (FILES, "signal=KILL"),
+    "thread": (THREADS, "error=EAGAIN"),
+    "damage": (FILES, "signal=KILL"),
+}
+
+# Counts the allocations, and refuses the one that is asked for. That it came so far is told by a file.
+SHIM = r"""
+#include <errno.h>
+#include <fcntl.h>
+#include <stdlib.h>
+#include <unistd.h>
+
+static int is_refused(void) {
+    static long made;
+    const char *at = getenv("REFUSE_AT");
+    if (__sync_add_and_fetch(&made, 1) != (at ? atol(at) : 0)) return 0;
+    close(open(getenv("REFUSE_TOLD"), O_CREAT | O_WRONLY, 0600));
+    errno = ENOMEM;
+    return 1;
+}
+
+extern void *__libc_malloc(size_t), *__libc_calloc(size_t, size_t), *__libc_realloc(void *, size_t), *__libc_memalign(size_t, size_t);
+void *malloc(size_t size) { return is_refused() ? NULL : __libc_malloc(size); }
+void *calloc(size_t count, size_t size) { return is_refused() ? NULL : __libc_calloc(count, size); }
+void *realloc(void *old, size_t size) { return is_refused() ? NULL : __libc_realloc(old, size); }
+void *aligned_alloc(size_t align, size_t size) { return is_refused() ? NULL : __libc_memalign(align, size); }
+int posix_memalign(void **out, size_t align, size_t size) {
+    if (is_refused()) return ENOMEM;
+    *out = __libc_memalign(align, size);
+    return *out ? 0 : ENOMEM;
+}
+"""
+
+SCRIPT = f"""{SCHEMA}format 2 4000
+t1 enter o0
+t1 enter o1
+t1 store f0 1
+t1 exit o0
+t2 enter o0
+t2 store f0 2
+t2 exit o0
+t1 exit o1
+log
+home
+settle
+trim
+t2 enter o1
+t2 store f1 3
+t2 wait o1
+log
+crash lost back 1
+show
+recover
+heap
+"""
+# A section that is acknowledged, and one that isn't: over an image in which recovery gives f1 the value 10.
+OVER = "t1 enter o0\nt1 store f0 5\nt1 exit o0\nlog\nhome\nsettle\nt2 enter o1\nt2 store f1 6\nlog\nheap\n"
+FORMAT = "format --image {image} --schema {schema} --lanes 2"
+DRIVE = "drive --workers 2 --rounds 3"
+UNDONE, SET = [10, 10], [5, 10]
+
+# Words, what is on standard input, with what image it begins, which heaps it may leave (None: no image), which one where anything was
+# printed, and on sectors of how many bytes the image lies in two places.
+Case = namedtuple("Case", "words stdin image allows told sectors", defaults=("", None, None, None, None))
+
+
+def is_counted(least):
+    """The workers' total is the sum of their own counts, and none of these is below what it was."""
+    return lambda heap: heap[0] == sum(heap[1:]) and min(heap[1:]) >= least
+
+
+def over_images(suffix, **how):
+    image = lambda name: {"image": f"{name}{suffix}", **how}
+    return {
+        f"show{suffix}": Case("show --image {image}", allows=[UNDONE], **image("left")),
+        f"dump{suffix}": Case("dump --image {image}", allows=[UNDONE], **image("left")),
+        f"set{suffix}": Case("set --image {image} f0=5", allows=[UNDONE, SET], told=SET, **image("left")),
+        f"run{suffix}": Case("run --image {image}", OVER, allows=[UNDONE, SET], told=SET, **image("left")),
+        f"recover{suffix}": Case("recover --image {image}", allows=[UNDONE], **image("left")),
+        f"upgrade{suffix}": Case("upgrade --image {image}", allows=[UNDONE], **image("old")),
+        f"drive{suffix}": Case(f"{DRIVE} --image {{image}}", allows=is_counted(3), **image("driven")),
+    }
+
+
+CASES = {
+    "script": Case("", SCRIPT),
+    "run": Case("run", (TOP / "crates/heapctl/stdin").read_text()),
+    "help": Case("--help"),
+    "help-word": Case("help"),
+    "format": Case(FORMAT, allows=[None, [10, 20]]),
+    "dot": Case("show --image {image} --dot", image="left-there", allows=[UNDONE]),
+    "dump-names": Case("dump --image {image} --schema {schema}", image="left-there", allows=[UNDONE]),
+    "get": Case("get --image {image} f0 f1", image="left-there", allows=[UNDONE]),
+    "run-crash": Case("run --image {image} --schema {schema}", f"{OVER}crash lost back 1\nshow\n", "left-there", [UNDONE, SET], SET),
+    "drive": Case(DRIVE),
+    "drive-new": Case(f"{DRIVE} --image {{image}}", allows=lambda heap: heap is None or is_counted(0)(heap)),
+    **over_images("-there"),
+    "format-placed": Case(f"{FORMAT} --sectors 4096", allows=[None, [10, 20]], sectors=4096),
+    **over_images("-placed", sectors=512),
+}
+
+
+def flying(log):
+    """What was written since the last sync of its file, by strace's lines: paths, places and lengths."""
+    begun, at, found = {}, {}, []
+    for line in log.read_text(errors="replace").splitlines():
+        thread, text = line.split(maxsplit=1)
+        if text.endswith("<unfinished ...>"):
+            begun[thread] = text.removesuffix("<unfinished ...>")
+            continue
+        text = re.sub(r"^<\.\.\. \w+ resumed>", lambda _: begun.pop(thread, ""), text)
+        call = re.match(r"(\w+)\((\d+)<([^>]*)>(.*)\) += (\d+)", text)
+        if not call:
+            continue
+        name, number, path, rest, result = *call.groups()[:4], int(call[5])
+        if name == "lseek":
+            at[number] = result
+        elif name in ("read", "write"):
+            found += [(path, at.get(number, 0), result)] if name == "write" and int(number) > 2 else []
+            at[number] = at.get(number, 0) + result
+        elif name == "pwrite64":
+            found.append((path, int(rest.rsplit(", ", 1)[1]), result))
+        elif name in ("fsync", "fdatasync"):
+            found = [it for it in found if it[0] != path]
+    return found
+
+
+def damage(log, sector):
+    """Other bytes in each sector of what was flying."""
+    for path, start, length in flying(log):
+        if os.path.exists(path):
+            with open(path, "r+b") as file:
+                for at in range(start // sector * sector, start + length, sector):
+                    file.seek(at)
+                    file.write(random.randbytes(sector))
+
+
+@needs_cc
+@unittest.skipUnless(shutil.which("strace"), "no strace (Debian: strace)")
+@each(CASES)
+class RefusedCalls(InFolder):
+    def setUp(self):
+        super().setUp()
+        self.shim, self.told, self.log = self.folder / "shim.so", self.folder / "told", self.folder / "log"
+        self.KNOWN = {"schema", "shim.so", "told", "log", "image", "image~"}
+        subprocess.run(["cc", "-O1", "-shared", "-fPIC", "-x", "c", "-", "-o", self.shim], input=SHIM.encode(), check=True)
+
+    def image_of(self, name):
+        """Those with which cases begin."""
+        if name is None:
+            return None
+        name, where = name.split("-")
+        if name == "driven":
+            self.put(None)
+            self.play(f"{DRIVE} --image {{image}}")
+            content = self.image.read_bytes()
+        else:
+            content = left_open(self.made())
+            content = made_old(content) if name == "old" else content
+        return placed(content) if where == "placed" else content
+
+    def check(self, name, case):
+        before = self.image_of(case.image)
+        self.put(before)
+        whole = self.traced(case)
+        self.assertEqual(whole.status, 0, whole)
+        made = {"malloc", *re.findall(r"^\d+ +(\w+)\(", self.log.read_text(errors="replace"), re.M)}
+        for kind, (calls, _) in KINDS.items():
+            if kind == "damage" and case.sectors is None:
+                continue
+            runs = 0
+            for call in made.intersection(calls.split(",")):
+                at = 1
+                while (wrong := self.tried(case, kind, call, at, whole.out, before)) is not False:
+                    runs += 1
+                    self.fault(wrong, kind=kind, call=call, at=at)
+                    if not self.was_refused:
+                        break
+                    at += 1 if "TRIES" in os.environ else at
+            self.count(runs=runs)
+            self.assertTrue(runs or kind != "call", "no call was refused, so nothing was tested")
+
+    def test_damage_loses_an_image_in_one_place(self):
+        """What the cases of two places are worth."""
+        case, before = Case("recover --image {image}", allows=[UNDONE], sectors=512), self.image_of("left-there")
+        wrong = [self.tried(case, "damage", "fdatasync", at, "", before) for at in range(1, 8)]
+        self.assertIn("recover gives None", wrong)
+
+    def traced(self, case, *how):
+        words = ["-f", "-y", "-qq", "-o", self.log, "-e", f"trace={FILES},{THREADS}", *how, HEAPCTL, *self.words(case.words)]
+        return run(words, case.stdin, program="strace")
+
+    def tried(self, case, kind, call, at, whole, before):
+        """What is wrong with the run whose call of this name and number is refused; None where it is well, False where there is none."""
+        self.put(before)
+        self.told.unlink(missing_ok=True)
+        if kind == "malloc":
+            ran = self.play(case.words, case.stdin, env={"LD_PRELOAD": str(self.shim), "REFUSE_AT": str(at), "REFUSE_TOLD": str(self.told)})
+        else:
+            ran = self.traced(case, "-e", f"inject={call}:{KINDS[kind][1]}:when={at}")
+        is_killed = ran.status == -signal.SIGKILL and kind in ("kill", "damage")
+        self.was_refused = self.told.exists() if kind == "malloc" else is_killed or "(INJECTED)" in self.log.read_text(errors="replace")
+        if is_killed and kind == "damage":
+            damage(self.log, case.sectors)
+        wrong = None if is_killed else self.fault_of_end(case, ran, whole)
+        if not self.was_refused:
+            return wrong or False
+        return wrong or not is_killed and self.litter() or self.fault_of_left(case, ran) or None
+
+    def fault_of_end(self, case, ran, whole):
+        if ran.status is None or ran.status < 0:
+            return ran
+        if ran.status == 0:
+            return None if ran.out == whole else "it told success with another output"
+        if not ran.told and "help" not in case.words:
+            return f"status {ran.status}, and nothing is told"
+        return None if whole.startswith(ran.out) else "its output is no beginning of the whole"
+
+    def fault_of_left(self, case, ran):
+        if case.allows is None or not self.image.exists():
+            return None
+        by = "upgrade" if case.words.startswith("upgrade") else "recover"
+        heap = heap_of(self.image, by)
+        if not (case.allows(heap) if callable(case.allows) else heap in case.allows):
+            return f"{by} gives {heap}"
+        if case.told and ran.out and heap != case.told:
+            return f"it printed {ran.out[:40]!r}, and {by} gives {heap}"
+        again = heap_of(self.image, "recover") if by == "upgrade" else heap
+        return None if again == heap else f"recovery after the upgrade gives {again}"
