@@ -338,7 +338,8 @@ void judge_awaited(judge *it, uint32_t lane, zelamiku_status status, bool is_all
 }
 
 void judge_asks(judge *it, uint32_t lane) {
-    (void)begin_call(it, lane, ASKS, 0);
+    judged_lane *own = begin_call(it, lane, ASKS, 0);
+    own->known = own->durable;
 }
 
 void judge_asked(judge *it, uint32_t lane, zelamiku_status status, uint64_t earlier, uint64_t durable) {
@@ -346,9 +347,9 @@ void judge_asked(judge *it, uint32_t lane, zelamiku_status status, uint64_t earl
     uint64_t all = own->ended - earlier;
     bool is_trouble = status == ZELAMIKU_DEVICE && it->has_trouble;
     if (durable > all) search_fail("lane %u has ended %llu sections, and %llu are durable", lane, (unsigned long long)all, (unsigned long long)durable);
-    if (earlier + durable < own->durable) search_fail("lane %u is told fewer durable sections than before", lane);
+    if (earlier + durable < own->known) search_fail("lane %u is told fewer durable sections than before", lane);
     if (status == ZELAMIKU_OK && durable == all) own->must_end = false;
-    if (durable > 0) own->durable = earlier + durable;
+    if (durable > 0 && own->durable < earlier + durable) own->durable = earlier + durable;
     own->has_asked = durable < all;
     own->is_short = false;
     if (durable > 0 && durable == all && judge_held(it, lane) == 0) own->records = 0;

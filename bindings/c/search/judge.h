@@ -31,7 +31,8 @@ typedef struct {
     uint32_t locks[OBJECTS], put_down; /* `put_down`: the locks with which it waits */
     uint64_t ended;     /* sections of the lane */
     uint64_t stored;    /* the last of them that has stored */
-    uint64_t durable;   /* told */
+    uint64_t durable;   /* told, */
+    uint64_t known;     /* and before the ask that it is in */
     uint32_t records;   /* about how many it has sent since all were durable */
     bool has_asked, is_short; /* its event will be readable: of sections that it has asked for, or since it has found no room */
     bool has_stored;    /* the section that is open has, */

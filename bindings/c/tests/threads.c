@@ -990,7 +990,13 @@ static void stops(zelamiku_status why) {
     MUST(zelamiku_thread_exit(holder, TOTAL) == why && zelamiku_thread_end(holder) == why && zelamiku_thread_end(own) == why);
     zelamiku_report report = begin_again(4000);
 #ifndef MOCKED
+    zelamiku_dropped both[2], second[2];
+    size_t told = 0;
     MUST(report.told.found.dropped == 2 && look(TOTAL, 0) == 1);
+    MUST(zelamiku_heap_dropped(all, 0, both, 2, &told) == ZELAMIKU_OK && told == 2);
+    MUST(zelamiku_heap_dropped(all, 1, second, 2, &told) == ZELAMIKU_OK && told == 1);
+    MUST(second[0].lane == both[1].lane && second[0].section == both[1].section);
+    MUST(both[0].lane != both[1].lane || both[0].section != both[1].section);
 #endif
     MUST(look(LIST, COUNT) == 5 && zelamiku_heap_close(all) == ZELAMIKU_OK);
     (void)report;
