@@ -118,6 +118,14 @@ class Examples(unittest.TestCase):
         subprocess.run(["cc", f"{TOP}/examples/c/{name}.c", *flags, LIBS / "libzelamiku.a", "-o", program], check=True)
         return program
 
+    def built_in_cpp(self, name):
+        if not shutil.which("c++"):
+            self.skipTest("no c++")
+        flags = ["-std=c++17", "-O2", "-Wall", "-Wextra", "-Werror", "-I", f"{TOP}/bindings/c", "-pthread"]
+        program = self.folder / name
+        subprocess.run(["c++", f"{TOP}/examples/cpp/{name}.cpp", *flags, LIBS / "libzelamiku.a", "-o", program], check=True)
+        return program
+
     def built_in_rust(self, folder, name):
         if not HAS_CARGO:
             self.skipTest("no cargo")
@@ -186,6 +194,11 @@ class Killed(Examples):
     @needs_cc
     def test_counters_in_c(self):
         program = self.built_in_c("counters")
+        self.killed(program, Totals(), by_quarters, tries(4), ("0.2", "0"))
+        self.others_are_refused(program)
+
+    def test_counters_in_cpp(self):
+        program = self.built_in_cpp("counters")
         self.killed(program, Totals(), by_quarters, tries(4), ("0.2", "0"))
         self.others_are_refused(program)
 

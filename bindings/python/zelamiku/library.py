@@ -205,7 +205,7 @@ class Library:
         try:
             lets_go, keeps = ctypes.CDLL(path), ctypes.PyDLL(path)
         except OSError as error:
-            raise NoLibrary(path, f"the shared library can't be loaded: {error}", _CURE) from error
+            raise NoLibrary(path, f"the shared library can't be loaded: {error}", CURE) from error
         self.path = path
         for name, (takes, answers) in _TELLING.items():
             self._declare(keeps, name, takes, answers)
@@ -230,7 +230,7 @@ class Library:
         setattr(self, name, call)
 
 
-_CURE = f"name the folder that has {NAME} in the variable ZELAMIKU_LIBS, or install it so that pkg-config finds zelamiku"
+CURE = f"name the folder that has {NAME} in the variable ZELAMIKU_LIBS, or install it so that pkg-config finds zelamiku"
 
 
 @functools.cache
