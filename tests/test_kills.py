@@ -82,15 +82,16 @@ class Workers(InFolder):
 @needs_bench
 class Store(InFolder):
     def test_a_store_that_trims(self):
-        end_of_all, told = time.monotonic() + seconds(5), 0
+        end_of_all, told, early = time.monotonic() + seconds(5), 0, 0
         while time.monotonic() < end_of_all:
             self.put(None)
             group = random.choice([1, 3, 50, 400, 1000])
-            killed = kill(start(["tell", 10**9, group, self.image], program=BENCH), random.uniform(0.001, 0.15))
+            # Later where the program hadn't come so far.
+            killed = kill(start(["tell", 10**9, group, self.image], program=BENCH), random.uniform(0.001, 0.15) * 2 ** min(early, 6))
             self.assertEqual(killed.status, -signal.SIGKILL, "it has ended by itself")
             lines = killed.out.split("\n")[:-1]
             last = int(lines[-1].split()[1]) if lines else None
-            told += last or 0
+            told, early = told + (last or 0), early + 1 if last is None else 0
             self.count(kills_of_a_store=1, before_a_section_was_told=last is None, sections_told=last or 0)
             self.fault(self.image.exists() and self.fault_of(last, group), group=group)
         self.assertGreater(told, 0, "no section was told, so nothing was tested")
