@@ -41,6 +41,7 @@ class Judge:
 class Totals(Judge):
     """Of counters."""
 
+    TOLD = "counts acknowledged"
     LINES = {r"total \d+ = \d+ \+ \d+ \+ \d+ \+ \d+": "found", r"acknowledged \d+": "told"}
     total = acknowledged = all = runs = 0
 
@@ -61,6 +62,7 @@ class Totals(Judge):
 class Transfers(Judge):
     """Of the bank: whether an acknowledged transfer was lost."""
 
+    TOLD = "transfers acknowledged"
     LINES = {r"found( \d+)+": "found", r"acknowledged \d+ \d+": "told"}
 
     def __init__(self):
@@ -81,6 +83,7 @@ class Transfers(Judge):
 class Jobs(Judge):
     """Of the queue, by producer: whether a job was lost or done twice."""
 
+    TOLD = "jobs done"
     LINES = {r"found \d+ put \d+ done \d+": "found", r"put \d+ \d+": "told_put", r"done \d+ \d+": "told_done"}
 
     def __init__(self):
@@ -163,7 +166,7 @@ class Examples(unittest.TestCase):
             self.assertEqual(running.wait(), -signal.SIGKILL, f"kill {number}: it has ended by itself: {self.out.read_text()[-500:]}")
             self.heard(judge)
         self.ended_well(program, judge, last)
-        COUNTS["examples"].update({"kills": kills, f"{type(judge).__name__.lower()} told": judge.sum()})
+        COUNTS["examples"].update({"kills": kills, judge.TOLD: judge.sum()})
 
     def ended_well(self, program, judge, last):
         for words in last:
@@ -253,8 +256,7 @@ class Syncs(Examples):
                 meet(running, number)
                 self.heard(judge)
         self.ended_well(program, judge, (last,))
-        told = f"{type(judge).__name__.lower()} told beside these"
-        COUNTS["examples"].update({"syncs that failed": tries(2), "that hung": tries(2), told: judge.sum()})
+        COUNTS["examples"].update({"syncs that failed": tries(2), "that hung": tries(2), judge.TOLD: judge.sum()})
 
     def fails(self, running, _):
         Path(f"{self.fault}.sync").touch()
