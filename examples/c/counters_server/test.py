@@ -1,7 +1,7 @@
 #!/usr/bin/env python3
 """Tries counters_server: what it answers, what rude clients do to it, and what kills leave.
 
-    test.py [--few] [--kills N] [PART..]
+    test.py [--few] [--kills N] [--seed N] [PART..]
 
 Needs cc and Python alone. The library must be there (tools/c-library, or ZELAMIKU_LIBS names the folder that has it). The parts, all if
 none is named:
@@ -15,6 +15,8 @@ none is named:
     mutated  10,000 altered streams (600 with --few) under the sanitizers of addresses and of undefined behaviour
     kills    by kill -9, under 100 clients (300 kills, 6 with --few): no acknowledged INCR is lost, and no transaction is there by half. A
              server that is changed to answer early must lose some
+    rate     only if it is named: durable INCRs a second, by redis-benchmark, beside a redis-server with appendfsync=always. Each sync of
+             both is a sleep of 2 ms (examples/c/peers_syncs.c). It prints a table for docs/TIMES.md: medians of three rounds
 What isn't installed (Debian: redis-server, redis-tools, python3-redis) is told. The last line counts the parts; the exit status is 1 if one
 went wrong.
 """
@@ -27,6 +29,7 @@ import selectors
 import shutil
 import signal
 import socket
+import statistics
 import subprocess
 import sys
 import tempfile
@@ -440,7 +443,8 @@ def random_command(dice):
 
 def compare(tried):
     if not shutil.which("redis-server"):
-        return "no redis-server: no answers were compared"
+        print("no redis-server: the answers of counters_server weren't compared with its", flush=True)
+        return "nothing was compared"
     real = Redis(f"{tried.work}/redis")
     server = Server(tried.program, f"{tried.work}/compared")
     try:
@@ -498,7 +502,7 @@ print(redis.__version__)
 
 
 def clients(tried):
-    told = []
+    told, lacks = [], []
     more = [f"{kind}:{n:012}" for kind in ("counter", "key") for n in range(100)]
     server = Server(tried.program, f"{tried.work}/clients", keys=KEYS + more)
     if shutil.which("redis-cli"):
@@ -509,7 +513,7 @@ def clients(tried):
         must(run("SET", "k:5", "word").strip() == "ERR value is not an integer or out of range", "redis-cli: SET")
         told.append("redis-cli")
     else:
-        told.append("no redis-cli")
+        lacks.append("redis-cli")
     if shutil.which("redis-benchmark"):
         for depth in ("1", "16"):
             words = ["redis-benchmark", "-s", server.address, "-c", "50", "-P", depth, "-r", "100", "-n", "4000"]
@@ -517,7 +521,7 @@ def clients(tried):
             must(re.search('"INCR","[0-9.]+"', rows) and "ERR" not in rows, f"redis-benchmark: {rows}")
         told.append("redis-benchmark")
     else:
-        told.append("no redis-benchmark")
+        lacks.append("redis-benchmark")
     for python in (sys.executable, "/usr/bin/python3"):
         if shutil.which(python) and run_to_end(python, "-c", "import redis").returncode == 0:
             clear(server)
@@ -526,9 +530,11 @@ def clients(tried):
             told.append(f"python3-redis {done.stdout.strip()}")
             break
     else:
-        told.append("no python3-redis")
+        lacks.append("python3-redis")
     must(server.stop() == 0, "stop")
-    return ", ".join(told)
+    if lacks:
+        print(f"no {', '.join(lacks)}: counters_server wasn't tried by them", flush=True)
+    return ", ".join(told) or "nothing was tried"
 
 
 # ---- rude clients ----
@@ -906,7 +912,63 @@ def kills(tried):
     return f"{done} kills, {count} answers acknowledged, none lost; {control}"
 
 
-PARTS = [answers, others, compare, clients, rude, faults, mutated, kills]
+# ---- rate ----
+
+
+def started_redis(folder, env):
+    os.makedirs(folder)
+    words = ["redis-server", "--port", "0", "--unixsocket", f"{folder}/socket", "--dir", folder, "--save", "", "--maxclients", "2000"]
+    words += ["--appendonly", "yes", "--appendfsync", "always", "--auto-aof-rewrite-percentage", "0"]
+    process = subprocess.Popen(words, stdout=subprocess.DEVNULL, env=dict(os.environ, **env))
+    while not os.path.exists(f"{folder}/socket"):
+        must(process.poll() is None, "redis-server didn't start")
+        time.sleep(0.02)
+    return process, f"{folder}/socket"
+
+
+def rate_of(address, count, depth, seconds):
+    """INCRs a second, after a short run that says how many fit."""
+    words = ["redis-benchmark", "-s", address, "-c", str(count), "-P", str(depth), "-r", "10000", "--csv"]
+    made = 4 * count * depth + 200
+    for _ in range(2):
+        told = run_to_end(*words, "-n", str(made), "incr", "k:__rand_int__").stdout
+        found = re.search(r'"incr k:__rand_int__","([0-9.]+)"', told)
+        must(found, f"redis-benchmark: {told[-300:]}")
+        made = int(max(8 * count * depth, float(found.group(1)) * seconds))
+    return float(found.group(1))
+
+
+def rate(tried):
+    if not shutil.which("redis-server") or not shutil.which("redis-benchmark"):
+        return "no redis-server or no redis-benchmark: nothing was measured"
+    library = f"{tried.work}/syncs.so"
+    subprocess.run(["cc", "-O2", "-shared", "-fPIC", f"{TOP}/examples/c/peers_syncs.c", "-o", library], check=True)
+    env = {"LD_PRELOAD": library, "SYNCS": f"{tried.work}/syncs", "SYNCS_TAKE": "2000"}
+    keys, rows, seen = [f"k:{n:012}" for n in range(10000)], [(c, d) for d in (1, 16) for c in (1, 50, 500, 1000)], {}
+    for number in range(3):
+        for row in rows:
+            for which in ("counters_server", "redis") if number % 2 else ("redis", "counters_server"):
+                folder = f"{tried.work}/rate{number}_{row[0]}_{row[1]}_{which}"
+                if which == "redis":
+                    process, address = started_redis(folder, env)
+                else:
+                    server = Server(tried.program, folder, 2000, keys=keys, env=env)
+                    process, address = server.process, server.address
+                try:
+                    seen.setdefault((row, which), []).append(rate_of(address, *row, 1))
+                finally:
+                    process.kill()
+                    process.wait()
+    lines = ["| Clients, commands in a pipeline | counters_server | redis |", "|---|---|---|"]
+    for row in rows:
+        ours, theirs = seen[row, "counters_server"], seen[row, "redis"]
+        ratio = statistics.median(a / b for a, b in zip(ours, theirs))
+        cells = [f"{statistics.median(it):,.0f} ({min(it):,.0f} to {max(it):,.0f})" for it in (ours, theirs)]
+        lines.append(f"| {row[0]:,}, {row[1]} | {cells[0]}, {ratio:.2f}x | {cells[1]} |")
+    return "INCRs a second\n" + "\n".join(lines) + "\n"
+
+
+PARTS = [answers, others, compare, clients, rude, faults, mutated, kills, rate]
 
 
 def main():
@@ -921,13 +983,14 @@ def main():
     if set(tried.parts) - set(names):
         parser.error(f"the parts are {' '.join(names)}")
     failed = 0
-    chosen = [part for part in PARTS if not tried.parts or part.__name__ in tried.parts]
+    chosen = [part for part in PARTS if part.__name__ in (tried.parts or names[:-1])]
     with tempfile.TemporaryDirectory() as tried.work:
         tried.program = build(tried.work, "counters_server", "-O2")
         for part in chosen:
             began = time.monotonic()
             try:
-                print(f"{part.__name__}: {part(tried)} ({time.monotonic() - began:.0f} s)", flush=True)
+                told = part(tried)
+                print(f"{part.__name__}: ({time.monotonic() - began:.0f} s) {told}", flush=True)
             except (Wrong, OSError, subprocess.SubprocessError) as why:
                 failed += 1
                 print(f"FAILED: {part.__name__}: {type(why).__name__}: {why}", flush=True)
