@@ -17,7 +17,7 @@ use std::thread::{Threads, join};
 const OBJECT: ObjectId = ObjectId(0);
 
 // How often the holder lets others run before it leaves.
-const TURNS: u32 = 100_000;
+const TURNS: u32 = 10_000;
 
 // Until the flag is raised.
 fn await_flag<R: Wait>(rt: &R, flag: &AtomicBool) {
