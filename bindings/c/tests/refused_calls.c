@@ -8,6 +8,7 @@
 #include <fcntl.h>
 #include <libgen.h>
 #include <pthread.h>
+#include <stdarg.h>
 #include <stdatomic.h>
 #include <stdbool.h>
 #include <stdio.h>
@@ -18,6 +19,7 @@
 #include <sys/prctl.h>
 #include <sys/stat.h>
 #include <sys/syscall.h>
+#include <sys/wait.h>
 #include <unistd.h>
 
 static _Atomic unsigned long turn;  /* calls of the life that is lived */
@@ -30,32 +32,105 @@ static bool refuses(int error) {
     return true;
 }
 
-static bool is_of_slices(long number) {
-    return number == SYS_sched_getattr || number == SYS_sched_setattr;
+/* Functions in place of the system's: so each line of the scheduler's C has the branches that it has by itself (tools/coverage). */
+static void *refused_malloc(size_t size) {
+    return refuses(ENOMEM) ? NULL : malloc(size);
+}
+static void *refused_calloc(size_t count, size_t size) {
+    return refuses(ENOMEM) ? NULL : calloc(count, size);
+}
+static void *refused_aligned(size_t line, size_t size) {
+    return refuses(ENOMEM) ? NULL : aligned_alloc(line, size);
+}
+static char *refused_strdup(const char *text) {
+    return refuses(ENOMEM) ? NULL : strdup(text);
+}
+static int refused_open(const char *path, int flags, ...) {
+    va_list words;
+    va_start(words, flags);
+    mode_t mode = (flags & O_CREAT) != 0 ? (mode_t)va_arg(words, int) : 0;
+    va_end(words);
+    return refuses(EACCES) ? -1 : open(path, flags, mode);
+}
+static int refused_stat(const char *path, struct stat *info) {
+    return refuses(EIO) ? -1 : stat(path, info);
+}
+static int refused_fstat(int file, struct stat *info) {
+    return refuses(EIO) ? -1 : fstat(file, info);
+}
+static int refused_flock(int file, int how) {
+    return refuses(ENOLCK) ? -1 : flock(file, how);
+}
+static ssize_t refused_pread(int file, void *bytes, size_t size, off_t at) {
+    return refuses(EIO) ? -1 : pread(file, bytes, size, at);
+}
+static ssize_t refused_pwrite(int file, const void *bytes, size_t size, off_t at) {
+    return refuses(ENOSPC) ? -1 : pwrite(file, bytes, size, at);
+}
+static int refused_fdatasync(int file) {
+    return refuses(EIO) ? -1 : fdatasync(file);
+}
+static int refused_fsync(int file) {
+    return refuses(EIO) ? -1 : fsync(file);
+}
+static void fork_now(void);
+static bool forks; /* at the next rename */
+static int refused_rename(const char *from, const char *to) {
+    if (forks) fork_now();
+    return refuses(EIO) ? -1 : rename(from, to);
+}
+static char *refused_realpath(const char *path, char *real) {
+    return refuses(EACCES) ? NULL : realpath(path, real);
+}
+static ssize_t refused_readlink(const char *path, char *bytes, size_t size) {
+    return refuses(EIO) ? -1 : readlink(path, bytes, size);
+}
+static char *refused_getcwd(char *folder, size_t size) {
+    return refuses(EACCES) ? NULL : getcwd(folder, size);
+}
+static int refused_fchmod(int file, mode_t mode) {
+    return refuses(EPERM) ? -1 : fchmod(file, mode);
+}
+static int refused_fchown(int file, uid_t user, gid_t group) {
+    return refuses(EPERM) ? -1 : fchown(file, user, group);
+}
+static int refused_eventfd(unsigned count, int how) {
+    return refuses(EMFILE) ? -1 : eventfd(count, how);
+}
+static int refused_thread(pthread_t *thread, const pthread_attr_t *how, void *(*body)(void *), void *data) {
+    return refuses(EAGAIN) ? EAGAIN : pthread_create(thread, how, body, data);
+}
+static int refused_prctl(int what) {
+    return refuses(EPERM) ? -1 : prctl(what);
+}
+/* The call was made; those that ask for slices answer that they weren't. */
+static long refused_syscall(long number, long answer) {
+    bool is_of_slices = number == SYS_sched_getattr || number == SYS_sched_setattr;
+    return is_of_slices && refuses(EPERM) ? -1 : answer;
 }
 
-#define malloc(size) (refuses(ENOMEM) ? NULL : malloc(size))
-#define calloc(count, size) (refuses(ENOMEM) ? NULL : calloc(count, size))
-#define aligned_alloc(line, size) (refuses(ENOMEM) ? NULL : aligned_alloc(line, size))
-#define strdup(text) (refuses(ENOMEM) ? NULL : strdup(text))
-#define open(...) (refuses(EACCES) ? -1 : open(__VA_ARGS__))
-#define stat(path, info) (refuses(EIO) ? -1 : stat(path, info))
-#define fstat(file, info) (refuses(EIO) ? -1 : fstat(file, info))
-#define flock(file, how) (refuses(ENOLCK) ? -1 : flock(file, how))
-#define pread(file, bytes, size, at) (refuses(EIO) ? -1 : pread(file, bytes, size, at))
-#define pwrite(file, bytes, size, at) (refuses(ENOSPC) ? -1 : pwrite(file, bytes, size, at))
-#define fdatasync(file) (refuses(EIO) ? -1 : fdatasync(file))
-#define fsync(file) (refuses(EIO) ? -1 : fsync(file))
-#define rename(from, to) (refuses(EIO) ? -1 : rename(from, to))
-#define realpath(path, real) (refuses(EACCES) ? NULL : realpath(path, real))
-#define readlink(path, bytes, size) (refuses(EIO) ? -1 : readlink(path, bytes, size))
-#define getcwd(folder, size) (refuses(EACCES) ? NULL : getcwd(folder, size))
-#define fchmod(file, mode) (refuses(EPERM) ? -1 : fchmod(file, mode))
-#define fchown(file, user, group) (refuses(EPERM) ? -1 : fchown(file, user, group))
-#define eventfd(count, how) (refuses(EMFILE) ? -1 : eventfd(count, how))
-#define pthread_create(thread, how, body, data) (refuses(EAGAIN) ? EAGAIN : pthread_create(thread, how, body, data))
-#define prctl(what) (refuses(EPERM) ? -1 : prctl(what))
-#define syscall(number, ...) (is_of_slices(number) && refuses(EPERM) ? -1 : syscall(number, __VA_ARGS__))
+#define malloc refused_malloc
+#define calloc refused_calloc
+#define aligned_alloc refused_aligned
+#define strdup refused_strdup
+#define open refused_open
+#define stat(path, info) refused_stat(path, info)
+#define fstat refused_fstat
+#define flock(file, how) refused_flock(file, how)
+#define pread refused_pread
+#define pwrite refused_pwrite
+#define fdatasync refused_fdatasync
+#define fsync refused_fsync
+#define rename refused_rename
+#define realpath refused_realpath
+#define readlink refused_readlink
+#define getcwd refused_getcwd
+#define fchmod refused_fchmod
+#define fchown refused_fchown
+#define eventfd refused_eventfd
+#define pthread_create refused_thread
+#define prctl refused_prctl
+#define syscall(number, ...) refused_syscall(number, syscall(number, __VA_ARGS__))
 #include "../zelamiku_threads.c"
 #undef stat
 #undef open
@@ -75,8 +150,8 @@ static const zelamiku_plan PLAN = {.fields = FIELDS, .count = FIELDS_THERE, .obj
 static uint64_t kept, tried; /* the value that is durable, and one that may be */
 
 /* How a life begins. */
-typedef enum { NO_FILE, EMPTY_FILE, A_HEAP, BY_A_LINK, REVERTS } beginning;
-static const char *const BEGINNINGS[LIVES] = {"no file", "an empty file", "a heap", "a link to no file", "a heap that reverts"};
+typedef enum { NO_FILE, ZEROS, A_HEAP, BY_A_LINK, REVERTS } beginning;
+static const char *const BEGINNINGS[LIVES] = {"no file", "a file of zeros", "a heap", "a link to no file", "a heap that reverts"};
 
 static bool is_missing(const char *path) {
     struct stat info;
@@ -97,9 +172,9 @@ static bool passes(zelamiku_status status) {
 static void begin_life(beginning how) {
     static const char *const ALL[] = {"heap", "copy", "link to come"};
     for (size_t i = 0; i < sizeof ALL / sizeof *ALL && how != A_HEAP && how != REVERTS; i++) (void)unlink(ALL[i]);
-    if (how == EMPTY_FILE) {
+    if (how == ZEROS) {
         int file = open("heap", O_RDWR | O_CREAT | O_CLOEXEC, 0640);
-        MUST(file >= 0 && close(file) == 0);
+        MUST(file >= 0 && ftruncate(file, 5000) == 0 && close(file) == 0);
     }
     if (how == BY_A_LINK) MUST(symlink("link to come", "heap") == 0);
     if (how < A_HEAP || how == BY_A_LINK) kept = tried = 10;
@@ -124,7 +199,11 @@ static void live(beginning how) {
     zelamiku_thread own;
     zelamiku_plan plan = PLAN;
     plan.reverts = how == REVERTS;
-    if (!passes(zelamiku_heap_open(&heap, "heap", &plan, NULL))) return;
+    if (how == NO_FILE) plan.lanes = 0; /* as many as there are by default: more than the others want */
+    if (!passes(zelamiku_heap_open(&heap, "heap", &plan, NULL))) {
+        MUST(heap.number == 0);
+        return;
+    }
     if (passes(zelamiku_thread_begin(&own, heap))) add_one(own);
     (void)passes(zelamiku_heap_copy(heap, "copy"));
     zelamiku_status status = zelamiku_thread_end(own);
@@ -146,6 +225,55 @@ static void look(void) {
     MUST(zelamiku_thread_load(own, 0, &value) == ZELAMIKU_OK && (value == kept || value == tried));
     kept = tried = value;
     MUST(zelamiku_thread_exit(own, 0) == ZELAMIKU_OK && zelamiku_thread_end(own) == ZELAMIKU_OK && zelamiku_heap_close(heap) == ZELAMIKU_OK);
+}
+
+/* In the midst of a copy a child is forked: it has none of the files, whose locks it would keep. */
+static void fork_now(void) {
+    int status = 0;
+    forks = false;
+    pid_t child = fork();
+    if (child == 0) {
+        struct stat info;
+        for (int file = 3; file < 100; file++)
+            if (fstat(file, &info) == 0 && S_ISREG(info.st_mode)) _exit(1);
+        _exit(0);
+    }
+    MUST(child > 0 && waitpid(child, &status, 0) == child && status == 0);
+}
+
+/* ---- more than usual ---- */
+
+/* So many sections depend on one that never ends that recovery has to be asked twice for all that it dropped. */
+static void many_dropped(void) {
+    enum { SECTIONS = 300 };
+    static zelamiku_dropped all[SECTIONS + 1];
+    zelamiku_heap heap;
+    zelamiku_thread holder, own;
+    size_t told = 0;
+    MUST(unlink("heap") == 0 && zelamiku_heap_open(&heap, "heap", &PLAN, NULL) == ZELAMIKU_OK);
+    MUST(zelamiku_thread_begin(&holder, heap) == ZELAMIKU_OK && zelamiku_thread_begin(&own, heap) == ZELAMIKU_OK);
+    MUST(zelamiku_thread_enter(holder, 0) == ZELAMIKU_OK && zelamiku_thread_enter(holder, 1) == ZELAMIKU_OK);
+    MUST(zelamiku_thread_store(holder, 1, 5) == ZELAMIKU_OK && zelamiku_thread_exit(holder, 1) == ZELAMIKU_OK);
+    for (uint64_t i = 0; i < SECTIONS; i++) {
+        MUST(zelamiku_thread_enter(own, 1) == ZELAMIKU_OK && zelamiku_thread_store(own, 1, i) == ZELAMIKU_OK);
+        MUST(zelamiku_thread_exit(own, 1) == ZELAMIKU_OK);
+    }
+    MUST(zelamiku_heap_stop(heap) == ZELAMIKU_OK && zelamiku_thread_exit(holder, 0) == ZELAMIKU_CLOSED);
+    MUST(zelamiku_thread_end(holder) == ZELAMIKU_CLOSED && zelamiku_thread_end(own) == ZELAMIKU_CLOSED);
+    MUST(zelamiku_heap_open(&heap, "heap", &PLAN, NULL) == ZELAMIKU_OK);
+    MUST(zelamiku_heap_dropped(heap, 0, all, SECTIONS + 1, &told) == ZELAMIKU_OK && told == SECTIONS + 1);
+    for (size_t i = 1; i < told; i++) MUST(all[i].lane >= all[i - 1].lane && (all[i].lane > all[i - 1].lane || all[i].section == all[i - 1].section + 1));
+    MUST(zelamiku_heap_dropped(heap, 0, NULL, 1, &told) == ZELAMIKU_NOTHING && zelamiku_heap_dropped(heap, 0, NULL, 0, &told) == ZELAMIKU_OK);
+    MUST(zelamiku_heap_dropped(heap, 0, all, 1, NULL) == ZELAMIKU_NOTHING && zelamiku_heap_close(heap) == ZELAMIKU_OK);
+}
+
+/* A header's number of bytes is taken where an image may have so many, and the device has them. */
+static void sizes(void) {
+    uint8_t header[ZELAMIKU_HEADER_BYTES] = {0};
+    header[SIZE_AT + 7] = 200;
+    MUST(zelamiku_image_size(header, 300) == 200 && zelamiku_image_size(header, 200) == 200 && zelamiku_image_size(header, 100) == 100);
+    header[SIZE_AT] = 1;
+    MUST(zelamiku_image_size(header, 300) == ZELAMIKU_HEADER_BYTES);
 }
 
 /* ---- what the system refuses by itself ---- */
@@ -179,7 +307,8 @@ static void copies(void) {
     MUST(zelamiku_heap_copy(heap, "folder") == ZELAMIKU_DEVICE && zelamiku_heap_error() == EISDIR);
     MUST(zelamiku_heap_copy(heap, long_path) == ZELAMIKU_DEVICE && zelamiku_heap_error() == ENAMETOOLONG);
     MUST(zelamiku_heap_copy(heap, "") == ZELAMIKU_DEVICE && zelamiku_heap_error() == ENOENT);
-    MUST(zelamiku_heap_close(heap) == ZELAMIKU_OK);
+    forks = true;
+    MUST(zelamiku_heap_copy(heap, "copy") == ZELAMIKU_OK && !forks && zelamiku_heap_close(heap) == ZELAMIKU_OK);
     MUST(zelamiku_format_rings(&handle, OBJECTS_THERE, FIELDS, FIELDS_THERE, 2, 2000, 4096, &size) == ZELAMIKU_OK);
     int file = open("calls", O_RDWR | O_CREAT | O_CLOEXEC, 0600), appending = open("calls", O_WRONLY | O_APPEND | O_CLOEXEC);
     MUST(zelamiku_make_calls(&handle, appending, &made) == ZELAMIKU_DEVICE && errno == EBADF && made == 0);
@@ -230,6 +359,8 @@ int main(int argc, char **argv) {
         all += one - 1;
     }
     MUST(all > 100);
+    many_dropped();
+    sizes();
     copies();
     paths();
     printf("refused calls: %lu, and each was answered or done without\n", all);
