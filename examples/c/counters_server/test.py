@@ -595,11 +595,8 @@ def rude_reader(tried, port):
     counts_on(server)
     more = status_of(server, "VmRSS") - before
     must(more < 8192, f"the server keeps {more} kB of a client that doesn't read")
-    until = time.monotonic() + 60  # far more than two seconds, for a busy machine
-    while b"\r\nconnected_clients:2\r\n" not in whole(server, b"INFO\r\n"):
-        must(time.monotonic() < until, "a client that doesn't read isn't cut off")
-        counts_on(server, 3)
-        time.sleep(0.2)
+    wait_until(lambda: b"\r\nconnected_clients:2\r\n" in whole(server, b"INFO\r\n"), "a client that doesn't read isn't cut off")
+    counts_on(server)
     client.settimeout(10)
     must(cut_off(client), "a client that was cut off isn't told")
     must(Client(quiet).ask("PING") == b"+PONG\r\n", "one that has asked for nothing was cut off")
@@ -635,17 +632,30 @@ def rude(tried):
     return "no harm to others"
 
 
+def files_of(server):
+    return len(os.listdir(f"/proc/{server.process.pid}/fd"))
+
+
+def wait_until(is_so, text):
+    """On a busy machine that takes its time."""
+    until = time.monotonic() + 60
+    while not is_so():
+        must(time.monotonic() < until, text)
+        time.sleep(0.02)
+
+
 def many_clients(tried):
     server = Server(tried.program, f"{tried.work}/many", 10)
     inside = [Client(server) for _ in range(10)]
     must(all(it.ask("PING") == b"+PONG\r\n" for it in inside), "ten clients")
     for _ in range(5):
         must(whole(server, b"") == b"-ERR max number of clients reached\r\n", "the eleventh")
+    files = files_of(server) - 1
     inside.pop().close()
-    time.sleep(0.1)
+    wait_until(lambda: files_of(server) == files, "the tenth has left")
     counts_on(server)
+    wait_until(lambda: files_of(server) == files, "another one has left")
     # No descriptor is left: others wait, the server rests, and those that are in go on.
-    files = len(os.listdir(f"/proc/{server.process.pid}/fd"))
     soft, hard = resource.prlimit(server.process.pid, resource.RLIMIT_NOFILE)
     resource.prlimit(server.process.pid, resource.RLIMIT_NOFILE, (files, hard))
     outside = Client(server, 0.5)
@@ -714,9 +724,10 @@ def faults(tried):
         acknowledged = before + 1
         # A stop while a write fails confirms nothing; one while nothing fails does.
         if n % 2 == 0:
+            told = len(server.end_error())
             write(f"{folder}/fault.write")
             client.send(request("INCR", "k:0"))
-            time.sleep(0.2)
+            wait_until(lambda: "No space" in server.end_error()[told:], "a write that fails is told")
             must(server.stop() == 2 and "No space" in server.end_error(), f"a stop while a write fails: {server.end_error()}")
             os.remove(f"{folder}/fault.write")
             must(cut_off(client.socket) and client.text == b"", "the client was told")
@@ -991,7 +1002,7 @@ def main():
             try:
                 told = part(tried)
                 print(f"{part.__name__}: ({time.monotonic() - began:.0f} s) {told}", flush=True)
-            except (Wrong, OSError, subprocess.SubprocessError) as why:
+            except Exception as why:  # a part that goes wrong in any way has failed, and the others are tried
                 failed += 1
                 print(f"FAILED: {part.__name__}: {type(why).__name__}: {why}", flush=True)
             finally:
