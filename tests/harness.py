@@ -1,7 +1,7 @@
 """What the cases share: the built programs and runs of them, a folder with an image, kills, refusals, and what is counted.
 
-A case tries more often where TRIES says so, and for longer where SECONDS does. HEAPCTL and BENCH name other programs to try. A case that
-can't run here is skipped and says why.
+A case tries more often where TRIES says so, and for longer where SECONDS does. HEAPCTL and BENCH name other programs to try, and
+TMPDIR the folder whose disk the images lie on. A case that can't run here is skipped and says why.
 """
 import collections
 import contextlib
