@@ -76,44 +76,46 @@ typedef struct {
 /* Each call of a heap that isn't to be opened also answers NOTHING, WRONG_KIND, and STOPPED once zelamiku_call_failed was told of a sync;
  * nothing was done then. */
 
+/* What an image has. */
+typedef struct {
+    uint64_t size;       /* its bytes */
+    uint64_t zeros_from; /* where there is none: a device that is free has zeros from this byte on */
+    uint32_t objects, fields, lanes;
+    uint32_t capacity;   /* the records that a lane's area holds */
+    uint32_t is_damaged; /* 1: there is none, and there may have been one: the device isn't free */
+} zelamiku_shape;
+
+/* So many bytes of a device zelamiku_head looks at. */
+#define ZELAMIKU_HEAD_BYTES 2160
+
+/* Tells which image a device has, by its first ZELAMIKU_HEAD_BYTES bytes; of a shorter one, by all of them and zeros.
+ * OK: they are the header of an image of that shape. Whether the rest is as large, and an image, zelamiku_open finds.
+ * NOT_FORMATTED: they are none. Where `is_damaged` is 0 a heap may be made there, if the device has only zeros from `zeros_from` on. That is
+ * 0; or where the lanes' areas begin, if a making in place was cut off before its first control. BAD_HEADER: a number of the header is out of
+ * its limits. TOO_SMALL: fewer bytes are given. All other numbers are 0 then. */
+ZELAMIKU_MUST_USE zelamiku_status zelamiku_head(const uint8_t *begun, size_t size, zelamiku_shape *shape);
+
 /* Makes a heap of so many objects and of these fields, with `lanes` (1 to 32) sessions of `capacity` (2,000 to 1,048,576) records
  * each, and opens it. `size` gets the bytes of its image.
+ * A session sends what it does through its lane's ring, from which a round takes it. A ring holds `ring` (4,096 to 65,536) records: a larger one
+ * lets the session go on for longer while the host makes a round's calls, up to the lane's capacity. It takes 24 bytes of memory a record. The
+ * ring is no part of the image: each opening chooses it anew.
  * Needs: before the first call of zelamiku_next_call is made, the device has `size` zero bytes, durably. Where it may have an image, that
- * one's gate, byte 8, is made zero first, alone and durably: an old header over zeros would be a heap of zeros.
- * OPEN, EMPTY, UNKNOWN_OBJECT, TOO_MANY, BAD_HEADER, NO_MEMORY, FAULT (want of memory too): the handle is as it was, and `size`
- * is 0. */
-#define zelamiku_format zelamiku_format_marked /* a program of an older header, whose fields are shorter, doesn't link */
+ * one's gate is made zero first, alone and durably (docs/FORMAT.md): an old header over zeros would be a heap of zeros.
+ * RING, before any other answer: `ring` is out of its limits. OPEN, EMPTY, UNKNOWN_OBJECT, TOO_MANY, BAD_HEADER, NO_MEMORY, FAULT (want of
+ * memory too). The handle is as it was, and `size` is 0. */
 ZELAMIKU_MUST_USE zelamiku_status zelamiku_format(zelamiku_handle *heap, uint32_t objects, const zelamiku_field *fields, size_t count,
-                                                  uint32_t lanes, uint32_t capacity, uint64_t *size);
+                                                  uint32_t lanes, uint32_t capacity, uint32_t ring, uint64_t *size);
 
-/* The same, where a lane's ring holds `ring` (4,096 to 65,536) records. A session sends what it does through its lane's ring, from which a
- * round takes it. So a larger ring lets the session go on for longer while the host makes a round's calls, up to the lane's capacity. It
- * takes 24 bytes of memory a record. The ring is no part of the image: each opening chooses it anew. The calls without `_rings` give rings
- * of 4,096 records.
- * RING, before any other answer: `ring` is out of these limits; the handle is as it was, and `size` is 0. Else as zelamiku_format. */
-ZELAMIKU_MUST_USE zelamiku_status zelamiku_format_rings(zelamiku_handle *heap, uint32_t objects, const zelamiku_field *fields, size_t count,
-                                                        uint32_t lanes, uint32_t capacity, uint32_t ring, uint64_t *size);
-
-/* Recovers the heap of these bytes, and opens it.
+/* Recovers the heap of these bytes, and opens it, with rings as zelamiku_format. `told` gets what it has and the sections that were kept, and the
+ * first `count` of `dropped` those that weren't, by lane and then by number, as many as there are; `told->found.dropped` is how many there are.
  * Needs: the device has these bytes, all of them, durably.
- * OPEN, NOT_FORMATTED, BAD_HEADER, TOO_SMALL, NO_CONTROL, BAD_CONTROL, OLD_VERSION, WORN, BAD_RECORD, ILLEGAL_LOG, NO_MEMORY, FAULT
- * (want of memory too): the handle is as it was, and `found` is all 0. Nothing was asked of the device.
+ * RING, before any other answer; OPEN, NOT_FORMATTED, BAD_HEADER, TOO_SMALL, NO_CONTROL, BAD_CONTROL, OLD_VERSION, WORN, BAD_RECORD,
+ * ILLEGAL_LOG, NO_MEMORY, FAULT (want of memory too): the handle is as it was. `told` says for which record the image is refused, if it is for
+ * one, and else nothing, and `dropped` says nothing. Nothing was asked of the device.
  * OLD_VERSION: an older library made the heap, and zelamiku_upgrade opens it. */
-ZELAMIKU_MUST_USE zelamiku_status zelamiku_open(zelamiku_handle *heap, const uint8_t *image, size_t size, zelamiku_found *found);
-
-/* The same, and tells what recovery did: `told` gets the sections that were kept, and the first `count` of `dropped` those that weren't,
- * by lane and then by number, as many as there are; `told->found.dropped` is how many there are. After a refusal `told` says for which
- * record, if it was for one. */
-ZELAMIKU_MUST_USE zelamiku_status zelamiku_open_telling(zelamiku_handle *heap, const uint8_t *image, size_t size, zelamiku_told *told,
-                                                        zelamiku_dropped *dropped, size_t count);
-
-/* The same as zelamiku_open, and as zelamiku_open_telling, with rings of so many records (zelamiku_format_rings).
- * RING, before any other answer: `ring` is less than 4,096 or more than 65,536; the handle is as it was, `found` is all 0, and `told` and
- * `dropped` tell nothing. */
-ZELAMIKU_MUST_USE zelamiku_status zelamiku_open_rings(zelamiku_handle *heap, const uint8_t *image, size_t size, uint32_t ring,
-                                                      zelamiku_found *found);
-ZELAMIKU_MUST_USE zelamiku_status zelamiku_open_telling_rings(zelamiku_handle *heap, const uint8_t *image, size_t size, uint32_t ring,
-                                                              zelamiku_told *told, zelamiku_dropped *dropped, size_t count);
+ZELAMIKU_MUST_USE zelamiku_status zelamiku_open(zelamiku_handle *heap, const uint8_t *image, size_t size, uint32_t ring, zelamiku_told *told,
+                                                zelamiku_dropped *dropped, size_t count);
 
 /* Opens the heap of these bytes as zelamiku_open does, also where their image has version 1, from before there were transient fields. The
  * calls of its recovery, which zelamiku_next_call tells first, give the image version 2, in place, with the same heap. A crash while the host
@@ -122,17 +124,16 @@ ZELAMIKU_MUST_USE zelamiku_status zelamiku_open_telling_rings(zelamiku_handle *h
  * A library from before can't open version 2. So call this where the user has asked for it, or keep a copy of the image first; call
  * zelamiku_open otherwise.
  * As zelamiku_open, but for OLD_VERSION. */
-ZELAMIKU_MUST_USE zelamiku_status zelamiku_upgrade(zelamiku_handle *heap, const uint8_t *image, size_t size, zelamiku_found *found);
+ZELAMIKU_MUST_USE zelamiku_status zelamiku_upgrade(zelamiku_handle *heap, const uint8_t *image, size_t size, uint32_t ring, zelamiku_told *told,
+                                                   zelamiku_dropped *dropped, size_t count);
 
-/* The same as zelamiku_upgrade, and tells what recovery did, as zelamiku_open_telling does. */
-ZELAMIKU_MUST_USE zelamiku_status zelamiku_upgrade_telling(zelamiku_handle *heap, const uint8_t *image, size_t size, zelamiku_told *told,
-                                                           zelamiku_dropped *dropped, size_t count);
+/* One of both. */
+typedef zelamiku_status zelamiku_opening(zelamiku_handle *heap, const uint8_t *image, size_t size, uint32_t ring, zelamiku_told *told,
+                                         zelamiku_dropped *dropped, size_t count);
 
-/* The same as zelamiku_upgrade, and as zelamiku_upgrade_telling, with rings of so many records; RING as zelamiku_open_rings. */
-ZELAMIKU_MUST_USE zelamiku_status zelamiku_upgrade_rings(zelamiku_handle *heap, const uint8_t *image, size_t size, uint32_t ring,
-                                                         zelamiku_found *found);
-ZELAMIKU_MUST_USE zelamiku_status zelamiku_upgrade_telling_rings(zelamiku_handle *heap, const uint8_t *image, size_t size, uint32_t ring,
-                                                                 zelamiku_told *told, zelamiku_dropped *dropped, size_t count);
+/* Tells the shape of a heap's image, and its fields: the first `count` of them, as its image has them, and zeros for those that it hasn't.
+ * CLOSED. `shape` is all 0 then, and `fields` as it was. */
+ZELAMIKU_MUST_USE zelamiku_status zelamiku_fields(zelamiku_handle *heap, zelamiku_shape *shape, zelamiku_field *fields, size_t count);
 
 /* Hands out the session of the next lane, from 0 on; once each was, that of a lane whose session has ended (zelamiku_end) and held no
  * monitor then, whichever it is: so threads may come and go. zelamiku_lane tells which lane it has.
@@ -172,7 +173,6 @@ ZELAMIKU_MUST_USE zelamiku_status zelamiku_call_failed(zelamiku_handle *heap);
  * that those of one more might have no room: nothing was done; make them, and go on. FAULT, FAILED: the heap has stopped; what was
  * acknowledged stays: free the handles, and open it again. WORN: the control's sequence is at its end. The heap hasn't stopped, but no round
  * that has to write acknowledges anything from now on; what was acknowledged stays. */
-#define zelamiku_round zelamiku_round_most /* a program of an older header, whose rounds have no bound, doesn't link */
 ZELAMIKU_MUST_USE zelamiku_status zelamiku_round(zelamiku_handle *heap, uint64_t most, uint64_t *applied);
 
 /* How many sections of the lane are acknowledged since the heap was opened: no crash of the device loses them.
@@ -287,8 +287,8 @@ ZELAMIKU_MUST_USE zelamiku_status zelamiku_end(zelamiku_handle *session);
 typedef zelamiku_status zelamiku_device_calls(zelamiku_handle *heap, void *device, uint64_t *made);
 
 /* Takes over a heap that zelamiku_open or zelamiku_format has opened, on a device whose calls `make_calls` makes, and starts its helper. Of
- * the plan `linger`, `reverts`, `log`, `log_of` and `ring` count: the ring is what the heap was opened with, and 0 is 4,096 here, as of the calls
- * without `_rings`. NULL is a plan of zeros. `name` stands for the path in messages. `handle` is ZELAMIKU_NONE then, also after NO_MEMORY.
+ * the plan `linger`, `reverts`, `log`, `log_of` and `ring` count: the ring is what the heap was opened with, and 0 is 4,096 here.
+ * NULL is a plan of zeros. `name` stands for the path in messages. `handle` is ZELAMIKU_NONE then, also after NO_MEMORY.
  * RUNNING: a session that was handed out before hasn't ended, or held a monitor when it did. NOTHING, CLOSED, STOPPED, WRONG_KIND:
  * `handle` is as it was, and may only be freed. */
 #define zelamiku_heap_start zelamiku_heap_start_2 /* the same */
@@ -300,17 +300,9 @@ ZELAMIKU_MUST_USE zelamiku_status zelamiku_heap_start(zelamiku_heap *heap, const
  * after DEVICE where the descriptor is for appending or for reading alone, by which no call was made. */
 ZELAMIKU_MUST_USE zelamiku_status zelamiku_make_calls(zelamiku_handle *heap, int descriptor, uint64_t *made);
 
-/* An image's header, in bytes; and how many bytes of a device of `size` its image has, by its header, or just the header's, where these
- * can't be an image's. */
-#define ZELAMIKU_HEADER_BYTES 64
-uint64_t zelamiku_image_size(const uint8_t *header, uint64_t size);
-
-/* zelamiku_open_telling_rings, or zelamiku_upgrade_telling_rings. */
-typedef zelamiku_status zelamiku_opening(zelamiku_handle *heap, const uint8_t *image, size_t size, uint32_t ring, zelamiku_told *told,
-                                         zelamiku_dropped *dropped, size_t count);
-
 #ifdef ZELAMIKU_HAS_SIZE
 ZELAMIKU_HAS_SIZE(zelamiku_call, 24);
+ZELAMIKU_HAS_SIZE(zelamiku_shape, 40);
 #endif
 
 #ifdef __cplusplus

@@ -46,7 +46,7 @@ enum {
 
 /* The host of a heap on an export. Callers read and write none of it but `ring`, which they may set after zelamiku_begin_nbd. */
 typedef struct {
-    uint32_t ring;          /* records of a lane's ring (zelamiku_format_rings): 4,096 to 65,536; 0 is 4,096 */
+    uint32_t ring;          /* records of a lane's ring (zelamiku_format): 4,096 to 65,536; 0 is 4,096 */
     struct nbd_handle *nbd; /* NULL once the connection is given up */
     int patience;           /* milliseconds; -1: for ever */
     bool has_fua;
@@ -203,13 +203,15 @@ static inline zelamiku_status zelamiku_nbd_read(zelamiku_nbd *host, uint64_t siz
     return status == ZELAMIKU_OK ? zelamiku_nbd_fill(host, host->blocks * host->block) : status;
 }
 
-/* Closes the gate of an image that the export may have, durably, before anything else of it goes. In its block every other byte stays, so
- * that no cut leaves an old header over zeros. */
-static inline zelamiku_status zelamiku_nbd_close_gate(zelamiku_nbd *host) {
+/* Closes the gate of an image that the export may have, durably, before anything else of it goes, by the first call of the heap that is made
+ * there. In its block every other byte stays, so that no cut leaves an old header over zeros. */
+static inline zelamiku_status zelamiku_nbd_close_gate(zelamiku_nbd *host, zelamiku_handle *heap) {
+    uint8_t bytes[ZELAMIKU_MOST_BYTES] = {0};
+    zelamiku_call call = {ZELAMIKU_NO_CALL, 0, 0};
     zelamiku_status status = zelamiku_nbd_fill(host, host->block);
+    if (status == ZELAMIKU_OK) status = zelamiku_next_call(heap, &call, bytes, sizeof bytes);
     if (status != ZELAMIKU_OK) return status;
-    host->image[8] = 0;
-    host->is_dirty[0] = 1;
+    if (call.at + call.size > host->block || !zelamiku_nbd_write(host, bytes, call.size, call.at)) return ZELAMIKU_DEVICE;
     return zelamiku_nbd_sync(host);
 }
 
@@ -264,17 +266,17 @@ ZELAMIKU_MUST_USE static inline zelamiku_status zelamiku_begin_nbd(zelamiku_nbd 
 /* Makes a heap as zelamiku_format does, on the export, whose first blocks have zeros then, durably, as many as the image takes. The gate of
  * an image that was there before goes first. The heap's first calls are left to zelamiku_make_calls_nbd. Whatever the export had there is
  * gone.
- * As zelamiku_format_rings: the handle and the export are as they were. TOO_SMALL: the export has fewer bytes than the image; NO_MEMORY: so they
+ * As zelamiku_format: the handle and the export are as they were. TOO_SMALL: the export has fewer bytes than the image; NO_MEMORY: so they
  * are too. DEVICE: the server has refused a request, or is gone; errno has the cause, the handle is as it was, and the export may have
  * no image any more, or zeros. */
 ZELAMIKU_MUST_USE static inline zelamiku_status zelamiku_format_nbd(zelamiku_handle *heap, zelamiku_nbd *host, uint32_t objects,
                                                              const zelamiku_field *fields, size_t count, uint32_t lanes,
                                                              uint32_t capacity) {
     uint64_t size = 0;
-    zelamiku_status status = zelamiku_format_rings(heap, objects, fields, count, lanes, capacity, zelamiku_nbd_ring(host), &size);
+    zelamiku_status status = zelamiku_format(heap, objects, fields, count, lanes, capacity, zelamiku_nbd_ring(host), &size);
     if (status != ZELAMIKU_OK) return status;
     status = zelamiku_nbd_room(host, size);
-    if (status == ZELAMIKU_OK) status = zelamiku_nbd_close_gate(host);
+    if (status == ZELAMIKU_OK) status = zelamiku_nbd_close_gate(host, heap);
     if (status == ZELAMIKU_OK) {
         memset(host->image, 0, (size_t)host->block);
         memset(host->is_dirty, 1, (size_t)host->blocks);
@@ -295,28 +297,26 @@ static inline zelamiku_status zelamiku_nbd_open(zelamiku_handle *heap, zelamiku_
     /* What a host before this one wrote may be in the server's cache alone. */
     host->error = 0;
     zelamiku_status status = zelamiku_nbd_flush(host);
-    if (status == ZELAMIKU_OK) status = zelamiku_nbd_read(host, ZELAMIKU_HEADER_BYTES);
+    if (status == ZELAMIKU_OK) status = zelamiku_nbd_read(host, ZELAMIKU_HEAD_BYTES);
     if (status != ZELAMIKU_OK) return zelamiku_nbd_told(host, status);
-    /* No image is so small: of a header alone it is told, and what is none is refused by it. */
-    status = opening(heap, host->image, ZELAMIKU_HEADER_BYTES, zelamiku_nbd_ring(host), told, dropped, count);
-    if (status != ZELAMIKU_TOO_SMALL) return status;
-    uint64_t size = zelamiku_image_size(host->image, host->size);
-    status = zelamiku_nbd_read(host, size);
+    zelamiku_shape shape = {0, 0, 0, 0, 0, 0, 0};
+    status = zelamiku_head(host->image, ZELAMIKU_HEAD_BYTES, &shape);
+    if (status == ZELAMIKU_OK) status = zelamiku_nbd_read(host, shape.size);
     if (status != ZELAMIKU_OK) return zelamiku_nbd_told(host, status);
-    return opening(heap, host->image, (size_t)size, zelamiku_nbd_ring(host), told, dropped, count);
+    return opening(heap, host->image, (size_t)shape.size, zelamiku_nbd_ring(host), told, dropped, count);
 }
 
-/* Flushes the export, reads the image, and opens the heap of it as zelamiku_open_telling does. The calls of its recovery are left to
- * zelamiku_make_calls_nbd. It reads the first block, and where that begins with a header of an image so many bytes as that says, whatever
+/* Flushes the export, reads the image, and opens the heap of it as zelamiku_open does. The calls of its recovery are left to
+ * zelamiku_make_calls_nbd. It reads the first blocks, and where these begin with a header of an image so many bytes as that says, whatever
  * the export's size.
- * As zelamiku_open_telling_rings; and DEVICE: the server has refused a request, or is gone: errno has the cause. The handle is as it was,
+ * As zelamiku_open; and DEVICE: the server has refused a request, or is gone: errno has the cause. The handle is as it was,
  * `told->found` is all 0, and nothing was written. */
 ZELAMIKU_MUST_USE static inline zelamiku_status zelamiku_open_nbd_telling(zelamiku_handle *heap, zelamiku_nbd *host, zelamiku_told *told,
                                                                           zelamiku_dropped *dropped, size_t count) {
-    return zelamiku_nbd_open(heap, host, told, dropped, count, zelamiku_open_telling_rings);
+    return zelamiku_nbd_open(heap, host, told, dropped, count, zelamiku_open);
 }
 
-/* The same, as zelamiku_open does: `found` alone is told. */
+/* The same, and `found` alone is told. */
 ZELAMIKU_MUST_USE static inline zelamiku_status zelamiku_open_nbd(zelamiku_handle *heap, zelamiku_nbd *host, zelamiku_found *found) {
     zelamiku_told told;
     zelamiku_dropped none = {0, 0, 0, 0, 0};
@@ -329,7 +329,7 @@ ZELAMIKU_MUST_USE static inline zelamiku_status zelamiku_open_nbd(zelamiku_handl
 ZELAMIKU_MUST_USE static inline zelamiku_status zelamiku_upgrade_nbd(zelamiku_handle *heap, zelamiku_nbd *host, zelamiku_found *found) {
     zelamiku_told told;
     zelamiku_dropped none = {0, 0, 0, 0, 0};
-    zelamiku_status status = zelamiku_nbd_open(heap, host, &told, &none, 0, zelamiku_upgrade_telling_rings);
+    zelamiku_status status = zelamiku_nbd_open(heap, host, &told, &none, 0, zelamiku_upgrade);
     *found = told.found;
     return status;
 }

@@ -50,7 +50,7 @@ typedef struct {
     zelamiku_device device;
     uint32_t sector; /* bytes: 512 or 4,096 */
     zelamiku_layout layout;
-    uint32_t ring;  /* records of a lane's ring (zelamiku_format_rings): 4,096 to 65,536; 0 is 4,096 */
+    uint32_t ring;  /* records of a lane's ring (zelamiku_format): 4,096 to 65,536; 0 is 4,096 */
     uint8_t *image; /* in whole sectors */
     uint8_t *fresh; /* of each sector: 1 where the area whose turn it is may lack it */
     uint8_t *stale; /* the same of the other area */
@@ -169,15 +169,15 @@ static inline bool zelamiku_sectors_fill(zelamiku_sectors *host) {
 
 /* Reads the image that is on the device. */
 static inline zelamiku_status zelamiku_sectors_load(zelamiku_sectors *host) {
-    uint64_t count = 1;
-    zelamiku_status status = zelamiku_sectors_room(host, 1);
+    uint64_t count = (ZELAMIKU_HEAD_BYTES + host->sector - 1) / host->sector;
+    zelamiku_status status = zelamiku_sectors_room(host, count);
     if (status != ZELAMIKU_OK) return status;
     if (host->layout == ZELAMIKU_IN_PLACE) {
         if (!zelamiku_sectors_fill(host)) return ZELAMIKU_DEVICE;
-        uint64_t size = 0;
-        for (int i = 24; i < 32; i++) size = size << 8 | host->image[i];
-        bool is_image = memcmp(host->image, "MONIHEAP", 8) == 0 && size > 0 && size <= host->device.sectors * host->sector;
-        if (is_image) count = (size + host->sector - 1) / host->sector;
+        zelamiku_shape shape = {0, 0, 0, 0, 0, 0, 0};
+        status = zelamiku_head(host->image, (size_t)(host->count * host->sector), &shape);
+        if (status != ZELAMIKU_OK) return status;
+        count = (shape.size + host->sector - 1) / host->sector;
     } else {
         status = zelamiku_sectors_label(host, host->spare, &count);
         if (status != ZELAMIKU_OK) return status;
@@ -215,13 +215,13 @@ static inline uint32_t zelamiku_sectors_ring(const zelamiku_sectors *host) {
 
 /* Makes a heap as zelamiku_format does, on the device, whose image has zeros then, durably. Its first calls are left to
  * zelamiku_make_calls_sectors. Whatever the device had there is gone.
- * As zelamiku_format_rings: the handle and the device are as they were. TOO_SMALL: the device has too few sectors; NO_MEMORY: so they are too.
+ * As zelamiku_format: the handle and the device are as they were. TOO_SMALL: the device has too few sectors; NO_MEMORY: so they are too.
  * DEVICE: a call of the device has failed; the handle is as it was, and the device may have no image any more, or zeros. */
 ZELAMIKU_MUST_USE static inline zelamiku_status zelamiku_format_sectors(zelamiku_handle *heap, zelamiku_sectors *host, uint32_t objects,
                                                                         const zelamiku_field *fields, size_t count, uint32_t lanes,
                                                                         uint32_t capacity) {
     uint64_t size = 0;
-    zelamiku_status status = zelamiku_format_rings(heap, objects, fields, count, lanes, capacity, zelamiku_sectors_ring(host), &size);
+    zelamiku_status status = zelamiku_format(heap, objects, fields, count, lanes, capacity, zelamiku_sectors_ring(host), &size);
     if (status != ZELAMIKU_OK) return status;
     status = zelamiku_sectors_room(host, (size + host->sector - 1) / host->sector);
     if (status == ZELAMIKU_OK && !zelamiku_sectors_blank(host)) status = ZELAMIKU_DEVICE;
@@ -229,35 +229,36 @@ ZELAMIKU_MUST_USE static inline zelamiku_status zelamiku_format_sectors(zelamiku
     return status;
 }
 
-/* Opens a heap of its bytes: zelamiku_open_rings, or what upgrades. */
-typedef zelamiku_status zelamiku_sectors_opening(zelamiku_handle *heap, const uint8_t *image, size_t size, uint32_t ring,
-                                                 zelamiku_found *found);
-
 /* Flushes the device, reads the image, and opens the heap of it so. */
 static inline zelamiku_status zelamiku_sectors_open(zelamiku_handle *heap, zelamiku_sectors *host, zelamiku_found *found,
-                                                    zelamiku_sectors_opening *opening) {
+                                                    zelamiku_opening *opening) {
     memset(found, 0, sizeof *found);
     /* What an open heap has written and not flushed is in the host's image alone. */
     if (heap->is_open) return ZELAMIKU_OPEN;
     if (!host->device.flush(host->device.at)) return ZELAMIKU_DEVICE;
     zelamiku_status status = zelamiku_sectors_load(host);
     if (status != ZELAMIKU_OK) return status;
-    return opening(heap, host->image, (size_t)(host->count * host->sector), zelamiku_sectors_ring(host), found);
+    zelamiku_told told;
+    zelamiku_dropped none = {0, 0, 0, 0, 0};
+    memset(&told, 0, sizeof told);
+    status = opening(heap, host->image, (size_t)(host->count * host->sector), zelamiku_sectors_ring(host), &told, &none, 0);
+    *found = told.found;
+    return status;
 }
 
 /* Flushes the device, reads the image, and opens the heap of it as zelamiku_open does. The calls of its recovery are left to
  * zelamiku_make_calls_sectors.
- * As zelamiku_open_rings; NOT_FORMATTED, where no label of this sector size is there; TOO_SMALL; NO_MEMORY; and DEVICE: a call of the device has
+ * As zelamiku_open; NOT_FORMATTED, where no label of this sector size is there; TOO_SMALL; NO_MEMORY; and DEVICE: a call of the device has
  * failed, or a sector can't be read. The handle is as it was, and nothing was written. */
 ZELAMIKU_MUST_USE static inline zelamiku_status zelamiku_open_sectors(zelamiku_handle *heap, zelamiku_sectors *host,
                                                                       zelamiku_found *found) {
-    return zelamiku_sectors_open(heap, host, found, zelamiku_open_rings);
+    return zelamiku_sectors_open(heap, host, found, zelamiku_open);
 }
 
 /* The same, as zelamiku_upgrade does: the image has version 2 once zelamiku_make_calls_sectors has made the calls that are left to it. */
 ZELAMIKU_MUST_USE static inline zelamiku_status zelamiku_upgrade_sectors(zelamiku_handle *heap, zelamiku_sectors *host,
                                                                          zelamiku_found *found) {
-    return zelamiku_sectors_open(heap, host, found, zelamiku_upgrade_rings);
+    return zelamiku_sectors_open(heap, host, found, zelamiku_upgrade);
 }
 
 /* Makes all calls of the device that are left, in their order. `made` gets how many there were: a write counts once it is noted, a sync

@@ -71,7 +71,7 @@ static void measure(const char *path, unsigned rounds, unsigned sections, calls 
     }
     for (uint32_t i = 0; i <= LANES; i++) fields[i] = (zelamiku_field){.owner = i, .guard = i};
     uint64_t size = 0;
-    must(zelamiku_format(&heap, LANES + 1, fields, LANES + 1, LANES, CAPACITY, &size), path);
+    must(zelamiku_format(&heap, LANES + 1, fields, LANES + 1, LANES, CAPACITY, ZELAMIKU_LEAST_RING, &size), path);
     if (ftruncate(file, 0) != 0 || ftruncate(file, (off_t)size) != 0 || fsync(file) != 0) exit(2);
     make_calls(&heap, file, which);
     for (uint32_t lane = 0; lane < LANES; lane++) {

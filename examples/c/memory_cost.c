@@ -267,7 +267,7 @@ static void make_heap(zelamiku_handle *heap, uint32_t threads, uint32_t capacity
     zelamiku_field fields[MOST + 1];
     uint64_t size = 0;
     for (uint32_t i = 0; i <= MOST; i++) fields[i] = (zelamiku_field){.owner = i, .guard = i};
-    must(zelamiku_format(heap, MOST + 1, fields, MOST + 1, threads, capacity, &size), "format");
+    must(zelamiku_format(heap, MOST + 1, fields, MOST + 1, threads, capacity, ZELAMIKU_LEAST_RING, &size), "format");
 }
 
 /* The work of one turn, behind which all sections are acknowledged, or the records of all are taken. */

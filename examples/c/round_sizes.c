@@ -137,7 +137,7 @@ int main(int count, char **words) {
     zelamiku_field fields[SHARED + 1];
     for (uint32_t i = 0; i <= SHARED; i++) fields[i] = (zelamiku_field){.owner = i, .guard = i};
     uint64_t size = 0;
-    must(zelamiku_format(&handle, SHARED + 1, fields, SHARED + 1, threads, capacity, &size), words[1]);
+    must(zelamiku_format(&handle, SHARED + 1, fields, SHARED + 1, threads, capacity, ZELAMIKU_LEAST_RING, &size), words[1]);
     int file = open(words[1], O_RDWR | O_CREAT | O_TRUNC | O_CLOEXEC, 0644);
     if (file < 0 || ftruncate(file, (off_t)size) != 0) {
         perror(words[1]);

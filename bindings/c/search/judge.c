@@ -497,11 +497,12 @@ void judge_kept(const judge *it, bool is_all, uint64_t *least) {
 
 void judge_image(judge *it, const uint8_t *image, size_t size, const uint64_t *least) {
     static zelamiku_told told;
+    zelamiku_dropped none = {0};
     zelamiku_handle again = ZELAMIKU_NONE;
     uint64_t values[FIELDS];
     bool was_quiet = search_be_quiet(true), is_told = false;
     for (uint32_t lane = 0; lane < it->lanes; lane++) is_told |= least[lane] > 0;
-    zelamiku_status opened = zelamiku_open_telling(&again, image, size, &told, NULL, 0);
+    zelamiku_status opened = zelamiku_open(&again, image, size, ZELAMIKU_LEAST_RING, &told, &none, 0);
     if (opened == ZELAMIKU_OK) {
         for (uint32_t lane = 0; lane < it->lanes; lane++)
             if (told.kept[lane] < least[lane])

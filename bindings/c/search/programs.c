@@ -512,7 +512,7 @@ static void make_heap(uint32_t heap) {
     judge_begin(it, current->lanes, current->reverts);
     devices[heap].in_call = 0;
     if (is_in_file(heap)) return make_file(it);
-    MUST(zelamiku_format_rings(&handle, OBJECTS, fields, FIELDS, current->lanes, current->capacity, current->ring, &size) == ZELAMIKU_OK, "no heap");
+    MUST(zelamiku_format(&handle, OBJECTS, fields, FIELDS, current->lanes, current->capacity, current->ring, &size) == ZELAMIKU_OK, "no heap");
     device *on = &devices[heap];
     on->fault = heap == 0 ? current->fault : NEVER_FAILS;
     on->fault_at = current->fault_at;

@@ -29,11 +29,11 @@ STEP(zelamiku_end, (zelamiku_handle *session), (session))
 STEP(zelamiku_close, (zelamiku_handle *heap), (heap))
 
 /* A round takes some time for each record, by which the scheduler's C bounds the next one. */
-zelamiku_status __real_zelamiku_round_most(zelamiku_handle *heap, uint64_t most, uint64_t *applied);
-zelamiku_status __wrap_zelamiku_round_most(zelamiku_handle *heap, uint64_t most, uint64_t *applied);
-zelamiku_status __wrap_zelamiku_round_most(zelamiku_handle *heap, uint64_t most, uint64_t *applied) {
+zelamiku_status __real_zelamiku_round(zelamiku_handle *heap, uint64_t most, uint64_t *applied);
+zelamiku_status __wrap_zelamiku_round(zelamiku_handle *heap, uint64_t most, uint64_t *applied);
+zelamiku_status __wrap_zelamiku_round(zelamiku_handle *heap, uint64_t most, uint64_t *applied) {
     search_step();
-    zelamiku_status status = __real_zelamiku_round_most(heap, most, applied);
+    zelamiku_status status = __real_zelamiku_round(heap, most, applied);
     search_pass(*applied * (search_chance() % 100));
     search_step();
     return status;

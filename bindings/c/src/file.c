@@ -1,12 +1,6 @@
 /* The calls of a file: read, write, sync; its lock, and where its path leads. */
 /* ---- the file ---- */
 
-static uint64_t number_in(const uint8_t *bytes, int size) {
-    uint64_t number = 0;
-    for (int i = 0; i < size; i++) number = number << 8 | bytes[i];
-    return number;
-}
-
 static bool write_all(int file, const uint8_t *bytes, uint64_t size, uint64_t at) {
     while (size > 0) {
         ssize_t count = AGAIN(pwrite(file, bytes, size, (off_t)at));
@@ -78,12 +72,4 @@ zelamiku_status zelamiku_make_calls(zelamiku_handle *handle, int descriptor, uin
     if (flags >= 0 && ((flags & O_APPEND) != 0 || (flags & O_ACCMODE) == O_RDONLY)) flags = -1, errno = EBADF;
     *(made != NULL ? made : &none) = 0;
     return flags < 0 ? ZELAMIKU_DEVICE : calls_of_file(handle, descriptor, made != NULL ? made : &none, &syncs);
-}
-
-uint64_t zelamiku_image_size(const uint8_t *header, uint64_t size) {
-    /* Of 32 lanes of 1,048,576 records, and 16,384 fields. */
-    const uint64_t fields = (uint64_t)(ROW_BYTES + CELL_BYTES) * ZELAMIKU_MOST_FIELDS;
-    const uint64_t most = ROWS_AT + fields + 16 * (uint64_t)ZELAMIKU_MOST_LANES * ZELAMIKU_MOST_CAPACITY;
-    uint64_t told = number_in(header + SIZE_AT, 8);
-    return told > most ? ZELAMIKU_HEADER_BYTES : told < size ? told : size;
 }

@@ -40,24 +40,6 @@
     })
 #define COLD __attribute__((noinline, cold)) static
 
-/* Offsets of an image (docs/FORMAT.md): what the host reads of one without the library. */
-enum {
-    GATE_AT = 8, /* open by this byte alone: */
-    OPEN_GATE = 0xa5,
-    FIELDS_AT = 16,
-    CAPACITY_AT = 20,
-    SIZE_AT = 24,
-    SLOTS_AT = 64, /* two, each with a gate at its beginning */
-    SLOT_BYTES = 1048,
-    SEQUENCE_AT = 8, /* in a slot */
-    ROWS_AT = SLOTS_AT + 2 * SLOT_BYTES,
-    ROW_BYTES = 16,
-    MARK_AT = 4, /* in a row, which begins with the guard */
-    OWNER_AT = 6,
-    FIRST_AT = 8,
-    CELL_BYTES = 8
-};
-
 enum {
     BUCKETS = sizeof((zelamiku_news *)NULL)->waiting / sizeof(uint32_t),
     TRIES = 40,           /* before a thread sleeps for a monitor */

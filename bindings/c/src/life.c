@@ -89,11 +89,6 @@ static void set_room(heap *of, uint32_t ring, uint32_t capacity) {
     of->enough = (uint32_t)(of->room - ZELAMIKU_MOST_RECORDS) / 4 * 3;
 }
 
-/* How many records a lane's log takes, by the header of the image. */
-static uint32_t capacity_in(const uint8_t *header) {
-    return (uint32_t)number_in(header + CAPACITY_AT, 4);
-}
-
 /* A place for a heap of this path and plan; NULL: why not. */
 static heap *place_for(const char *path, const zelamiku_plan *plan, const char *call, zelamiku_status *status) {
     heap *of = new_place();
@@ -160,10 +155,10 @@ zelamiku_status zelamiku_heap_start(zelamiku_heap *heap_, const char *name, zela
     of->size = 0;
     of->objects = ZELAMIKU_MOST_OBJECTS;
     of->fields = ZELAMIKU_MOST_FIELDS;
-    uint8_t header[ZELAMIKU_HEADER_BYTES] = {0};
-    uint64_t copied = 0;
+    zelamiku_shape shape = {0};
+    zelamiku_field none = {0};
     uint32_t ring = plan != NULL && plan->ring != 0 ? plan->ring : ZELAMIKU_LEAST_RING;
-    if (zelamiku_copy(handle, 0, header, sizeof header, &copied) == ZELAMIKU_OK) set_room(of, ring, capacity_in(header));
+    if (zelamiku_fields(handle, &shape, &none, 0) == ZELAMIKU_OK) set_room(of, ring, shape.capacity);
     status = begin(of, handle, heap_);
     if (status != ZELAMIKU_OK) {
         free_place(of);

@@ -9,6 +9,7 @@ typedef struct {
     zelamiku_report *report;
     zelamiku_handle handle;
     uint32_t lanes, capacity, ring; /* of the plan */
+    zelamiku_shape shape;           /* what the file begins with */
     char cause[160], cure[160];
 } door;
 
@@ -74,52 +75,51 @@ static bool differs(door *at, uint32_t difference, uint32_t field, uint64_t has,
     return true;
 }
 
-static const uint8_t *row_of(const uint8_t *image, uint32_t field) {
-    return image + ROWS_AT + ROW_BYTES * (size_t)field;
-}
-
 /* What the field has as a fingerprint: the first value of a transient one of object 0, which guards it. 0: it is none. */
-static uint64_t fingerprint_in(const uint8_t *image, uint32_t field) {
-    const uint8_t *row = row_of(image, field);
-    bool is_one = number_in(row, 4) == 0 && row[MARK_AT] != 0 && number_in(row + OWNER_AT, 2) == 0;
-    return is_one ? number_in(row + FIRST_AT, 8) : 0;
+static uint64_t fingerprint_in(const zelamiku_field *field) {
+    return field->guard == 0 && field->owner == 0 && field->is_transient != 0 ? field->first : 0;
 }
 
 /* The heap's fingerprint, for a plan that has one: it lies in one field more than the plan has, the last, which isn't counted from now on.
  * 0: the heap has none, but as many fields as the plan; unless the last of them is the fingerprint of a plan that had a field less, since it
  * has another first value than it is planned to. */
-static uint64_t take_fingerprint(door *at, const uint8_t *image) {
+static uint64_t take_fingerprint(door *at, const zelamiku_field *has) {
     const zelamiku_plan *plan = at->plan;
     uint32_t *fields = &at->report->told.found.fields;
     if (plan->fingerprint == 0 || (*fields != plan->count && *fields != plan->count + 1)) return 0;
-    uint64_t number = fingerprint_in(image, *fields - 1);
+    uint64_t number = fingerprint_in(&has[*fields - 1]);
     if (*fields == plan->count) return number != plan->fields[plan->count - 1].first ? number : 0;
     *fields -= number != 0;
     return number;
 }
 
-static bool differs_in_rows(door *at, const uint8_t *image) {
+static bool differs_in_fields(door *at, const zelamiku_field *has) {
     bool is_other = false;
     for (uint32_t i = 0; !is_other && i < at->plan->count; i++) {
-        const uint8_t *row = row_of(image, i);
         const zelamiku_field *field = &at->plan->fields[i];
-        is_other = differs(at, ZELAMIKU_DIFFERENT_OWNER, i, number_in(row + OWNER_AT, 2), field->owner) ||
-                   differs(at, ZELAMIKU_DIFFERENT_GUARD, i, number_in(row, 4), field->guard) ||
-                   differs(at, ZELAMIKU_DIFFERENT_MARK, i, row[MARK_AT], field->is_transient != 0);
+        is_other = differs(at, ZELAMIKU_DIFFERENT_OWNER, i, has[i].owner, field->owner) ||
+                   differs(at, ZELAMIKU_DIFFERENT_GUARD, i, has[i].guard, field->guard) ||
+                   differs(at, ZELAMIKU_DIFFERENT_MARK, i, has[i].is_transient, field->is_transient != 0);
     }
     return is_other;
 }
 
-/* Whether the image's guard rows (docs/FORMAT.md), numbers and fingerprint are those of the plan. */
-static zelamiku_status compare(door *at, const uint8_t *image) {
+/* Whether the numbers, fields and fingerprint of the heap that was opened are those of the plan. */
+static zelamiku_status compare(door *at) {
     const zelamiku_plan *plan = at->plan;
     const zelamiku_found *found = &at->report->told.found;
-    uint64_t fingerprint = take_fingerprint(at, image);
-    bool is_other = differs(at, ZELAMIKU_DIFFERENT_OBJECTS, 0, found->objects, plan->objects) ||
-                    differs(at, ZELAMIKU_DIFFERENT_COUNT, 0, found->fields, plan->count) ||
-                    differs(at, ZELAMIKU_DIFFERENT_LANES, 0, found->lanes, at->lanes) || differs_in_rows(at, image) ||
-                    (fingerprint != 0 && differs(at, ZELAMIKU_DIFFERENT_FINGERPRINT, 0, fingerprint, plan->fingerprint));
-    return is_other ? refuse(at, ZELAMIKU_OTHER_HEAP, 0) : ZELAMIKU_OK;
+    zelamiku_field *has = (zelamiku_field *)calloc(found->fields, sizeof *has);
+    if (has == NULL) return refuse(at, ZELAMIKU_NO_MEMORY, 0);
+    zelamiku_status status = zelamiku_fields(&at->handle, &at->shape, has, found->fields);
+    uint64_t fingerprint = status == ZELAMIKU_OK ? take_fingerprint(at, has) : 0;
+    if (status == ZELAMIKU_OK &&
+        (differs(at, ZELAMIKU_DIFFERENT_OBJECTS, 0, found->objects, plan->objects) ||
+         differs(at, ZELAMIKU_DIFFERENT_COUNT, 0, found->fields, plan->count) ||
+         differs(at, ZELAMIKU_DIFFERENT_LANES, 0, found->lanes, at->lanes) || differs_in_fields(at, has) ||
+         (fingerprint != 0 && differs(at, ZELAMIKU_DIFFERENT_FINGERPRINT, 0, fingerprint, plan->fingerprint))))
+        status = ZELAMIKU_OTHER_HEAP;
+    free(has);
+    return status == ZELAMIKU_OK ? status : refuse(at, status, 0);
 }
 
 /* How many records a ring holds, where a lane's log takes so many: a record that the log has no room for can't be sent. */
@@ -132,7 +132,7 @@ static uint32_t ring_for(const door *at, uint32_t capacity) {
  * nothing is asked of the device. */
 static zelamiku_status open_bytes(door *at, const uint8_t *image, size_t size, zelamiku_opening *opening) {
     zelamiku_told *told = &at->report->told;
-    uint32_t ring = size < ZELAMIKU_HEADER_BYTES ? at->ring : ring_for(at, capacity_in(image));
+    uint32_t ring = ring_for(at, at->shape.capacity);
     for (size_t room = 256;;) {
         zelamiku_dropped *dropped = (zelamiku_dropped *)calloc(room, sizeof *dropped);
         if (dropped == NULL) return ZELAMIKU_NO_MEMORY;
@@ -149,46 +149,29 @@ static zelamiku_status open_bytes(door *at, const uint8_t *image, size_t size, z
     }
 }
 
-/* Opens the heap of the file's bytes, which are durable. Of a header alone it is told that there are too few, and what is no header is refused
- * by it. NOT_FORMATTED has no message yet. */
+/* Opens the heap of the file's bytes, which are durable. NOT_FORMATTED has no message yet: its first bytes are no header. */
 static zelamiku_status open_image(door *at, uint64_t size) {
-    uint8_t header[ZELAMIKU_HEADER_BYTES] = {0};
+    uint8_t begun[ZELAMIKU_HEAD_BYTES] = {0};
     int file = at->of->file;
-    uint64_t begun = size < sizeof header ? size : sizeof header;
-    if (!read_all(file, header, begun, 0)) return no_file(at, "it can't be read");
-    zelamiku_status status = open_bytes(at, header, (size_t)begun, zelamiku_open_telling_rings);
+    if (!read_all(file, begun, size < sizeof begun ? size : sizeof begun, 0)) return no_file(at, "it can't be read");
+    zelamiku_status status = zelamiku_head(begun, sizeof begun, &at->shape);
     if (status == ZELAMIKU_NOT_FORMATTED) return status;
-    if (status != ZELAMIKU_TOO_SMALL) return refuse(at, status, 0);
-    size_t whole = (size_t)zelamiku_image_size(header, size);
-    uint8_t *image = (uint8_t *)malloc(whole > 0 ? whole : 1);
+    if (status == ZELAMIKU_OK && size < at->shape.size) status = ZELAMIKU_TOO_SMALL;
+    if (status != ZELAMIKU_OK) return refuse(at, status, 0);
+    size_t whole = (size_t)at->shape.size;
+    uint8_t *image = (uint8_t *)malloc(whole);
     if (image == NULL) return refuse(at, ZELAMIKU_NO_MEMORY, 0);
-    status = read_all(file, image, whole, 0) ? open_bytes(at, image, whole, zelamiku_open_telling_rings) : no_file(at, "it can't be read");
+    status = read_all(file, image, whole, 0) ? open_bytes(at, image, whole, zelamiku_open) : no_file(at, "it can't be read");
     if (status == ZELAMIKU_OLD_VERSION && at->plan->upgrades != 0) {
-        status = open_bytes(at, image, whole, zelamiku_upgrade_telling_rings);
+        status = open_bytes(at, image, whole, zelamiku_upgrade);
         at->report->is_upgraded = status == ZELAMIKU_OK;
     }
+    free(image);
     if (at->report->told.bad_lane < ZELAMIKU_NOBODY)
         (void)snprintf(at->cause, sizeof at->cause, "%s: lane %u, place %llu", text_of(status, 0), at->report->told.bad_lane,
                        (unsigned long long)at->report->told.bad_place);
-    if (status == ZELAMIKU_OK)
-        status = compare(at, image);
-    else if (status != ZELAMIKU_DEVICE)
-        (void)refuse(at, status, 0);
-    free(image);
-    return status;
-}
-
-/* How an image begins (docs/FORMAT.md), also one whose making was cut off. */
-static const uint8_t NAME[8] = {'M', 'O', 'N', 'I', 'H', 'E', 'A', 'P'};
-
-/* A file begins with the name and has no heap. If a making in place was cut off before its first control (docs/FORMAT.md, "Making an image"), it
- * has only zeros from here on. 0: it may have had a heap, because a slot of its control is open. */
-static uint64_t zeros_after(const uint8_t *begun) {
-    uint64_t fields = number_in(begun + FIELDS_AT, 4);
-    if (begun[GATE_AT] == OPEN_GATE || fields > ZELAMIKU_MOST_FIELDS) return 0;
-    for (const uint8_t *slot = begun + SLOTS_AT; slot < begun + ROWS_AT; slot += SLOT_BYTES)
-        if (slot[0] == OPEN_GATE && number_in(slot + SEQUENCE_AT, 8) > 0) return 0;
-    return ROWS_AT + fields * (ROW_BYTES + CELL_BYTES);
+    if (status == ZELAMIKU_OK) return compare(at);
+    return status == ZELAMIKU_DEVICE ? status : refuse(at, status, 0);
 }
 
 /* Whether the file has only zeros from there on. */
@@ -203,16 +186,16 @@ static zelamiku_status must_be_zeros(door *at, uint64_t from, uint64_t size) {
     return ZELAMIKU_OK;
 }
 
-/* Whether a heap may replace the file, in which the library has found none: it is empty, has only zeros, or is what a making that was cut off
- * has left. A heap with a changed byte isn't free: its control shows that there was one, or its lanes' areas do. */
+/* Whether a heap may replace the file, in which the library has found none: it is empty, has only zeros, or is what a making in place that was
+ * cut off before its first control has left. A heap with a changed byte isn't free: its control shows that there was one, or its lanes' areas
+ * do. */
 static zelamiku_status must_be_free(door *at, uint64_t size) {
-    uint8_t begun[ROWS_AT] = {0};
-    if (!read_all(at->of->file, begun, size < sizeof begun ? size : sizeof begun, 0)) return no_file(at, "it can't be read");
-    if (memcmp(begun, NAME, sizeof NAME) != 0) return must_be_zeros(at, 0, size);
+    const zelamiku_shape *begun = &at->shape;
+    if (begun->is_damaged == 0 && begun->zeros_from == 0) return must_be_zeros(at, 0, size);
     (void)snprintf(at->cause, sizeof at->cause, "it begins as a heap does, and has none: its first bytes are damaged");
     (void)snprintf(at->cure, sizeof at->cure, "it was left as it is: take the back-up");
-    uint64_t from = zeros_after(begun);
-    zelamiku_status status = from == 0 ? refuse(at, ZELAMIKU_NOT_FORMATTED, 0) : must_be_zeros(at, from, size);
+    if (begun->is_damaged != 0) return refuse(at, ZELAMIKU_NOT_FORMATTED, 0);
+    zelamiku_status status = must_be_zeros(at, begun->zeros_from, size);
     if (status == ZELAMIKU_OK) at->cause[0] = at->cure[0] = 0;
     return status;
 }
@@ -276,7 +259,7 @@ static zelamiku_status format(door *at, uint64_t *size) {
     memcpy(fields, plan->fields, plan->count * sizeof *fields);
     zelamiku_field fingerprint = {.first = plan->fingerprint, .is_transient = 1};
     if (count > plan->count) fields[plan->count] = fingerprint;
-    zelamiku_status status = zelamiku_format_rings(&at->handle, plan->objects, fields, count, at->lanes, at->capacity, ring, size);
+    zelamiku_status status = zelamiku_format(&at->handle, plan->objects, fields, count, at->lanes, at->capacity, ring, size);
     free(fields);
     return status == ZELAMIKU_OK ? status : refuse(at, status, 0);
 }
@@ -341,7 +324,7 @@ static zelamiku_status lock_file(door *at) {
  * one has failed, the system may give what the device hasn't, and no later sync brings it there; that it drops its pages is a request alone.
  * What these bytes count was synced before they were written. A byte that is written with its own value isn't lost (docs/FORMAT.md). */
 static bool write_head_back(int file) {
-    uint8_t head[ROWS_AT];
+    uint8_t head[ZELAMIKU_HEAD_BYTES];
     return read_all(file, head, sizeof head, 0) && write_all(file, head, sizeof head, 0) && sync_file(file);
 }
 

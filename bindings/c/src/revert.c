@@ -226,22 +226,6 @@ zelamiku_status zelamiku_thread_revert(zelamiku_thread thread) {
 
 /* ---- room for it ---- */
 
-/* Reads which guard each field has, and whether it is transient, by the image's guard rows (docs/FORMAT.md). */
-static zelamiku_status read_rows(zelamiku_handle *handle, changes *all) {
-    uint8_t bytes[4096];
-    uint64_t copied = 0;
-    for (uint32_t first = 0; first < all->all; first += sizeof bytes / 16) {
-        zelamiku_status status = zelamiku_copy(handle, 2160 + 16 * (uint64_t)first, bytes, sizeof bytes, &copied);
-        if (status != ZELAMIKU_OK) return status;
-        for (uint32_t i = 0; i < sizeof bytes / 16 && first + i < all->all; i++) {
-            const uint8_t *row = bytes + 16 * (size_t)i;
-            all->fields[first + i].guard = (uint16_t)(row[2] << 8 | row[3]);
-            all->fields[first + i].records = row[4] == 0;
-        }
-    }
-    return ZELAMIKU_OK;
-}
-
 /* Room for all that a section of so many fields may change, so that none allocates; it shares no cache line with another lane's. */
 static changes *new_changes(uint32_t count) {
     const size_t line = 128;
@@ -254,16 +238,27 @@ static changes *new_changes(uint32_t count) {
     return all;
 }
 
+/* Notes which guard each field has, and whether it is transient. */
+static void note_fields(changes *all, const zelamiku_field *fields) {
+    for (uint32_t i = 0; i < all->all; i++) {
+        all->fields[i].guard = (uint16_t)fields[i].guard;
+        all->fields[i].records = fields[i].is_transient == 0;
+    }
+}
+
 /* Every lane keeps what its sections change from now on. It is freed with the heap's place, also after a failure. */
 static zelamiku_status keep_changes(heap *of, zelamiku_handle *handle) {
-    uint8_t header[ZELAMIKU_HEADER_BYTES] = {0};
-    uint64_t copied = 0;
-    zelamiku_status status = zelamiku_copy(handle, 0, header, sizeof header, &copied);
-    uint32_t count = (uint32_t)header[16] << 24 | (uint32_t)header[17] << 16 | (uint32_t)header[18] << 8 | header[19];
+    zelamiku_shape shape = {0};
+    zelamiku_field *fields = (zelamiku_field *)calloc(ZELAMIKU_MOST_FIELDS, sizeof *fields);
+    zelamiku_status status = fields == NULL ? ZELAMIKU_NO_MEMORY : zelamiku_fields(handle, &shape, fields, ZELAMIKU_MOST_FIELDS);
     for (uint32_t lane = 0; status == ZELAMIKU_OK && lane < of->lanes; lane++) {
         seat *own = seat_at(of, lane);
-        own->changes = new_changes(count);
-        status = own->changes == NULL ? ZELAMIKU_NO_MEMORY : read_rows(handle, own->changes);
+        own->changes = new_changes(shape.fields);
+        if (own->changes == NULL)
+            status = ZELAMIKU_NO_MEMORY;
+        else
+            note_fields(own->changes, fields);
     }
+    free(fields);
     return status;
 }

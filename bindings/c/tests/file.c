@@ -237,19 +237,19 @@ static void sizes(void) {
     int file = open("heap", O_RDWR | O_CLOEXEC);
     MUST(pwrite(file, "\xff", 1, 24) == 1);
     most = 0;
-    MUST(open_heap(&heap) == ZELAMIKU_BAD_HEADER && most <= 64);
-    MUST(pwrite(file, "x", 1, 0) == 1 && open_heap(&heap) == ZELAMIKU_NOT_FORMATTED && most <= 64 && close(file) == 0);
+    MUST(open_heap(&heap) == ZELAMIKU_BAD_HEADER && most <= ZELAMIKU_HEAD_BYTES);
+    MUST(pwrite(file, "x", 1, 0) == 1 && open_heap(&heap) == ZELAMIKU_NOT_FORMATTED && most <= ZELAMIKU_HEAD_BYTES && close(file) == 0);
 }
 
 static void read_head(uint8_t *head) {
     int file = open("heap", O_RDONLY | O_CLOEXEC);
-    MUST(file >= 0 && pread(file, head, ROWS_AT, 0) == ROWS_AT && close(file) == 0);
+    MUST(file >= 0 && pread(file, head, ZELAMIKU_HEAD_BYTES, 0) == ZELAMIKU_HEAD_BYTES && close(file) == 0);
 }
 
 /* An opening syncs, writes back what it has read of the header and the control, and syncs, before any other write. Where one of these fails,
  * there is no heap, and the file is as it was. */
 static void openings(void) {
-    uint8_t before[ROWS_AT], after[ROWS_AT];
+    uint8_t before[ZELAMIKU_HEAD_BYTES], after[ZELAMIKU_HEAD_BYTES];
     zelamiku_heap heap;
     life();
     read_head(before);
@@ -258,7 +258,7 @@ static void openings(void) {
     records = 0;
     MUST(step_count > 4 && steps[0].kind == SYNCED && steps[1].kind == WRITTEN && steps[2].kind == SYNCED);
     MUST(steps[3].kind == SYNCED && steps[4].kind == SYNCED); /* the recovery's own first two */
-    MUST(steps[1].at == 0 && steps[1].size == ROWS_AT && memcmp(steps[1].bytes, before, ROWS_AT) == 0);
+    MUST(steps[1].at == 0 && steps[1].size == ZELAMIKU_HEAD_BYTES && memcmp(steps[1].bytes, before, ZELAMIKU_HEAD_BYTES) == 0);
     while (step_count > 0) free(steps[--step_count].bytes);
     MUST(zelamiku_heap_close(heap) == ZELAMIKU_OK);
     read_head(before);
@@ -266,7 +266,7 @@ static void openings(void) {
         fails_in = call;
         MUST(open_heap(&heap) == ZELAMIKU_DEVICE && fails_in == 0 && strstr(zelamiku_heap_message(), "No space left") != NULL);
         read_head(after);
-        MUST(memcmp(before, after, ROWS_AT) == 0);
+        MUST(memcmp(before, after, ZELAMIKU_HEAD_BYTES) == 0);
     }
     MUST(found() == 8);
 }

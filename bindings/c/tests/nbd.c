@@ -329,28 +329,29 @@ static void refusals(void) {
     end(&heap, &host);
 }
 
-/* Of a large export that has no image one block is read, and of one that has, the image. */
+/* Of a large export that has no image the first blocks are read, and of one that has, the image. */
 static void sizes(void) {
     zelamiku_nbd host;
     zelamiku_handle heap = ZELAMIKU_NONE;
     zelamiku_found what = {0};
+    const uint64_t first = (ZELAMIKU_HEAD_BYTES + block - 1) / block * block;
     empty_file((off_t)1 << 40);
     begin(&host);
     bytes_read = most_read_at = most = 0;
-    MUST(zelamiku_open_nbd(&heap, &host, &what) == ZELAMIKU_NOT_FORMATTED && bytes_read == block && most_read_at == block && most <= block);
+    MUST(zelamiku_open_nbd(&heap, &host, &what) == ZELAMIKU_NOT_FORMATTED && bytes_read == first && most_read_at == first && most <= first);
     make_heap(&heap, &host);
     end(&heap, &host);
     begin(&host);
     bytes_read = most_read_at = most = 0;
     MUST(zelamiku_open_nbd(&heap, &host, &what) == ZELAMIKU_OK);
     uint64_t whole = (what.size + block - 1) / block * block;
-    MUST(bytes_read == block + whole && most_read_at == whole && most == whole);
+    MUST(bytes_read == first + whole && most_read_at == whole && most == whole);
     end(&heap, &host);
     /* Its header tells another size. */
     MUST(pwrite(file, "\xff", 1, 24) == 1);
     begin(&host);
     bytes_read = 0;
-    MUST(zelamiku_open_nbd(&heap, &host, &what) == ZELAMIKU_BAD_HEADER && bytes_read == block && !heap.is_open);
+    MUST(zelamiku_open_nbd(&heap, &host, &what) == ZELAMIKU_BAD_HEADER && bytes_read == first && !heap.is_open);
     zelamiku_end_nbd(&host);
     empty_file(SIZE);
     begin(&host);
@@ -477,8 +478,9 @@ static zelamiku_status after_crash(const uint8_t *before, size_t size, size_t co
     memcpy(image, before, size);
     for (size_t i = 0; i < count; i++) lay(image, &asked[i], i < durable || (asked[i].has_flush && i + 1 < count) ? WHOLE : crash);
     zelamiku_handle heap = ZELAMIKU_NONE;
-    zelamiku_found what = {0};
-    zelamiku_status status = zelamiku_open(&heap, image, size, &what);
+    zelamiku_told what = {0};
+    zelamiku_dropped none = {0};
+    zelamiku_status status = zelamiku_open(&heap, image, size, ZELAMIKU_LEAST_RING, &what, &none, 0);
     if (status == ZELAMIKU_OK) *value = load(&heap);
     zelamiku_free(&heap);
     free(image);
@@ -576,10 +578,11 @@ static unsigned gone_on(const uint8_t *before, size_t batch, size_t next, unsign
     for (size_t i = 0; i < batch; i++) lay(image, &asked[i], WHOLE);
     for (size_t i = next; i < asked_count; i++) {
         zelamiku_handle heap = ZELAMIKU_NONE;
-        zelamiku_found what = {0};
+        zelamiku_told what = {0};
+        zelamiku_dropped none = {0};
         lay(image, &asked[i], WHOLE);
         if (asked[i].size > 0 && !asked[i].has_flush) continue;
-        zelamiku_status status = zelamiku_open(&heap, image, (size_t)SIZE, &what);
+        zelamiku_status status = zelamiku_open(&heap, image, (size_t)SIZE, ZELAMIKU_LEAST_RING, &what, &none, 0);
         uint64_t value = status == ZELAMIKU_OK ? load(&heap) : 0;
         zelamiku_free(&heap);
         ++*tried;

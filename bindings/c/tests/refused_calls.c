@@ -267,15 +267,6 @@ static void many_dropped(void) {
     MUST(zelamiku_heap_dropped(heap, 0, all, 1, NULL) == ZELAMIKU_NOTHING && zelamiku_heap_close(heap) == ZELAMIKU_OK);
 }
 
-/* A header's number of bytes is taken where an image may have so many, and the device has them. */
-static void sizes(void) {
-    uint8_t header[ZELAMIKU_HEADER_BYTES] = {0};
-    header[SIZE_AT + 7] = 200;
-    MUST(zelamiku_image_size(header, 300) == 200 && zelamiku_image_size(header, 200) == 200 && zelamiku_image_size(header, 100) == 100);
-    header[SIZE_AT] = 1;
-    MUST(zelamiku_image_size(header, 300) == ZELAMIKU_HEADER_BYTES);
-}
-
 /* ---- what the system refuses by itself ---- */
 
 static zelamiku_heap open_one(const char *path) {
@@ -309,7 +300,7 @@ static void copies(void) {
     MUST(zelamiku_heap_copy(heap, "") == ZELAMIKU_DEVICE && zelamiku_heap_error() == ENOENT);
     forks = true;
     MUST(zelamiku_heap_copy(heap, "copy") == ZELAMIKU_OK && !forks && zelamiku_heap_close(heap) == ZELAMIKU_OK);
-    MUST(zelamiku_format_rings(&handle, OBJECTS_THERE, FIELDS, FIELDS_THERE, 2, 2000, 4096, &size) == ZELAMIKU_OK);
+    MUST(zelamiku_format(&handle, OBJECTS_THERE, FIELDS, FIELDS_THERE, 2, 2000, 4096, &size) == ZELAMIKU_OK);
     int file = open("calls", O_RDWR | O_CREAT | O_CLOEXEC, 0600), appending = open("calls", O_WRONLY | O_APPEND | O_CLOEXEC);
     MUST(zelamiku_make_calls(&handle, appending, &made) == ZELAMIKU_DEVICE && errno == EBADF && made == 0);
     MUST(zelamiku_make_calls(&handle, appending, NULL) == ZELAMIKU_DEVICE && zelamiku_make_calls(&handle, file, NULL) == ZELAMIKU_OK);
@@ -360,7 +351,6 @@ int main(int argc, char **argv) {
     }
     MUST(all > 100);
     many_dropped();
-    sizes();
     copies();
     paths();
     printf("refused calls: %lu, and each was answered or done without\n", all);

@@ -571,7 +571,7 @@ static void other_devices(void) {
     zelamiku_handle handle = ZELAMIKU_NONE;
     zelamiku_plan plan = {.reverts = 1};
     uint64_t size = 0;
-    OK(zelamiku_format(&handle, OBJECTS, fields, FIELDS, LANES, 4096, &size));
+    OK(zelamiku_format(&handle, OBJECTS, fields, FIELDS, LANES, 4096, ZELAMIKU_LEAST_RING, &size));
     OK(zelamiku_heap_start(&all, "a device", &handle, no_calls, NULL, &plan));
     zelamiku_thread own = begin_thread();
     OK(zelamiku_thread_enter(own, 1));
@@ -594,7 +594,7 @@ static void scarce_memory(void) {
         allocations_left = lane;
         MUST(zelamiku_heap_open(&all, "revert.heap", &plan, NULL) == ZELAMIKU_NO_MEMORY && all.number == 0);
         MUST(says("revert.heap: open: there was no memory"));
-        OK(zelamiku_format(&handle, OBJECTS, fields, FIELDS, LANES, 4096, &size));
+        OK(zelamiku_format(&handle, OBJECTS, fields, FIELDS, LANES, 4096, ZELAMIKU_LEAST_RING, &size));
         allocations_left = lane;
         MUST(zelamiku_heap_start(&all, "a device", &handle, no_calls, NULL, &plan) == ZELAMIKU_NO_MEMORY && !handle.is_open && all.number == 0);
     }

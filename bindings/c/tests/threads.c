@@ -144,11 +144,9 @@ static long own_SYS_sched_setattr(int process, void *of, unsigned flags) {
 #define pwrite flaky_pwrite
 #define fdatasync flaky_fdatasync
 #define syscall(number, ...) own_##number(__VA_ARGS__)
-#undef zelamiku_round
 #define zelamiku_round lasting_round
 #include "../zelamiku_threads.c"
 #undef zelamiku_round
-#define zelamiku_round zelamiku_round_most
 #undef syscall
 #undef prctl
 
@@ -1333,7 +1331,7 @@ static void after_a_session(void) {
     uint64_t number = 0;
     pthread_t waiter;
     uint64_t woken = 0;
-    MUST(zelamiku_format(&handle, 2, FIELDS, 3, LANES, 2000, &number) == ZELAMIKU_OK);
+    MUST(zelamiku_format(&handle, 2, FIELDS, 3, LANES, 2000, ZELAMIKU_LEAST_RING, &number) == ZELAMIKU_OK);
     MUST(zelamiku_session(&handle, &session) == ZELAMIKU_OK && zelamiku_try_enter(&session, LIST) == ZELAMIKU_OK);
     MUST(zelamiku_store(&session, COUNT, 7) == ZELAMIKU_OK && zelamiku_exit(&session, LIST) == ZELAMIKU_OK);
     MUST(zelamiku_end(&session) == ZELAMIKU_OK && zelamiku_round(&handle, ZELAMIKU_ALL, &number) == ZELAMIKU_OK);

@@ -578,7 +578,7 @@ static void hosts(void) {
     IS(zelamiku_heap_start(&heap, "host", NULL, no_calls, NULL, NULL), NOTHING, "NULL");
     IS(zelamiku_heap_start(&heap, "host", &handle, NULL, NULL, NULL), NOTHING, "NULL");
     IS(zelamiku_heap_start(&heap, "host", &handle, no_calls, NULL, NULL), NOTHING, "host: ");
-    MUST(zelamiku_format(&handle, OBJECTS, fields, FIELDS, 3, 2000, &size) == ZELAMIKU_OK);
+    MUST(zelamiku_format(&handle, OBJECTS, fields, FIELDS, 3, 2000, ZELAMIKU_LEAST_RING, &size) == ZELAMIKU_OK);
     MUST(zelamiku_session(&handle, &session) == ZELAMIKU_OK);
     IS(zelamiku_heap_start(&heap, "host", &session, no_calls, NULL, NULL), WRONG_KIND, "host: ");
     IS(zelamiku_heap_start(&heap, "host", &handle, no_calls, NULL, NULL), RUNNING, "host: ");
@@ -592,13 +592,70 @@ static void hosts(void) {
     MUST(zelamiku_make_calls(&handle, -1, &made) == ZELAMIKU_DEVICE && errno == EBADF && made == 0);
     MUST(zelamiku_make_calls(NULL, -1, &made) == ZELAMIKU_NOTHING);
     zelamiku_free(&handle);
-    MUST(zelamiku_format(&handle, OBJECTS, fields, FIELDS, 3, 2000, &size) == ZELAMIKU_OK);
+    MUST(zelamiku_format(&handle, OBJECTS, fields, FIELDS, 3, 2000, ZELAMIKU_LEAST_RING, &size) == ZELAMIKU_OK);
     zelamiku_heap second = {1};
     IS(zelamiku_heap_start(&heap, "host", &handle, no_calls, NULL, NULL), OK, "");
     MUST(!handle.is_open);
     IS(zelamiku_heap_start(&second, "host", &handle, no_calls, NULL, NULL), NOTHING, "host: ");
     MUST(second.number == 0);
     IS(zelamiku_heap_close(heap), OK, "");
+}
+
+static bool is_no_shape(const zelamiku_shape *it) {
+    return it->size == 0 && it->zeros_from == 0 && it->objects == 0 && it->fields == 0 && it->lanes == 0 && it->capacity == 0 && it->is_damaged == 0;
+}
+
+/* The shape of the image of which docs/FORMAT.md shows the header, and what other first bytes say. */
+static void heads(void) {
+    static const uint8_t HEADER[32] = {'M', 'O', 'N', 'I', 'H', 'E', 'A', 'P', 0xa5, 2, 0, 0, 0, 0, 0,    4,
+                                       0,   0,   0,   2,   0,   0,   0xf, 0xa0, 0,   0, 0, 0, 0, 1, 0xfc, 0xa0};
+    static uint8_t begun[ZELAMIKU_HEAD_BYTES];
+    zelamiku_shape shape = {1, 1, 1, 1, 1, 1, 1};
+    calls += 10;
+    MUST(zelamiku_head(begun, sizeof begun, &shape) == ZELAMIKU_NOT_FORMATTED && is_no_shape(&shape));
+    memcpy(begun, HEADER, sizeof HEADER);
+    MUST(zelamiku_head(begun, sizeof begun, &shape) == ZELAMIKU_OK && shape.size == 130208 && shape.zeros_from == 0);
+    MUST(shape.objects == 4 && shape.fields == 2 && shape.lanes == 2 && shape.capacity == 4000 && shape.is_damaged == 0);
+    MUST(zelamiku_head(begun, sizeof begun - 1, &shape) == ZELAMIKU_TOO_SMALL && shape.size == 0);
+    MUST(zelamiku_head(begun, 0, &shape) == ZELAMIKU_TOO_SMALL);
+    begun[31] ^= 1; /* it isn't the size of such an image */
+    MUST(zelamiku_head(begun, sizeof begun, &shape) == ZELAMIKU_BAD_HEADER && shape.size == 0 && shape.lanes == 0 && shape.is_damaged == 1);
+    begun[31] ^= 1;
+    begun[8] = 0; /* a closed gate, and no control: its making was cut off */
+    MUST(zelamiku_head(begun, sizeof begun, &shape) == ZELAMIKU_NOT_FORMATTED && shape.is_damaged == 0 && shape.zeros_from == 2160 + 24 * 2);
+    begun[1112] = 0xa5;
+    MUST(zelamiku_head(begun, sizeof begun, &shape) == ZELAMIKU_NOT_FORMATTED && shape.is_damaged == 0 && shape.zeros_from == 2160 + 24 * 2);
+    begun[1127] = 1; /* the sequence of a control that counts */
+    MUST(zelamiku_head(begun, sizeof begun, &shape) == ZELAMIKU_NOT_FORMATTED && shape.is_damaged == 1 && shape.zeros_from == 0);
+    begun[0] = 'm';
+    MUST(zelamiku_head(begun, sizeof begun, &shape) == ZELAMIKU_NOT_FORMATTED && is_no_shape(&shape));
+}
+
+/* What a heap has is what it was made of; of no other handle anything is told. */
+static void shapes(void) {
+    zelamiku_handle handle = ZELAMIKU_NONE, session = ZELAMIKU_NONE;
+    zelamiku_field told[FIELDS + 1];
+    zelamiku_shape shape = {1, 1, 1, 1, 1, 1, 1};
+    uint64_t size = 0;
+    calls += 6;
+    memset(told, 0xff, sizeof told);
+    MUST(zelamiku_fields(&handle, &shape, told, FIELDS) == ZELAMIKU_NOTHING && is_no_shape(&shape));
+    MUST(zelamiku_format(&handle, OBJECTS, fields, FIELDS, 3, 2000, ZELAMIKU_LEAST_RING, &size) == ZELAMIKU_OK);
+    MUST(zelamiku_session(&handle, &session) == ZELAMIKU_OK);
+    MUST(zelamiku_fields(&session, &shape, told, FIELDS) == ZELAMIKU_WRONG_KIND && shape.lanes == 0 && told[0].owner == UINT32_MAX);
+    MUST(zelamiku_fields(&handle, &shape, told, 0) == ZELAMIKU_OK && told[0].owner == UINT32_MAX);
+    MUST(shape.size == size && shape.objects == OBJECTS && shape.fields == FIELDS && shape.lanes == 3 && shape.capacity == 2000);
+    MUST(zelamiku_fields(&handle, &shape, told, FIELDS + 1) == ZELAMIKU_OK);
+    for (unsigned i = 0; i < FIELDS; i++)
+        MUST(told[i].owner == fields[i].owner && told[i].guard == fields[i].guard && told[i].first == fields[i].first &&
+             told[i].is_transient == (fields[i].is_transient != 0));
+    MUST(told[FIELDS].owner == 0 && told[FIELDS].guard == 0 && told[FIELDS].first == 0 && told[FIELDS].is_transient == 0);
+    MUST(zelamiku_end(&session) == ZELAMIKU_OK);
+    MUST(zelamiku_close(&handle) == ZELAMIKU_OK && zelamiku_fields(&handle, &shape, told, 1) == ZELAMIKU_CLOSED && shape.size == 0);
+    zelamiku_free(&session);
+    zelamiku_free(&handle);
+    MUST(zelamiku_format(&handle, OBJECTS, fields, FIELDS, 3, 2000, ZELAMIKU_LEAST_RING - 1, &size) == ZELAMIKU_RING && size == 0);
+    MUST(zelamiku_format(&handle, OBJECTS, fields, FIELDS, 3, 2000, ZELAMIKU_MOST_RING + 1, &size) == ZELAMIKU_RING && !handle.is_open);
 }
 
 /* A full disk leaves no file, and as many heaps as there may be are open. */
@@ -637,6 +694,8 @@ int main(int argc, char **argv) {
     must_exist();
     fingerprints();
     damaged();
+    heads();
+    shapes();
     handles();
     sections();
     limits();

@@ -1,7 +1,6 @@
 """What the tests of a heap share."""
 from __future__ import annotations
 
-import ctypes
 import faulthandler
 import subprocess
 import sys
@@ -13,14 +12,10 @@ from pathlib import Path
 from typing import Any
 
 import zelamiku
-from zelamiku.library import library
 
 # A test that hangs tells where, and ends.
 PATIENCE = 60
 faulthandler.enable()
-
-# A library from before heaps were copied refuses it.
-with_copies = unittest.skipUnless(hasattr(ctypes.CDLL(library().path), "zelamiku_copy"), "the library has no zelamiku_copy")
 
 
 class Account(zelamiku.Object):

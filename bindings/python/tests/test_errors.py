@@ -12,7 +12,7 @@ WITHOUT_A_KIND = {2, 3, 5, 7, 8, 19, 20, 23, 36}
 
 class Kinds(unittest.TestCase):
     def test_each_status_is_an_exception_with_path_cause_and_cure(self):
-        for status in set(range(1, 44)) - WITHOUT_A_KIND:
+        for status in set(range(1, 45)) - WITHOUT_A_KIND:
             with self.subTest(status=status):
                 error = errors.for_status("some.heap", status)
                 self.assertIsNot(type(error), zelamiku.Error)

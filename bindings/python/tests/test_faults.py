@@ -6,7 +6,7 @@ import tempfile
 import unittest
 from pathlib import Path
 
-from support import OnFile, in_process, with_copies
+from support import OnFile, in_process
 
 CASE = """
 import asyncio, errno, os, sys, zelamiku
@@ -83,7 +83,6 @@ class Faults(OnFile):
         with self.open() as heap:
             self.assertIn(self.values(heap), ([101, 100], [111, 100]))
 
-    @with_copies
     def test_a_copy_that_fails_is_told(self):
         self.assertEqual(self.told(COPIES), f"{('CopyFailed', 'ENOSPC')} {('CopyFailed', 'EIO')} None\n")
 

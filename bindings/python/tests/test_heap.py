@@ -8,7 +8,7 @@ import unittest
 import warnings
 
 import zelamiku
-from support import Account, OnFile, Queue, in_process, in_thread, with_copies
+from support import Account, OnFile, Queue, in_process, in_thread
 from zelamiku.library import FieldRow, library
 
 
@@ -538,7 +538,6 @@ class Living(OnFile):
                 if os.path.exists(path):
                     os.remove(path)
 
-    @with_copies
     def test_a_copy_of_a_heap_that_runs_has_what_was_durable(self):
         copy = self.folder / "copy.heap"
         with self.open() as heap:
@@ -568,7 +567,6 @@ class Living(OnFile):
                 for thread in threads:
                     thread.join()
 
-    @with_copies
     def test_a_copy_that_can_not_be_written(self):
         with self.open() as heap:
             kept = self.folder / "kept"

@@ -110,7 +110,7 @@ fn the_header_and_this_crate_have_the_same_names_and_texts() {
 
 // Of the header: `#define ZELAMIKU_NAME NUMBER`.
 fn header_number(name: &str) -> u64 {
-    let header = read("../c/zelamiku.h");
+    let header = read("../c/zelamiku.h") + &read("../c/zelamiku_core.h");
     let start = format!("#define ZELAMIKU_{name} ");
     let rest = header.lines().find_map(|line| line.strip_prefix(&start));
     let rest = rest.unwrap_or_else(|| panic!("{name} isn't in the header"));
@@ -156,6 +156,7 @@ fn the_header_has_the_limits_and_numbers_of_the_library() {
         ("MOST_THIN_LOCKS", "steps/src/limits.rt", "THIN_LOCKS"),
         ("MOST_FAT", "lock_word/src/lock_word.rt", "FAT_SLOTS"),
         ("MOST_BYTES", "deferred_disk/src/call.rt", "MOST_BYTES"),
+        ("HEAD_BYTES", "image/src/layout.rt", "HEAD_BYTES"),
         ("MOST_SLOTS", "pool/src/pool.rt", "MOST_SLOTS"),
         ("NO_SLOT", "zelamiku/src/pool_calls.rt", "NO_SLOT"),
         ("NOBODY", "zelamiku/src/session_calls.rt", "NOBODY"),

@@ -12,7 +12,7 @@ use Rattle.hosted_heap.specs.Closing.{IsNotClosed}
 use Rattle.hosted_heap.specs.Hosting.{Hosting, IsClosedWith, SameHeap, hosted_device}
 use Rattle.hosted_heap.specs.Lanes.{IsAwaitedBy, IsJoinedHere}
 use Rattle.hosted_heap.specs.Meeting.{AreAllMade, FetchesAll, SameButMet}
-use Rattle.hosted_heap.specs.Opening.{HasRings, IsFound, IsMade, RefusesMaking, RefusesOpening}
+use Rattle.hosted_heap.specs.Opening.{HasRings, IsMade, RefusesMaking}
 use Rattle.hosted_heap.specs.Rounds.{HasRound}
 use Rattle.hosted_heap.specs.Sessions.{Seated}
 use Rattle.hosted_heap.specs.declared.closing.Closed.{Closed}
@@ -30,7 +30,6 @@ use Rattle.image.specs.Layout.{size_of}
 use Rattle.image.specs.declared.guard_row.GuardRow.{GuardRow}
 use Rattle.image.specs.declared.layout.Layout.{Layout}
 use Rattle.recover.specs.declared.report.Report.{Report}
-use Rattle.recover.specs.declared.versions.Versions.{Versions}
 use Rattle.session.specs.Sessions.{view_of}
 use Rattle.steps.specs.Views.{plan}
 use Rattle.store_past.specs.Past.{Past}
@@ -70,12 +69,12 @@ pub data RefusesFormat (objects : ℕ) (fields : List Field) (lanes capacity sta
   NoRoom : lanes ≤ 255 → status ≡ NO_MEMORY → RefusesFormat objects fields lanes capacity status
   NotMade : (e : HostError) → lanes ≤ 255 → RefusesMaking objects (rows_of fields) lanes capacity e → status ≡ host_status e → RefusesFormat objects fields lanes capacity status
 
--- `zelamiku_format_marked` with rings of the usual room, and `zelamiku_format_rings` with rings of this room, where nothing was behind the handle:
--- a heap of these objects and fields, with the size of its image; or none
+-- `zelamiku_format`, where nothing was behind the handle: a heap of these objects and fields, with rings of this room, and the size of its image;
+-- or none, of size 0
 pub data FormatsAt (ring objects : ℕ) (fields : List Field) (lanes capacity size : ℕ) (after : Held) (status : ℕ) : Type 0 where
   IsFormatted : (x : Hosting) → IsMade objects (rows_of fields) lanes capacity x → HasRings ring x → size ≡ size_of x.helper.store.known.layout → after ≡ heap_behind x → status ≡ OK
       → FormatsAt ring objects fields lanes capacity size after status
-  NotFormatted : RefusesFormat objects fields lanes capacity status → after ≡ nothing_behind → FormatsAt ring objects fields lanes capacity size after status
+  NotFormatted : RefusesFormat objects fields lanes capacity status → size ≡ 0 → after ≡ nothing_behind → FormatsAt ring objects fields lanes capacity size after status
 
 -- what C is told of a heap with this layout, and of what recovery reports
 abbrev pub found_of : Layout → Report → Found
@@ -83,25 +82,6 @@ found_of l report = record { size = size_of l; objects = l.objects; fields = l.f
 
 abbrev pub nothing_found : Found
 nothing_found = record { size = 0; objects = 0; fields = 0; lanes = 0; capacity = 0; dropped = 0; undone = 0 }
-
--- the heap runs with what recovery finds in these bytes, an image of one of these versions, with rings of this room, and this is told of it
-pub record IsOpened (ring : ℕ) (versions : Versions) (bytes : List ℕ) (x : Hosting) (found : Found) : Type 0 where
-  pub report : Report
-  pub recovered : IsFound versions bytes x report
-  pub rings : HasRings ring x
-  pub told : found ≡ found_of x.helper.store.known.layout report
-
--- why no heap is opened
-pub record RefusesOpen (versions : Versions) (bytes : List ℕ) (status : ℕ) : Type 0 where
-  pub why : HostError
-  pub refuses : RefusesOpening versions bytes why
-  pub told : status ≡ host_status why
-
--- `zelamiku_open` of the current version, and `zelamiku_upgrade` of both, with rings of the usual room, and `zelamiku_open_rings` and
--- `zelamiku_upgrade_rings` with rings of this room, where nothing was behind the handle: the heap that recovery finds in these bytes, or none
-pub data OpensAt (ring : ℕ) (versions : Versions) (bytes : List ℕ) (found : Found) (after : Held) (status : ℕ) : Type 0 where
-  IsOpen : (x : Hosting) → IsOpened ring versions bytes x found → after ≡ heap_behind x → status ≡ OK → OpensAt ring versions bytes found after status
-  NotOpen : RefusesOpen versions bytes status → after ≡ nothing_behind → OpensAt ring versions bytes found after status
 
 -- the session of the next lane, which was told nothing, is joined to the helper and comes back where it is awaited, and the heap that handed
 -- it out
@@ -185,7 +165,7 @@ MakesCallAt other after status = (status ≡ WRONG_KIND) × (after ≡ behind ot
 abbrev pub bound_of : (most : ℕ) → Option ℕ
 bound_of most = if most == ALL then None else Some most
 
--- `zelamiku_round_most`
+-- `zelamiku_round`
 abbrev pub RoundsAt : (most applied : ℕ) → Open → (after : Held) → (status : ℕ) → Type 0
 RoundsAt most applied (kind.Heap x) after status =
     (y : Hosting) × (answer : Result ℕ RoundError) × HasRound (bound_of most) x y answer × IsSeen round_status answer applied status × (after ≡ heap_behind y)

@@ -12,5 +12,7 @@ pub mod PoolDoors
 pub mod HeapStatuses
 pub mod HeapDoors
 pub mod ReportDoors
-pub mod RingDoors
+pub mod OpeningDoors
+pub mod HeadDoors
+pub mod LayoutDoors
 pub mod CopyDoors

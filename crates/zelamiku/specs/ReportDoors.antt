@@ -62,11 +62,10 @@ pub record TellsNothing (told : Told) (dropped : List Dropped) : Type 0 where
   pub told_is : told ≡ nothing_told
   pub none : TellsEach [] dropped
 
--- `zelamiku_open_telling` of the current version, and `zelamiku_upgrade_telling` of both, with rings of the usual room, and
--- `zelamiku_open_telling_rings` and `zelamiku_upgrade_telling_rings` with rings of this room, where nothing was behind the handle: the heap that
+-- `zelamiku_open` of the current version, and `zelamiku_upgrade` of both, with rings of this room, where nothing was behind the handle: the heap that
 -- recovery finds in these bytes, and what it reports; or none, and why
-pub data OpensTelling (ring : ℕ) (versions : Versions) (bytes : List ℕ) (told : Told) (dropped : List Dropped) (after : Held) (status : ℕ) : Type 0 where
-  IsOpenTold : (x : Hosting) (report : Report) → IsFound versions bytes x report → HasRings ring x → told ≡ told_of x.helper.store.known.layout report → TellsEach report.dropped.items dropped
-      → after ≡ heap_behind x → status ≡ OK → OpensTelling ring versions bytes told dropped after status
-  NotOpenTold : (why : HostError) → RefusesOpening versions bytes why → told ≡ told_of_refusal why → TellsEach [] dropped → after ≡ nothing_behind → status ≡ host_status why
-      → OpensTelling ring versions bytes told dropped after status
+pub data OpensAt (ring : ℕ) (versions : Versions) (bytes : List ℕ) (told : Told) (dropped : List Dropped) (after : Held) (status : ℕ) : Type 0 where
+  IsOpen : (x : Hosting) (report : Report) → IsFound versions bytes x report → HasRings ring x → told ≡ told_of x.helper.store.known.layout report → TellsEach report.dropped.items dropped
+      → after ≡ heap_behind x → status ≡ OK → OpensAt ring versions bytes told dropped after status
+  NotOpen : (why : HostError) → RefusesOpening versions bytes why → told ≡ told_of_refusal why → TellsEach [] dropped → after ≡ nothing_behind → status ≡ host_status why
+      → OpensAt ring versions bytes told dropped after status

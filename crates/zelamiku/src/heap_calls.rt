@@ -3,7 +3,7 @@ ghost use Rattle.std.specs.Prelude.{◌≡◌, ◌≢◌, Some, None, IfErr, IfO
 ghost use Rattle.std.specs.Option.{option_copied};
 ghost use Rattle.hosted_heap.specs.Opening.{HasRings, IsMade};
 ghost use Rattle.zelamiku.specs.Behind.{Answers, behind, heap_behind, session_behind};
-ghost use Rattle.zelamiku.specs.HeapDoors.{AcknowledgesAt, ClosesAt, HandsOne, HandsOutAt, HasAcknowledged, IsOpened, MakesCallAt, RefusesFormat, RefusesOpen, RoundsAt, TellsNextAt, filled_of, found_of, nothing_found, rows_of, told_of};
+ghost use Rattle.zelamiku.specs.HeapDoors.{AcknowledgesAt, ClosesAt, HandsOne, HandsOutAt, HasAcknowledged, MakesCallAt, RefusesFormat, RoundsAt, TellsNextAt, filled_of, found_of, nothing_found, rows_of, told_of};
 ghost use Rattle.zelamiku.specs.HeapDoors as doors;
 ghost use Rattle.zelamiku.specs.declared.status.TheConstants.{NONE_LEFT, OK};
 
@@ -17,7 +17,7 @@ use hosted_heap::{AcknowledgedError, HostedHeap, HostedSession, NotClosed};
 use hosted_life::host_law;
 use image::GuardRow;
 use lane_rings::RingRecords;
-use recover::{Report, Versions};
+use recover::Report;
 use std::alloc::{AllocError, Global};
 
 /// No bound on the records of a round.
@@ -69,25 +69,7 @@ fn row_of(field: Field) -> GuardRow
     }
 }
 
-/// The heap of these bytes, an image of one of these versions, with rings of this room, and what recovery found in them.
-pub fn open(
-    alloc: Global,
-    bytes: &[u8],
-    versions: Versions,
-    ring: RingRecords,
-) -> Result<(HostedHeap, Found), u32>
-    ensures ok { IfOk result (λ r. IsOpened ring versions bytes.now r.0 r.1) }
-    ensures refused { IfErr result (RefusesOpen versions bytes.now) }
-{
-    match hosted_heap::open_with(alloc, bytes, versions, ring) {
-        Ok((heap, report)) => {
-            let found = found_in(&heap, &report);
-            Ok((heap, found))
-        }
-        Err(refusal) => Err(status::of_host(refusal)),
-    }
-}
-
+/// What C is told of a heap of which recovery reports this.
 pub(crate) fn found_in(heap: &HostedHeap, report: &Report) -> Found
     ensures { result ≡ found_of heap.now.helper.store.known.layout report.now }
 {

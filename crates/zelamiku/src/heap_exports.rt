@@ -1,137 +1,14 @@
 //! What C calls of a heap. Each export is one call of `heap_calls` on the heap of the handle.
 ghost use Rattle.std.specs.Prelude.{◌≡◌, ◌≢◌, None};
-ghost use Rattle.heap_model.specs.declared.limits.TheConstants.{RING_RECORDS};
 ghost use Rattle.zelamiku.specs.Behind.{Answers};
 ghost use Rattle.zelamiku.specs.Ended.{still_behind};
-ghost use Rattle.zelamiku.specs.HeapDoors.{AcknowledgesAt, ClosesAt, FormatsAt, HandsOut, MakesCallAt, OpensAt, PutsNew, RoundsAt, TellsNextAt, nothing_found, told_of};
-ghost use Rattle.recover.specs.declared.versions.Versions.TheVariants.{Current, Both};
+ghost use Rattle.zelamiku.specs.HeapDoors.{AcknowledgesAt, ClosesAt, HandsOut, MakesCallAt, RoundsAt, TellsNextAt, told_of};
 ghost use Rattle.zelamiku.specs.declared.status.TheConstants.{OK};
 
-use crate::slot::{Slot, is_taken, let_go, put_new};
-use crate::state::Open;
-use crate::words::{Call, Field, Found};
+use crate::slot::{Slot, is_taken, let_go};
+use crate::words::Call;
 use crate::{heap_calls, status};
-use lane_rings::RingRecords;
-use recover::Versions;
 use std::alloc::Global;
-
-/// Makes a heap and opens it, with rings of the usual room. A program whose fields have no mark, from before there were transient ones,
-/// calls another name.
-#[unsafe(no_mangle)]
-pub extern "C" fn zelamiku_format_marked(
-    alloc: Global,
-    place: &mut Slot,
-    objects: u32,
-    fields: &[Field],
-    lanes: u32,
-    capacity: u32,
-    size: &mut u64,
-) -> u32
-    // A heap is made of exactly the objects and fields that C declares, each with its owner, its guard and its first
-    // value, and the image's size is told. Each lane's ring has room for 4,096 records. More than 255 lanes are refused
-    // before all else but `OPEN`. A handle with something behind it is answered `OPEN` and keeps it.
-    ensures told { PutsNew (FormatsAt RING_RECORDS objects fields.now lanes capacity size.new) (still_behind place.old.handle.state) place.new.handle.state result }
-    // Where no heap is made the size is 0.
-    ensures refused { result ≢ OK → size.new ≡ 0 }
-{
-    let ring = RingRecords::usual();
-    format_at(alloc, place, objects, fields, lanes, capacity, ring, size)
-}
-
-/// Makes a heap and opens it, with rings of this room.
-pub(crate) fn format_at(
-    alloc: Global,
-    place: &mut Slot,
-    objects: u32,
-    fields: &[Field],
-    lanes: u32,
-    capacity: u32,
-    ring: RingRecords,
-    size: &mut u64,
-) -> u32
-    ensures told { PutsNew (FormatsAt ring objects fields.now lanes capacity size.new) (still_behind place.old.handle.state) place.new.handle.state result }
-    ensures refused { result ≢ OK → size.new ≡ 0 }
-{
-    *size = 0;
-    if is_taken(alloc, place) {
-        return status::OPEN;
-    }
-    match heap_calls::format(alloc, objects, fields, lanes, capacity, ring) {
-        Ok(heap) => {
-            let bytes = heap.size();
-            let Ok(()) = put_new(alloc, place, Open::Heap(heap)) else {
-                return status::NO_MEMORY;
-            };
-            *size = bytes;
-            status::OK
-        }
-        Err(answer) => answer,
-    }
-}
-
-/// Recovers a heap and opens it, with rings of the usual room.
-#[unsafe(no_mangle)]
-pub extern "C" fn zelamiku_open(
-    alloc: Global,
-    place: &mut Slot,
-    image: &[u8],
-    found: &mut Found,
-) -> u32
-    // A heap is opened with what recovery finds in the bytes. Its layout is told, with how many sections were dropped
-    // and how many fields took an old value back. Each lane's ring has room for 4,096 records. A handle with something
-    // behind it is answered `OPEN` and keeps it.
-    ensures told { PutsNew (OpensAt RING_RECORDS Current image.now found.new) (still_behind place.old.handle.state) place.new.handle.state result }
-    // Where no heap is opened all that is told is 0.
-    ensures refused { result ≢ OK → found.new ≡ nothing_found }
-{
-    let ring = RingRecords::usual();
-    open_at(alloc, place, Versions::Current, image, ring, found)
-}
-
-/// Upgrades a heap and opens it, with rings of the usual room.
-#[unsafe(no_mangle)]
-pub extern "C" fn zelamiku_upgrade(
-    alloc: Global,
-    place: &mut Slot,
-    image: &[u8],
-    found: &mut Found,
-) -> u32
-    // An upgrade opens a heap as an opening does, from an image of either version.
-    ensures told { PutsNew (OpensAt RING_RECORDS Both image.now found.new) (still_behind place.old.handle.state) place.new.handle.state result }
-    // Where no heap is opened all that is told is 0.
-    ensures refused { result ≢ OK → found.new ≡ nothing_found }
-{
-    let ring = RingRecords::usual();
-    open_at(alloc, place, Versions::Both, image, ring, found)
-}
-
-/// Recovers a heap of one of these versions and opens it, with rings of this room.
-pub(crate) fn open_at(
-    alloc: Global,
-    place: &mut Slot,
-    versions: Versions,
-    image: &[u8],
-    ring: RingRecords,
-    found: &mut Found,
-) -> u32
-    ensures told { PutsNew (OpensAt ring versions image.now found.new) (still_behind place.old.handle.state) place.new.handle.state result }
-    ensures refused { result ≢ OK → found.new ≡ nothing_found }
-{
-    *found = heap_calls::nothing_found();
-    if is_taken(alloc, place) {
-        return status::OPEN;
-    }
-    match heap_calls::open(alloc, image, versions, ring) {
-        Ok((heap, opened)) => {
-            let Ok(()) = put_new(alloc, place, Open::Heap(heap)) else {
-                return status::NO_MEMORY;
-            };
-            *found = opened;
-            status::OK
-        }
-        Err(answer) => answer,
-    }
-}
 
 /// Hands out a session.
 #[unsafe(no_mangle)]
@@ -185,10 +62,9 @@ pub extern "C" fn zelamiku_call_done(place: &mut Slot) -> u32
     heap_calls::call_done(place.handle.as_mut())
 }
 
-/// A round of the helper, of at most `most` records, or of any number by [`ALL`](heap_calls::ALL). A program whose rounds tell no bound,
-/// from before there was one, calls another name.
+/// A round of the helper, of at most `most` records, or of any number by [`ALL`](heap_calls::ALL).
 #[unsafe(no_mangle)]
-pub extern "C" fn zelamiku_round_most(place: &mut Slot, most: u64, applied: &mut u64) -> u32
+pub extern "C" fn zelamiku_round(place: &mut Slot, most: u64, applied: &mut u64) -> u32
     // A round does what the heap's round does, by the bound that C gives, and 2^64 - 1 is no bound. It tells how many
     // records it applied or why it stopped. `CALLS_LEFT` is answered exactly where there may be no room for its calls,
     // and nothing was done.

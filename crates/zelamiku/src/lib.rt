@@ -7,14 +7,16 @@
 mod copy_calls;
 mod copy_exports;
 mod handle;
+mod head_calls;
 mod heap_calls;
 mod heap_exports;
+mod layout_calls;
+mod layout_exports;
 mod loose;
+mod opening_exports;
 mod pool_calls;
 mod pool_exports;
 mod report_calls;
-mod report_exports;
-mod ring_exports;
 mod session_calls;
 mod session_exports;
 mod slot;
@@ -27,16 +29,12 @@ mod words;
 
 pub use copy_exports::zelamiku_copy;
 pub use heap_exports::{
-    zelamiku_acknowledged, zelamiku_call_done, zelamiku_close, zelamiku_format_marked,
-    zelamiku_free, zelamiku_next_call, zelamiku_open, zelamiku_round_most, zelamiku_session,
-    zelamiku_upgrade,
+    zelamiku_acknowledged, zelamiku_call_done, zelamiku_close, zelamiku_free, zelamiku_next_call,
+    zelamiku_round, zelamiku_session,
 };
+pub use layout_exports::{zelamiku_fields, zelamiku_head};
+pub use opening_exports::{zelamiku_format, zelamiku_open, zelamiku_upgrade};
 pub use pool_exports::{zelamiku_pool_fields, zelamiku_pool_give, zelamiku_pool_take};
-pub use report_exports::{zelamiku_open_telling, zelamiku_upgrade_telling};
-pub use ring_exports::{
-    zelamiku_format_rings, zelamiku_open_rings, zelamiku_open_telling_rings,
-    zelamiku_upgrade_rings, zelamiku_upgrade_telling_rings,
-};
 pub use session_exports::{
     zelamiku_begin_wait, zelamiku_end, zelamiku_exit, zelamiku_lane, zelamiku_load, zelamiku_look,
     zelamiku_notify, zelamiku_notify_all, zelamiku_round_sections, zelamiku_store,

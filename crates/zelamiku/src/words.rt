@@ -57,6 +57,23 @@ pub struct Dropped {
     pub after_lane: u32,
 }
 
+/// What the first bytes of a device say: which image they begin, if they are the header of one.
+#[repr(C)]
+#[derive(Clone, Copy)]
+pub struct Head {
+    /// The bytes of the image.
+    pub size: u64,
+    /// Where there is no image: from this byte on a device that is free has zeros.
+    pub zeros_from: u64,
+    pub objects: u32,
+    pub fields: u32,
+    pub lanes: u32,
+    /// The records that a lane's area holds.
+    pub capacity: u32,
+    /// 1: they begin as an image does, and there may have been one. So the device isn't free, whatever comes after them.
+    pub is_damaged: u32,
+}
+
 /// A call of the device.
 #[repr(C)]
 #[derive(Clone, Copy)]

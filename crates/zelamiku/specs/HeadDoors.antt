@@ -1,0 +1,55 @@
+-- What C is told of the first bytes of a device: whose image they begin, or whether there may have been one (this project's own).
+use Rattle.std.specs.Prelude.{ℕ, ◌≡◌, ◌<◌, ◌≤◌, ◌+◌, ◌*◌, ◌^◌, List, length}
+use Rattle.std.specs.Int.{from_be_bytes, w32}
+use Rattle.block_disk.specs.Bytes.{part}
+use Rattle.image.specs.Header.{HasHeader, IsFormatted, name}
+use Rattle.image.specs.Layout.{size_of}
+use Rattle.image.specs.Slots.{body, gate, sequence_of}
+use Rattle.image.specs.declared.layout.Layout.{Layout}
+use Rattle.image.specs.declared.slot.Slot.{Slot}
+use Rattle.zelamiku.specs.declared.status.TheConstants.{BAD_HEADER, NOT_FORMATTED, OK, TOO_SMALL}
+use Rattle.zelamiku.specs.declared.words.Head.{Head}
+
+-- there is no image, and no sign that there was one
+abbrev pub no_head : Head
+no_head = record { size = 0; zeros_from = 0; objects = 0; fields = 0; lanes = 0; capacity = 0; is_damaged = 0 }
+
+-- there may have been one
+abbrev pub damaged_head : Head
+damaged_head = record { size = 0; zeros_from = 0; objects = 0; fields = 0; lanes = 0; capacity = 0; is_damaged = 1 }
+
+-- one was being made, whose areas begin there
+abbrev pub begun_head : (zeros_from : ℕ) → Head
+begun_head zeros_from = record { size = 0; zeros_from = zeros_from; objects = 0; fields = 0; lanes = 0; capacity = 0; is_damaged = 0 }
+
+-- there is one of this layout
+abbrev pub head_of : Layout → Head
+head_of l = record { size = size_of l; zeros_from = 0; objects = l.objects; fields = l.fields; lanes = l.lanes; capacity = l.capacity; is_damaged = 0 }
+
+-- the image's name stands there
+abbrev pub IsNamed : List ℕ → Type 0
+IsNamed begun = part 0 8 begun ≡ name
+
+-- how many fields the header says, whatever its gate
+abbrev pub fields_in : List ℕ → ℕ
+fields_in begun = from_be_bytes w32 (part 16 4 begun)
+
+-- no slot of the control counts that has a sequence, as one has from the making of a heap on
+abbrev pub HasNoControl : List ℕ → Type 0
+HasNoControl begun = (s : Slot) → gate s begun ≡ 165 → sequence_of (body s begun) ≡ 0
+
+-- A making in place that was cut off before its first control may leave these bytes, and zeros behind the rows and cells of so many fields.
+pub record IsBegun (begun : List ℕ) : Type 0 where
+  pub named : IsNamed begun
+  pub shut : IsFormatted begun → ⊥
+  pub uncontrolled : HasNoControl begun
+  pub fields : fields_in begun ≤ 16384
+
+-- `zelamiku_head`
+pub data TellsHead (begun : List ℕ) (head : Head) (status : ℕ) : Type 0 where
+  IsShort : length begun < 2160 → head ≡ no_head → status ≡ TOO_SMALL → TellsHead begun head status
+  IsImage : (l : Layout) → 2160 ≤ length begun → HasHeader begun l → head ≡ head_of l → status ≡ OK → TellsHead begun head status
+  IsNoHeader : 2160 ≤ length begun → IsFormatted begun → ((l : Layout) → HasHeader begun l → ⊥) → head ≡ damaged_head → status ≡ BAD_HEADER → TellsHead begun head status
+  IsOther : 2160 ≤ length begun → (IsNamed begun → ⊥) → head ≡ no_head → status ≡ NOT_FORMATTED → TellsHead begun head status
+  IsMaking : 2160 ≤ length begun → IsBegun begun → head ≡ begun_head (2160 + 24 * fields_in begun) → status ≡ NOT_FORMATTED → TellsHead begun head status
+  IsDamaged : 2160 ≤ length begun → IsNamed begun → (IsFormatted begun → ⊥) → (IsBegun begun → ⊥) → head ≡ damaged_head → status ≡ NOT_FORMATTED → TellsHead begun head status

@@ -1,0 +1,40 @@
+-- What C is told of what an open heap has: its layout, and its fields (this project's own).
+use Rattle.std.specs.Prelude.{ℕ, ◌≡◌, ◌<◌, ◌≤◌, List, length}
+use Rattle.std.specs.List.{slice_index_or}
+use Rattle.block_disk.specs.Bytes.{part}
+use Rattle.hosted_life.specs.Copies.{copy_of}
+use Rattle.image.specs.Guards.{SpellsGuard, mark_of}
+use Rattle.image.specs.Layout.{guard_at}
+use Rattle.image.specs.declared.guard_row.GuardRow.{GuardRow}
+use Rattle.zelamiku.specs.Behind.{behind, closed_behind, heap_behind, stopped_behind}
+use Rattle.zelamiku.specs.HeadDoors.{head_of}
+use Rattle.zelamiku.specs.Own.{Held}
+use Rattle.zelamiku.specs.declared.state.Open.{Open}
+use Rattle.zelamiku.specs.declared.state.Open.TheVariants as kind
+use Rattle.zelamiku.specs.declared.status.TheConstants.{CLOSED, OK, STOPPED, WRONG_KIND}
+use Rattle.zelamiku.specs.declared.words.Field.{Field}
+use Rattle.zelamiku.specs.declared.words.Head.{Head}
+
+-- a field as C sees it, by its guard row
+abbrev pub field_of : GuardRow → Field
+field_of r = record { owner = r.owner.0; guard = r.guard.0; first = r.first; transient = mark_of r.transient }
+
+-- what stands where a heap has no more fields
+abbrev pub no_field : Field
+no_field = record { owner = 0; guard = 0; first = 0; transient = 0 }
+
+-- a field is told as the image's guard row of it spells it, of so many fields, and as none behind them
+abbrev pub TellsField : (image : List ℕ) (count f : ℕ) (told : Field) → Type 0
+TellsField image count f told = (f < count → (r : GuardRow) → SpellsGuard (part (guard_at f) 16 image) r → told ≡ field_of r) × (count ≤ f → told ≡ no_field)
+
+-- each is
+abbrev pub TellsFields : (image : List ℕ) (count : ℕ) (told : List Field) → Type 0
+TellsFields image count told = (f : ℕ) (d : Field) → f < length told → TellsField image count f (slice_index_or told f d)
+
+-- `zelamiku_fields`: of a heap that runs its layout is told, and as many of its fields as there is room for, and it stays as it was
+abbrev pub TellsLayoutAt : (head : Head) (fields : List Field) → Open → (after : Held) → (status : ℕ) → Type 0
+TellsLayoutAt head fields (kind.Heap x) after status =
+    (head ≡ head_of x.helper.store.known.layout) × TellsFields (copy_of x.helper.store.disk) x.helper.store.known.layout.fields fields × (status ≡ OK) × (after ≡ heap_behind x)
+TellsLayoutAt head fields (kind.Closed x) after status = (status ≡ CLOSED) × (after ≡ closed_behind x)
+TellsLayoutAt head fields (kind.Stopped word) after status = (status ≡ STOPPED) × (after ≡ stopped_behind word)
+TellsLayoutAt head fields other after status = (status ≡ WRONG_KIND) × (after ≡ behind other)

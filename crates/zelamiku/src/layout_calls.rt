@@ -1,0 +1,111 @@
+//! What an open heap has, on what is behind a handle.
+ghost use Rattle.std.specs.Prelude.{◌≡◌, ◌≢◌, ◌≤◌, ◌+◌, Some, length};
+ghost use Rattle.std.specs.Int.{from_be_bytes, w16};
+ghost use Rattle.block_disk.specs.Bytes.{part};
+ghost use Rattle.hosted_life.specs.Copies.{copy_of};
+ghost use Rattle.image.specs.Guards.{FitsGuard, SpellsGuard, guard_bytes};
+ghost use Rattle.image.specs.declared.guard_row.GuardRow.{GuardRow as Row};
+ghost use Rattle.zelamiku.specs.Behind.{Answers, behind};
+ghost use Rattle.zelamiku.specs.HeadDoors.{no_head};
+ghost use Rattle.zelamiku.specs.HeadDoors as heads;
+ghost use Rattle.zelamiku.specs.LayoutDoors.{TellsField, TellsFields, TellsLayoutAt, field_of};
+ghost use Rattle.zelamiku.specs.declared.status.TheConstants.{OK};
+
+use crate::head_calls::{nothing, u32_at, u64_at};
+use crate::state::{Inner, Open};
+use crate::status;
+use crate::words::{Field, Head};
+use heap_model::FieldId;
+use hosted_heap::HostedHeap;
+use image::Layout;
+
+/// Tells a heap's layout, and its fields, as many as there is room for; and the status.
+pub fn tell(state: &Inner, fields: &mut [Field]) -> (Head, u32)
+    ensures told { Answers (TellsLayoutAt result.0 fields.new) (Some state.now) (Some state.now) result.1 }
+    ensures refused { result.1 ≢ OK → result.0 ≡ no_head }
+    ensures kept { result.1 ≢ OK → fields.new ≡ fields.old }
+{
+    tell_of(&state.open, fields)
+}
+
+fn tell_of(found: &Open, fields: &mut [Field]) -> (Head, u32)
+    ensures told { TellsLayoutAt result.0 fields.new found.now (behind found.now) result.1 }
+    ensures refused { result.1 ≢ OK → result.0 ≡ no_head }
+    ensures kept { result.1 ≢ OK → fields.new ≡ fields.old }
+{
+    match found {
+        Open::Heap(heap) => {
+            tell_fields(heap, heap.layout(), fields);
+            (head_of(heap), status::OK)
+        }
+        Open::Closed(_) => (nothing(), status::CLOSED),
+        Open::Stopped(_) => (nothing(), status::STOPPED),
+        _ => (nothing(), status::WRONG_KIND),
+    }
+}
+
+fn head_of(heap: &HostedHeap) -> Head
+    ensures { result ≡ heads.head_of heap.now.helper.store.known.layout }
+{
+    let layout = heap.layout();
+    Head {
+        size: heap.size(),
+        objects: layout.objects,
+        fields: layout.fields,
+        lanes: u32::from(layout.lanes),
+        capacity: layout.capacity,
+        ..nothing()
+    }
+}
+
+fn tell_fields(heap: &HostedHeap, layout: Layout, fields: &mut [Field])
+    ensures { TellsFields (copy_of heap.now.helper.store.disk) layout.fields fields.new }
+{
+    for (i, entry) in fields.iter_mut().enumerate() {
+        *entry = told_at(heap, layout, i);
+    }
+}
+
+// The field of this number.
+fn told_at(heap: &HostedHeap, layout: Layout, field: usize) -> Field
+    ensures { TellsField (copy_of heap.now.helper.store.disk) layout.fields field result }
+{
+    if field >= layout.fields as usize {
+        return Field {
+            owner: 0,
+            guard: 0,
+            first: 0,
+            transient: 0,
+        };
+    }
+    field_at(heap, layout.guard_row(FieldId(field as u32)))
+}
+
+// The field whose row is at this place of the image.
+fn field_at(heap: &HostedHeap, at: u64) -> Field
+    ensures { (r : Row) → SpellsGuard (part at 16 (copy_of heap.now.helper.store.disk)) r → result ≡ field_of r }
+{
+    let mut row = [0; 16];
+    let _ = heap.copy_from(at, &mut row);
+    field_in(&row)
+}
+
+fn field_in(row: &[u8; 16]) -> Field
+    ensures { (r : Row) → FitsGuard r → row.now ≡ guard_bytes r → result ≡ field_of r }
+{
+    Field {
+        owner: u32::from(u16_at(row, 6)),
+        guard: u32_at(row, 0),
+        first: u64_at(row, 8),
+        transient: u32::from(row[4]),
+    }
+}
+
+// The number in the two bytes from `at` on, the highest first.
+fn u16_at(bytes: &[u8], at: usize) -> u16
+    requires { at + 2 ≤ length bytes.now }
+    ensures { result ≡ from_be_bytes w16 (part at 2 bytes.now) }
+{
+    let two = &bytes[at..at + 2];
+    u16::from_be_bytes([two[0], two[1]])
+}
