@@ -153,9 +153,9 @@ static void run_info(client *c) {
                         "# Server\r\nserver_name:counters_server\r\nzelamiku_version:%s\r\nkeys:%" PRIu32 "\r\n"
                         "# Clients\r\nconnected_clients:%" PRIu32 "\r\nmaxclients:%" PRIu32 "\r\n"
                         "# Stats\r\ntotal_commands_processed:%" PRIu64 "\r\nrounds:%" PRIu64 "\r\nsyncs:%" PRIu64 "\r\n"
-                        "sections_durable:%" PRIu64 "\r\nwrites_failed:%" PRIu64 "\r\n",
+                        "sections_durable:%" PRIu64 "\r\nwrites_failed:%" PRIu64 "\r\ntimes_without_room:%" PRIu64 "\r\n",
                         ZELAMIKU_VERSION, key_count, client_count, most_clients, commands_run, stats.rounds, stats.syncs, stats.sections,
-                        stats.troubles);
+                        stats.troubles, times_behind);
     assert(size > 0 && (size_t)size < sizeof text);
     say_bulk(&c->out, text, (size_t)size);
 }
@@ -275,7 +275,7 @@ static bool enter(uint32_t monitors) {
         uint32_t object = (uint32_t)__builtin_ctz(left);
         /* The first one takes room for a whole section. */
         zelamiku_status status = left == monitors ? zelamiku_thread_try_enter(own, object) : zelamiku_thread_enter(own, object);
-        if (status == ZELAMIKU_BEHIND) return is_behind = true, false;
+        if (status == ZELAMIKU_BEHIND) return times_behind++, is_behind = true, false;
         must(status);
     }
     return true;

@@ -86,7 +86,7 @@ static bool is_deaf, is_stopping;
 static uint64_t now;                /* nanoseconds, when the turn began */
 static uint64_t patience;           /* the same, until a client that doesn't read is cut off */
 static uint32_t client_count, most_clients = 1000;
-static uint64_t commands_run;
+static uint64_t commands_run, times_behind;
 static int poll_file, listener, event, signals; /* the last three are known by their addresses there */
 static clients idle = TAILQ_HEAD_INITIALIZER(idle), work = TAILQ_HEAD_INITIALIZER(work), waiting = TAILQ_HEAD_INITIALIZER(waiting);
 static word words[MOST_WORDS];      /* of the command that is run */

@@ -11,6 +11,7 @@ none is named:
     compare  the same bytes to a real redis-server, and 10,000 random commands (1,000 with --few): no answer may differ
     clients  redis-cli, redis-benchmark and python3-redis
     rude     clients that don't read, send halves, leave, or are too many; a server that gets no descriptors
+    room     clients that send more in a round than the lane has room for: each count is done once, and nobody waits for long
     faults   syncs that fail or hang, writes that fail, a stop meanwhile
     mutated  10,000 altered streams (600 with --few) under the sanitizers of addresses and of undefined behaviour
     kills    by kill -9, under 100 clients (300 kills, 6 with --few): no acknowledged INCR is lost, and no transaction is there by half. A
@@ -681,6 +682,35 @@ def many_clients(tried):
     must(server.stop() == 0, "stop")
 
 
+# ---- room ----
+
+
+def slow_syncs(tried, microseconds):
+    """The variables by which each sync is a sleep of so long."""
+    library = f"{tried.work}/syncs.so"
+    subprocess.run(["cc", "-O2", "-shared", "-fPIC", f"{TOP}/examples/c/peers_syncs.c", "-o", library], check=True)
+    return {"LD_PRELOAD": library, "SYNCS": f"{tried.work}/syncs", "SYNCS_TAKE": str(microseconds)}
+
+
+def room(tried):
+    server = Server(tried.program, f"{tried.work}/room", env=slow_syncs(tried, 50000))
+    told, text = [], request("INCR", "k:0") * 4000
+    began = time.monotonic()
+    senders = [threading.Thread(target=lambda: told.append(whole(server, text, 60.0))) for _ in range(40)]
+    for sender in senders:
+        sender.start()
+    for sender in senders:
+        sender.join()
+    took = time.monotonic() - began
+    counts = sorted(int(it[1:]) for answers_of in told for it in answers_of.split(b"\r\n")[:-1])
+    must(counts == list(range(1, 160001)), f"{len(counts)} counts, {counts[:3]} to {counts[-3:]}")
+    found = re.search(rb"times_without_room:(\d+)\r\n", whole(server, b"INFO\r\n"))
+    must(int(found.group(1)) > 0, "there was always room: nothing was tested")
+    must(took < 30, f"{took:.0f} s")
+    must(server.stop() == 0, "stop")
+    return f"160,000 counts of 40 clients, {int(found.group(1))} times without room"
+
+
 # ---- faults ----
 
 
@@ -952,9 +982,7 @@ def rate_of(address, count, depth, seconds):
 def rate(tried):
     if not shutil.which("redis-server") or not shutil.which("redis-benchmark"):
         return "no redis-server or no redis-benchmark: nothing was measured"
-    library = f"{tried.work}/syncs.so"
-    subprocess.run(["cc", "-O2", "-shared", "-fPIC", f"{TOP}/examples/c/peers_syncs.c", "-o", library], check=True)
-    env = {"LD_PRELOAD": library, "SYNCS": f"{tried.work}/syncs", "SYNCS_TAKE": "2000"}
+    env = slow_syncs(tried, 2000)
     keys, rows, seen = [f"k:{n:012}" for n in range(10000)], [(c, d) for d in (1, 16) for c in (1, 50, 500, 1000)], {}
     for number in range(3):
         for row in rows:
@@ -979,7 +1007,7 @@ def rate(tried):
     return "INCRs a second\n" + "\n".join(lines) + "\n"
 
 
-PARTS = [answers, others, compare, clients, rude, faults, mutated, kills, rate]
+PARTS = [answers, others, compare, clients, rude, room, faults, mutated, kills, rate]
 
 
 def main():
