@@ -410,7 +410,7 @@ static void tries() {
     Session session(heap), other(heap);
     const Guard alice = session.enter(accounts.alice);
     const auto begin = std::chrono::steady_clock::now();
-    MUST(!other.try_enter(accounts.alice).has_value() && !other.try_enter(accounts.alice, -1h).has_value());
+    MUST(!other.try_enter(accounts.alice).has_value() && !other.try_enter(accounts.alice, std::chrono::nanoseconds::min()).has_value());
     MUST(!other.try_enter(accounts.alice, 20ms).has_value());
     MUST(std::chrono::steady_clock::now() - begin >= 20ms);
     MUST(other.try_enter(accounts.bob, std::chrono::nanoseconds::max()).has_value());
