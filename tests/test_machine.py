@@ -118,7 +118,7 @@ class Script:
         it = cls(heap)
         for _ in range(chance.randrange(40)):
             it.step(chance)
-            if chance.random() < 0.1:
+            if chance.random() > 0.9:
                 chance.choice([it.log, it.settle])()
         if chance.random() < 0.7:
             it.settle()
@@ -145,7 +145,7 @@ class Life:
 
     def format(self, chance):
         """Made anew, in one place or two."""
-        is_placed = chance.random() < 0.3
+        is_placed = chance.random() > 0.7
         words = ["format", "--image", self.image, "--schema", self.schema, "--lanes", "2", *(["--sectors", "4096"] if is_placed else [])]
         assert run(words).status == 0
         self.heap, self.kept = [0, 0, 0], [0, 0]
@@ -170,7 +170,7 @@ class Life:
         new = list(self.heap)
         for place, value in values:
             new[place] = value
-        if chance.random() < 0.2:
+        if chance.random() > 0.8:
             self.killed(words, chance, [(new, [1, 0])])
             return
         assert self.reported(run(words))[-1] == "acknowledged 1 0"
@@ -205,7 +205,7 @@ class Life:
         is_back = crash is not None and "back" in crash
         # A crash that goes back leaves the cut of some settle, or what recovery found.
         may = script.cuts if is_back else script.cuts[-1:]
-        if chance.random() < 0.2:
+        if chance.random() > 0.8:
             self.killed(words, chance, may, text)
             return
         lines = self.reported(run(words, text))
@@ -222,7 +222,7 @@ class Life:
         if any(value + more > most for value, more in zip(self.heap, grown)):
             self.set_small()
         new = [value + more for value, more in zip(self.heap, grown)]
-        if chance.random() < 0.5:
+        if chance.random() > 0.5:
             ended = kill(start(words), chance.uniform(0, 0.15))
             assert ended.status in (0, -signal.SIGKILL), ended
             self.grown_by_workers(new)
@@ -247,7 +247,7 @@ class Life:
 
     def recover(self, chance):
         words = self.words(chance.choice(["recover", "upgrade"]))
-        if chance.random() < 0.3:
+        if chance.random() > 0.7:
             self.killed(words, chance, [(self.heap, [0, 0])])
             return
         assert self.reported(run(words)) == []
@@ -300,7 +300,8 @@ class Machine(unittest.TestCase):
     @unittest.skipUnless(hypothesis, "no hypothesis (Debian: python3-hypothesis)")
     def test_hypothesis_finds_no_other_image(self):
         settings = {"max_examples": tries(5), "stateful_step_count": STEPS, "deadline": None, "database": None, "print_blob": False}
-        suppressed = list(hypothesis.HealthCheck.all())
+        check = hypothesis.HealthCheck
+        suppressed = [check.too_slow, check.data_too_large, check.large_base_example, check.filter_too_much]
         stateful.run_state_machine_as_test(machine(), settings=hypothesis.settings(suppress_health_check=suppressed, **settings))
 
 

@@ -403,7 +403,8 @@ class Machine(OnFile):
                 self.be_patient()
                 is_cut = self.life(truth, Choices(choices), seconds, is_cut)
 
-        suppressed = list(hypothesis.HealthCheck.all())
+        check = hypothesis.HealthCheck
+        suppressed = [check.too_slow, check.data_too_large, check.large_base_example, check.filter_too_much]
         how = hypothesis.settings(max_examples=LIVES // 4, deadline=None, database=None, suppress_health_check=suppressed)
         how(hypothesis.given(lives)(live))()
 
