@@ -29,8 +29,8 @@
  * each case. DEVICE is not the end: a write has failed, as on a full disk. Nothing is lost, and the write is made
  * again by the next call that waits for a round, and by the helper each second.
  *
- * Rules. One call at a time has a thread's handle, but for those of which it says "any thread may". No call comes from a signal handler, and
- * no thread is cancelled in one. Handles are numbers: they may be copied, kept, and handed to other threads.
+ * Rules. Use a thread's handle in one call at a time, except in calls of which it says "any thread may". No call comes from a signal handler,
+ * and no thread is cancelled in one. Handles are numbers: they may be copied, kept, and handed to other threads.
  *
  * This is C over the proved library. Nothing proves it; docs/TESTED.md says how it is tested. */
 #ifndef ZELAMIKU_H
@@ -73,8 +73,8 @@ extern "C" {
 /* What a call answers. zelamiku_status_text has a text of each. */
 typedef enum {
     ZELAMIKU_OK = 0,
-    ZELAMIKU_NOTHING = 1,         /* nothing is behind the handle, or a session that has ended */
-    ZELAMIKU_OPEN = 2,            /* the handle that is to be opened has something behind it */
+    ZELAMIKU_NOTHING = 1,         /* the handle is not open, or its use has ended; or a pointer is NULL */
+    ZELAMIKU_OPEN = 2,            /* the handle that is to be opened is open */
     ZELAMIKU_WRONG_KIND = 3,      /* a session where a heap is wanted, or a heap where a session is */
     ZELAMIKU_NO_MEMORY = 4,       /* there was no memory */
     ZELAMIKU_WAITING = 5,         /* the session waits for a monitor: it can do nothing but resume */
@@ -104,7 +104,7 @@ typedef enum {
     ZELAMIKU_BAD_CONTROL = 29,    /* the image's control can't be read */
     ZELAMIKU_BAD_RECORD = 30,     /* the image has a record that can't be read */
     ZELAMIKU_ILLEGAL_LOG = 31,    /* no threads can have left the image's log */
-    ZELAMIKU_DEVICE = 32,         /* of the hosts: a call of the file, the server or the sectors has failed */
+    ZELAMIKU_DEVICE = 32,         /* of the hosts: a call of the file or the device has failed */
     ZELAMIKU_LOST = 33,           /* of the hosts: a sync has failed, or the connection has ended, and the heap has stopped */
     ZELAMIKU_BUSY = 34,           /* of a heap by its name: another open of the file has its heap, or the file was replaced or removed */
     ZELAMIKU_STOPPED = 35,        /* the heap has stopped since the host told the proved library that it couldn't make a sync */
@@ -240,7 +240,6 @@ typedef struct {
 /* Why the last round came. */
 enum {
     ZELAMIKU_ROUND_NONE = 0,
-    ZELAMIKU_ROUND_OPENING = 1, /* the calls of opening and making */
     ZELAMIKU_ROUND_AWAITED = 2, /* a thread waits for its sections */
     ZELAMIKU_ROUND_ROOM = 3,    /* a thread has no room for a section's records */
     ZELAMIKU_ROUND_FULL = 4,    /* a lane has sent three quarters of what its ring or its log takes */
@@ -306,13 +305,12 @@ int zelamiku_heap_error(void);
  * zelamiku_format answer, leave a file that was there as it was, and no file where there was none; but where a new heap's folder can't be
  * synced (DEVICE) a file that was free may be one with the heap. NONE_LEFT: 255 heaps are open. NO_MEMORY: no memory, or no thread could be
  * started. */
-#define zelamiku_heap_open zelamiku_heap_open_2 /* the plan's layout: a program of an older header, whose plans are shorter, doesn't link */
 ZELAMIKU_MUST_USE zelamiku_status zelamiku_heap_open(zelamiku_heap *heap, const char *path, const zelamiku_plan *plan,
                                                      zelamiku_report *report);
 
-/* Sections that recovery dropped, by lane and then by number, from that one on: `told` gets how many were written into `dropped`. */
+/* Sections that recovery dropped, by lane and then by number, from that one on: `written` gets how many of them are in `dropped` now. */
 ZELAMIKU_MUST_USE zelamiku_status zelamiku_heap_dropped(zelamiku_heap heap, size_t from, zelamiku_dropped *dropped, size_t count,
-                                                        size_t *told);
+                                                        size_t *written);
 
 /* Closes the heap, whose sections have all ended, once all are durable. Threads that have lanes still are answered CLOSED.
  * RUNNING: a section is open, or a thread waits. DEVICE: a write has failed. The heap goes on in both cases. What the heap has ended with:
@@ -327,20 +325,21 @@ ZELAMIKU_MUST_USE zelamiku_status zelamiku_heap_stop(zelamiku_heap heap);
  * until that thread calls again. */
 ZELAMIKU_MUST_USE zelamiku_status zelamiku_heap_abandon(zelamiku_heap heap);
 
-/* Writes a copy of the heap, of a moment between two rounds, to the path: beside it (PATH.heapctl-new, at the end of links), synced, and renamed
- * over what is there, which is locked until then. Threads go on meanwhile. Opening the copy gives all that was durable when the call began. A
- * copy that a kill has cut off leaves the file beside, which the next copy or making there takes up.
- * DEVICE: the copy can't be written: what is at the path stays. So it is for each heap that has no file. Where the
- * message says that the folder can't be synced, the new copy is at the path, and a power failure may bring back what was there before.
- * NO_MEMORY. BUSY: a heap of that path is open, this one or another, or something else is made there now. */
+/* Writes a copy of the heap, of a moment between two rounds, to the path: beside it (PATH.heapctl-new, at the end of links), synced, and
+ * renamed over what is there, which is locked until then. Threads go on meanwhile. Opening the copy gives all that was durable when the
+ * call began. A copy that a kill has cut off leaves the file beside, which the next copy or making there takes up. DEVICE: the copy can't
+ * be written: what is at the path stays. Where the message says that the folder can't be synced, the new copy is at the path, and a power
+ * failure may bring back what was there before. NO_MEMORY. BUSY: a heap of that path is open, this one or another, or something else is
+ * made there now. */
 ZELAMIKU_MUST_USE zelamiku_status zelamiku_heap_copy(zelamiku_heap heap, const char *path);
 
 ZELAMIKU_MUST_USE zelamiku_status zelamiku_heap_stats(zelamiku_heap heap, zelamiku_stats *stats);
 
-/* Which threads sleep for monitors now, and who has them, by lane: `told` gets how many were written into `waits`. There are
- * ZELAMIKU_MOST_LANES at most. Threads that wait for a notification aren't among them. Nothing is done to a circle: of its threads one that
- * has a deadline gives up, or the heap is stopped. The log hook is told of each circle once, after one of its threads has slept for a second. */
-ZELAMIKU_MUST_USE zelamiku_status zelamiku_heap_waits(zelamiku_heap heap, zelamiku_wait *waits, size_t count, size_t *told);
+/* Which threads sleep for monitors now, and who has them, by lane: `written` gets how many of them are in `waits` now. There are
+ * ZELAMIKU_MOST_LANES at most. Threads that wait for a notification aren't among them. Nothing is done to a circle: of its threads one
+ * that has a deadline gives up, or the heap is stopped. The log hook is told of each circle once, after one of its threads has slept for
+ * a second. */
+ZELAMIKU_MUST_USE zelamiku_status zelamiku_heap_waits(zelamiku_heap heap, zelamiku_wait *waits, size_t count, size_t *written);
 
 /* Sleeps until more rounds than `seen` have ended, or until the deadline: nanoseconds of CLOCK_MONOTONIC, as zelamiku_now tells them, or
  * ZELAMIKU_NO_DEADLINE. `rounds` gets how many have. It asks for a round where a section has ended that none has taken. Any thread may
@@ -349,6 +348,51 @@ ZELAMIKU_MUST_USE zelamiku_status zelamiku_heap_waits(zelamiku_heap heap, zelami
 ZELAMIKU_MUST_USE zelamiku_status zelamiku_heap_await_round(zelamiku_heap heap, uint64_t seen, uint64_t deadline, uint64_t *rounds);
 
 uint64_t zelamiku_now(void);
+
+/* ---- a device of your own ----
+ *
+ * A heap needn't lie in a file. Whatever has bytes that are read, written and synced can keep one: a volume, an NBD export
+ * (zelamiku_nbd.h), a region of another file. The host gives four functions, and the library calls them as SQLite calls a VFS. Each
+ * answers
+ *   OK      it is done
+ *   DEVICE  it isn't, and may be tried again. What the device has kept it keeps; of the bytes of this write it has any, or none
+ *   LOST    it isn't, and no later call may follow: the connection is gone, or what was written since the last sync may be. Every other
+ *           answer is taken for this one
+ * and sets errno to the cause (else EIO is told). What they are to do:
+ *   read    fills all of `bytes` with what is at the place: what was written there last, whether it was synced or not
+ *   write   takes all of the bytes. They needn't be durable before the next sync. None is longer than 65,536 bytes, and few are aligned
+ *   sync    returns OK once all that was written before is durable, so that no crash and no loss of power loses it. A device that answers
+ *           DEVICE must have kept what was written since the last sync that was OK: it is asked to sync again, and the writes aren't
+ *           repeated. A system's fdatasync has not: its failure is LOST
+ *   size    tells how many bytes there are, from 0 on. They don't get fewer while the heap is open
+ * Between two syncs each range that is written may hold any bytes after a crash, and every other byte stays: docs/FORMAT.md, "What the
+ * device keeps", says which devices promise that.
+ *
+ * What an error leaves. While a heap is opened: no heap, and zelamiku_heap_open_on answers DEVICE with the cause. Later DEVICE is no end:
+ * the call that failed is made again, by the next thread that waits for a round and by the helper each second, and after it the others,
+ * in order. LOST ends the heap; what was durable before stays.
+ *
+ * From which threads. `read` and `size` are called by the thread that opens the heap; `write` and `sync` by it, and then by any thread
+ * that waits for a round, closes or stops the heap, or by the helper's. Two calls never come at once, nor after the heap's close, stop or
+ * abandon has returned, nor in a child that was forked. No mutex of the library is held meanwhile. A function calls nothing of its heap.
+ *
+ * A call may take long, or hang. Threads go on until they have no room for a section. A stop answers at once all that sleep for monitors
+ * or for room; itself, and threads that await sections, go on once the call has returned. Nothing takes a call back. */
+typedef struct {
+    zelamiku_status (*read)(void *context, uint64_t at, void *bytes, size_t size);
+    zelamiku_status (*write)(void *context, uint64_t at, const void *bytes, size_t size);
+    zelamiku_status (*sync)(void *context);
+    zelamiku_status (*size)(void *context, uint64_t *size);
+    void *context; /* handed to each; it stays until the heap's close, stop or abandon has returned */
+} zelamiku_device;
+
+/* Opens the heap of the device as zelamiku_heap_open opens that of a file, and makes one where the device is free, in place: as many
+ * bytes as the heap takes are zeros, or what a making that was cut off has left. Whatever comes after these bytes is never looked at.
+ * `name` stands for the path in messages. Nothing is locked: one heap at a time is on a device, and nobody else writes it. As
+ * zelamiku_heap_open, but never BUSY. TOO_SMALL: the device has fewer bytes than the heap takes, and stays as it is. NOT_FORMATTED: it
+ * isn't free; so as to make a heap over what is there, write zeros over it first. */
+ZELAMIKU_MUST_USE zelamiku_status zelamiku_heap_open_on(zelamiku_heap *heap, const char *name, const zelamiku_device *device,
+                                                        const zelamiku_plan *plan, zelamiku_report *report);
 
 /* ---- a thread's use of it ---- */
 
@@ -421,8 +465,8 @@ uint64_t zelamiku_thread_durable(zelamiku_thread thread);
 uint64_t zelamiku_thread_earlier(zelamiku_thread thread);
 
 /* Sleeps until all sections that the thread has ended are durable: it asks for a round, and sleeps on while a section that one of them
- * depends on is open. UNFINISHED: the thread has a section open: exit its monitors before. DEVICE: a write has failed: call again. At the
- * heap's end: they weren't durable before, or the end has cut off a section that was open. */
+ * depends on is open. UNFINISHED: the thread has a section open: exit its monitors before. DEVICE: a write has failed: call again. If the
+ * heap has ended: the sections did not become durable, or the end has cut off one that was open. */
 ZELAMIKU_MUST_USE zelamiku_status zelamiku_thread_await(zelamiku_thread thread);
 
 /* The same for the first `sections` of them (ZELAMIKU_ALL_SECTIONS, or more than have ended: all), and until the deadline at most;
@@ -496,6 +540,7 @@ ZELAMIKU_HAS_SIZE(zelamiku_plan, 72);
 ZELAMIKU_HAS_SIZE(zelamiku_report, 344);
 ZELAMIKU_HAS_SIZE(zelamiku_stats, 88);
 ZELAMIKU_HAS_SIZE(zelamiku_wait, 16);
+ZELAMIKU_HAS_SIZE(zelamiku_device, 40);
 #endif
 
 #ifdef __cplusplus

@@ -12,10 +12,8 @@
  *  - no call comes from a signal handler, or in a child that was forked by a process with threads.
  * Everything else is answered by a status. No call waits, blocks, starts a thread or panics; each out-parameter is always set.
  *
- * The device. The proved library has no file: it works in memory, and asks the host to write and sync. On a file of the system
- * zelamiku.h does that, with a scheduler for threads; on a network block device zelamiku_nbd.h; on whole sectors
- * zelamiku_sectors.h. Elsewhere zelamiku_next_call tells the next call, the host makes it on a device
- * of its own (a volume, a ring of requests), and zelamiku_call_done says that it has:
+ * The device. The proved library has no file: it works in memory, and asks its host, the scheduler, to write and sync. zelamiku_next_call tells
+ * the next call, the host makes it, and zelamiku_call_done says that it has:
  *     uint8_t buffer[ZELAMIKU_MOST_BYTES];
  *     zelamiku_call call = {0};
  *     for (;;) {
@@ -28,7 +26,7 @@
  *         if (zelamiku_call_done(&heap) != ZELAMIKU_OK) return -1;
  *     }
  * A write that fails may be made again: the same call is told again. Only on the same device, though: over a connection that was made anew,
- * what was answered since the last sync may be gone, so all of it is written again, or the heap let go (zelamiku_nbd.h does so).
+ * what was answered since the last sync may be gone, so all of it is written again, or the heap let go.
  * A sync that fails may not be made again, nor any later call. What was written before it may be lost, though the file still reads
  * as it was written, and though a later sync succeeds: systems drop the pages that they couldn't write. Told of it by
  * zelamiku_call_failed, the library lets the heap go: each later call of it answers ZELAMIKU_STOPPED, and so does each session that
@@ -39,7 +37,7 @@
  * device of sectors, and the system's page cache, write the neighbours of a range again too, so there it holds exactly where rewriting a
  * durable byte with its own value can't lose it (SQLite's powersafe overwrite). NVMe promises that of a logical block, and replicated Ceph
  * RBD does; ATA and SCSI don't, nor drives without power-loss protection, nor parity RAID without a journal: docs/FORMAT.md, "What the
- * device keeps". zelamiku.h and zelamiku_nbd.h rest on it too.
+ * device keeps".
  * One host writes the device at a time. Where another machine may open it, the device ends the other one's access first, with its requests
  * that are underway: docs/EMBEDDING.md, "Another machine".
  *
@@ -281,23 +279,11 @@ ZELAMIKU_MUST_USE zelamiku_status zelamiku_pool_give(zelamiku_handle *session, u
  * WAITING, WRONG_KIND: the handle is as it was. */
 ZELAMIKU_MUST_USE zelamiku_status zelamiku_end(zelamiku_handle *session);
 
-/* ---- hosts of other devices, and hosts with threads of their own ---- */
+/* ---- measurements of these calls ---- */
 
-/* Makes the calls of the device that are left, in order (zelamiku_next_call), as zelamiku_make_calls does on a file, and with its answers. */
-typedef zelamiku_status zelamiku_device_calls(zelamiku_handle *heap, void *device, uint64_t *made);
-
-/* Takes over a heap that zelamiku_open or zelamiku_format has opened, on a device whose calls `make_calls` makes, and starts its helper. Of
- * the plan `linger`, `reverts`, `log`, `log_of` and `ring` count: the ring is what the heap was opened with, and 0 is 4,096 here.
- * NULL is a plan of zeros. `name` stands for the path in messages. `handle` is ZELAMIKU_NONE then, also after NO_MEMORY.
- * RUNNING: a session that was handed out before hasn't ended, or held a monitor when it did. NOTHING, CLOSED, STOPPED, WRONG_KIND:
- * `handle` is as it was, and may only be freed. */
-#define zelamiku_heap_start zelamiku_heap_start_2 /* the same */
-ZELAMIKU_MUST_USE zelamiku_status zelamiku_heap_start(zelamiku_heap *heap, const char *name, zelamiku_handle *handle,
-                                                      zelamiku_device_calls *make_calls, void *device, const zelamiku_plan *plan);
-
-/* Makes all calls of the device that are left on a file. `made` gets how many. DEVICE: a write has failed, and no call after it was made; the
- * next zelamiku_make_calls begins with it. LOST: a sync has failed, and no call may follow (zelamiku_call_failed). errno has the cause: EBADF
- * after DEVICE where the descriptor is for appending or for reading alone, by which no call was made. */
+/* Makes all calls of the device that are left on a file, for measurements of the calls here without the scheduler. `made` gets how many. DEVICE:
+ * a write has failed, and no call after it was made; the next zelamiku_make_calls begins with it. LOST: a sync has failed, and no call may follow
+ * (zelamiku_call_failed). errno has the cause. */
 ZELAMIKU_MUST_USE zelamiku_status zelamiku_make_calls(zelamiku_handle *heap, int descriptor, uint64_t *made);
 
 #ifdef ZELAMIKU_HAS_SIZE

@@ -43,7 +43,7 @@ typedef struct {
     uint32_t waiting[64]; /* how many wait for monitors, by the object modulo 64 */
     uint32_t has_work;    /* 0: the helper may have to be told */
     uint32_t enough;      /* records, after which a section's end asks for a round */
-} ZELAMIKU_SHARED zelamiku_news;
+} ZELAMIKU_SHARED zelamiku_signals;
 
 /* What the thread that has a lane keeps of it. */
 typedef struct {
@@ -52,7 +52,7 @@ typedef struct {
     uint64_t ended;  /* sections */
     uint32_t locks, is_busy;
     zelamiku_handle session;
-    zelamiku_news *news;
+    zelamiku_signals *signals;
     uint32_t records;
     uint32_t has_stored;  /* 1: the section that is open has */
     uint64_t last_stored; /* the last section that has and has ended, by how many had ended with it */
@@ -114,8 +114,8 @@ ZELAMIKU_INLINE __attribute__((__always_inline__)) bool zelamiku_ends(zelamiku_o
     __atomic_store_n(&own->open, 0, __ATOMIC_RELAXED);
     zelamiku_notes_stores(own);
     __atomic_store_n(&own->ended, own->ended + 1, __ATOMIC_SEQ_CST);
-    if (!ZELAMIKU_OFTEN(__atomic_load_n(&own->news->has_work, __ATOMIC_SEQ_CST) != 0)) return false;
-    if (!ZELAMIKU_OFTEN(own->records < own->news->enough)) return false;
+    if (!ZELAMIKU_OFTEN(__atomic_load_n(&own->signals->has_work, __ATOMIC_SEQ_CST) != 0)) return false;
+    if (!ZELAMIKU_OFTEN(own->records < own->signals->enough)) return false;
     __atomic_store_n(&own->is_busy, 0, __ATOMIC_RELEASE);
     return ZELAMIKU_OFTEN(__atomic_load_n(&own->number, __ATOMIC_SEQ_CST) == thread.number);
 }
@@ -138,7 +138,7 @@ ZELAMIKU_INLINE zelamiku_status zelamiku_thread_exit(zelamiku_thread thread, uin
         return zelamiku_whole_exit(thread, object);
     own->records += 2; /* it was taken before */
     bool is_quiet = --own->locks > 0 || zelamiku_ends(own, thread);
-    is_quiet = is_quiet && ZELAMIKU_OFTEN(__atomic_load_n(&own->news->waiting[object % 64], __ATOMIC_SEQ_CST) == 0);
+    is_quiet = is_quiet && ZELAMIKU_OFTEN(__atomic_load_n(&own->signals->waiting[object % 64], __ATOMIC_SEQ_CST) == 0);
     return is_quiet ? ZELAMIKU_OK : zelamiku_thread_exited(thread, object);
 }
 

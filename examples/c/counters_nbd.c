@@ -9,13 +9,16 @@
  *
  * Answers 1 where a total isn't the sum of its parts, 2 where it can't go on, 3 where the device was lost, 4 where it isn't connected.
  *
- *     cc counters_nbd.c $(pkg-config --cflags --libs zelamiku libnbd) -o counters_nbd
+ *     cc counters_nbd.c $(pkg-config --cflags --libs zelamiku-nbd) -o counters_nbd
  *     nbdkit -U counters.sock --filter=limit file counters.image limit=1 */
 #define _GNU_SOURCE
+#include <errno.h>
 #include <inttypes.h>
+#include <libnbd.h>
 #include <pthread.h>
 #include <stdatomic.h>
 #include <stdio.h>
+#include <stdlib.h>
 #include <string.h>
 #include <time.h>
 #include "zelamiku_nbd.h"
@@ -23,15 +26,14 @@
 /* Object 0 has the total; object i and field i are worker i's. */
 enum { WORKERS = 4, TOTAL = 0, COUNTERS = WORKERS + 1, CAPACITY = 4096 };
 
-static zelamiku_nbd host;
+static zelamiku_nbd *export;
+static zelamiku_device device;
 static zelamiku_heap heap;
 static atomic_bool stopping;
 
 static void must(zelamiku_status status, const char *what) {
     if (status == ZELAMIKU_OK) return;
-    int cause = errno;
-    fprintf(stderr, "%s: %s\n", what, zelamiku_status_text(status));
-    if (status == ZELAMIKU_DEVICE || status == ZELAMIKU_LOST) fprintf(stderr, "%s\n", strerror(cause));
+    fprintf(stderr, "%s: %s\n", what, zelamiku_heap_message()[0] != 0 ? zelamiku_heap_message() : zelamiku_status_text(status));
     /* This host may have been ended, and another one have the device. */
     if (status == ZELAMIKU_LOST) fprintf(stderr, "Start again only where no other host has taken over.\n");
     exit(status == ZELAMIKU_LOST ? 3 : 2);
@@ -129,27 +131,37 @@ static void connect_to(const char *server, uint32_t block, int patience) {
         fprintf(stderr, "%s\n", nbd_get_error());
         exit(4);
     }
-    must(zelamiku_begin_nbd(&host, nbd, block, patience), server);
+    if (zelamiku_nbd_begin(&export, &device, nbd, block, patience) == ZELAMIKU_OK) return;
+    perror(server);
+    exit(2);
 }
 
-static void make_heap(zelamiku_handle *handle) {
-    uint64_t made = 0;
-    zelamiku_field fields[COUNTERS];
-    for (uint32_t i = 0; i < COUNTERS; i++) fields[i] = (zelamiku_field){.owner = i, .guard = i};
-    must(zelamiku_format_nbd(handle, &host, COUNTERS, fields, COUNTERS, WORKERS + 1, CAPACITY), "format");
-    must(zelamiku_make_calls_nbd(handle, &host, &made), "format");
-    must(zelamiku_close(handle), "close");
-    must(zelamiku_make_calls_nbd(handle, &host, &made), "close");
-    zelamiku_free(handle);
-}
-
-static void open_heap(zelamiku_handle *handle, const char *server) {
-    zelamiku_found found = {0};
-    must(zelamiku_open_nbd(handle, &host, &found), server);
-    if (found.objects != COUNTERS || found.fields != COUNTERS || found.lanes != WORKERS + 1) {
-        fprintf(stderr, "%s has the heap of another program\n", server);
-        exit(2);
+/* Zeros over so many bytes, durably. Those that an image begins with go first, so that no cut leaves an old header over zeros. */
+static void wipe(uint64_t size) {
+    static const uint8_t zeros[4096];
+    for (uint64_t at = 0; at < size; at += sizeof zeros) {
+        uint64_t count = size - at < sizeof zeros ? size - at : sizeof zeros;
+        must(device.write(device.context, at, zeros, (size_t)count), "format");
+        if (at == 0) must(device.sync(device.context), "format");
     }
+    must(device.sync(device.context), "format");
+}
+
+static zelamiku_field fields[COUNTERS];
+static const zelamiku_plan PLAN = {.objects = COUNTERS, .fields = fields, .count = COUNTERS, .lanes = WORKERS + 1, .capacity = CAPACITY};
+
+static void make_heap(const char *server) {
+    uint64_t size = 0;
+    must(device.size(device.context, &size), "format");
+    wipe(size);
+    must(zelamiku_heap_open_on(&heap, server, &device, &PLAN, NULL), "format");
+    must(zelamiku_heap_close(heap), "format");
+}
+
+static void open_heap(const char *server) {
+    zelamiku_plan plan = PLAN;
+    plan.must_exist = 1;
+    must(zelamiku_heap_open_on(&heap, server, &device, &plan, NULL), server);
 }
 
 /* Counts until the seconds are over. */
@@ -169,25 +181,24 @@ static void run(zelamiku_thread own, double seconds) {
 }
 
 int main(int argc, char **argv) {
-    zelamiku_handle handle = ZELAMIKU_NONE;
     if (argc < 2) {
         fprintf(stderr, "counters_nbd SERVER format\ncounters_nbd SERVER [SECONDS [PATIENCE [BLOCK]]]\n");
         return 2;
     }
     setvbuf(stdout, NULL, _IOLBF, 0);
     connect_to(argv[1], argc > 4 ? (uint32_t)atoi(argv[4]) : 0, argc > 3 ? atoi(argv[3]) : 10000);
+    for (uint32_t i = 0; i < COUNTERS; i++) fields[i].owner = fields[i].guard = i;
     if (argc > 2 && strcmp(argv[2], "format") == 0) {
-        make_heap(&handle);
+        make_heap(argv[1]);
     } else {
         zelamiku_thread own;
-        open_heap(&handle, argv[1]);
-        must(zelamiku_heap_start(&heap, argv[1], &handle, zelamiku_make_calls_of_nbd, &host, NULL), "start");
+        open_heap(argv[1]);
         must(zelamiku_thread_begin(&own, heap), "begin");
         run(own, argc > 2 ? strtod(argv[2], NULL) : 0);
         zelamiku_status status;
         while ((status = zelamiku_heap_close(heap)) == ZELAMIKU_DEVICE) nap();
         must(status, "close");
     }
-    zelamiku_end_nbd(&host);
+    zelamiku_nbd_end(export);
     return 0;
 }

@@ -199,10 +199,36 @@ static void *help_by_rounds(void *data) {
 
 static zelamiku_heap all;
 
-static zelamiku_status no_calls(zelamiku_handle *heap, void *device, uint64_t *made) {
-    (void)device;
-    throw_calls_away(heap, made);
+/* A device that keeps nothing. */
+static zelamiku_status read_zeros(void *of, uint64_t at, void *bytes, size_t size) {
+    (void)of, (void)at;
+    memset(bytes, 0, size);
     return ZELAMIKU_OK;
+}
+
+static zelamiku_status throw_away(void *of, uint64_t at, const void *bytes, size_t size) {
+    (void)of, (void)at, (void)bytes, (void)size;
+    return ZELAMIKU_OK;
+}
+
+static zelamiku_status sync_nothing(void *of) {
+    (void)of;
+    return ZELAMIKU_OK;
+}
+
+static zelamiku_status tell_size(void *of, uint64_t *size) {
+    (void)of;
+    *size = (uint64_t)1 << 40;
+    return ZELAMIKU_OK;
+}
+
+static void open_in_memory(uint32_t threads, uint32_t capacity) {
+    static const zelamiku_device DEVICE = {read_zeros, throw_away, sync_nothing, tell_size, NULL};
+    zelamiku_field fields[MOST + 1];
+    for (uint32_t i = 0; i <= MOST; i++) fields[i] = (zelamiku_field){.owner = i, .guard = i};
+    zelamiku_plan plan = {.fields = fields, .count = MOST + 1, .objects = MOST + 1, .lanes = threads, .capacity = capacity,
+                          .ring = ZELAMIKU_LEAST_RING};
+    must(zelamiku_heap_open_on(&all, "memory", &DEVICE, &plan, NULL), "open");
 }
 
 static void add_by_threads(zelamiku_thread thread, uint32_t field) {
@@ -277,8 +303,8 @@ static result measure(int kind, uint32_t threads, unsigned seconds, uint32_t cap
     zelamiku_handle heap = ZELAMIKU_NONE;
     pthread_t helper;
     uint64_t sections = 0, told = 0;
-    if (kind != 0) make_heap(&heap, threads, capacity);
-    if (kind == 2) must(zelamiku_heap_start(&all, "memory", &heap, no_calls, NULL, NULL), "start");
+    if (kind == 1) make_heap(&heap, threads, capacity);
+    if (kind == 2) open_in_memory(threads, capacity);
     for (uint32_t i = 0; i < threads; i++) {
         workers[i] = (worker){.work = works[kind], .own = i};
         if (kind == 1) must(zelamiku_session(&heap, &workers[i].session), "session");

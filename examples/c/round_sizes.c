@@ -18,7 +18,7 @@
 #include <sys/resource.h>
 #include <time.h>
 #include <unistd.h>
-#include "zelamiku_core.h"
+#include "zelamiku.h"
 
 enum { MOST = ZELAMIKU_MOST_LANES, SHARED = 2 * MOST, MOST_SEEN = 1 << 16 };
 
@@ -44,20 +44,29 @@ static void must(zelamiku_status status, const char *what) {
     exit(2);
 }
 
-/* Makes the calls that are left, on the file; a pause stands for each sync. */
-static zelamiku_status slow_calls(zelamiku_handle *of, void *descriptor, uint64_t *made) {
-    uint8_t bytes[ZELAMIKU_MOST_BYTES] = {0};
-    zelamiku_call call = {0};
-    for (*made = 0;; ++*made) {
-        zelamiku_status status = zelamiku_next_call(of, &call, bytes, sizeof bytes);
-        if (status != ZELAMIKU_OK || call.kind == ZELAMIKU_NO_CALL) return status;
-        if (call.kind == ZELAMIKU_SYNC)
-            nanosleep(&sync_time, NULL);
-        else if (call.size > sizeof bytes || pwrite((int)(intptr_t)descriptor, bytes, (size_t)call.size, (off_t)call.at) != (ssize_t)call.size)
-            return zelamiku_call_failed(of) == ZELAMIKU_OK ? ZELAMIKU_DEVICE : ZELAMIKU_LOST;
-        status = zelamiku_call_done(of);
-        if (status != ZELAMIKU_OK) return status;
-    }
+/* The file as a device, where a pause stands for each sync. */
+static int file;
+
+static zelamiku_status read_file(void *of, uint64_t at, void *bytes, size_t size) {
+    (void)of;
+    return pread(file, bytes, size, (off_t)at) == (ssize_t)size ? ZELAMIKU_OK : ZELAMIKU_DEVICE;
+}
+
+static zelamiku_status write_file(void *of, uint64_t at, const void *bytes, size_t size) {
+    (void)of;
+    return pwrite(file, bytes, size, (off_t)at) == (ssize_t)size ? ZELAMIKU_OK : ZELAMIKU_DEVICE;
+}
+
+static zelamiku_status sync_slowly(void *of) {
+    (void)of;
+    nanosleep(&sync_time, NULL);
+    return ZELAMIKU_OK;
+}
+
+static zelamiku_status tell_size(void *of, uint64_t *size) {
+    (void)of;
+    *size = (uint64_t)lseek(file, 0, SEEK_END);
+    return ZELAMIKU_OK;
 }
 
 static void count_in(zelamiku_thread thread, uint32_t field) {
@@ -133,17 +142,17 @@ int main(int count, char **words) {
     unsigned seconds = count > 6 ? (unsigned)atoi(words[6]) : 4;
     if (threads < 1 || threads > MOST || milliseconds < 0 || seconds < 1) return 2;
     sync_time = (struct timespec){milliseconds / 1000, milliseconds % 1000 * 1000000};
-    zelamiku_handle handle = ZELAMIKU_NONE;
     zelamiku_field fields[SHARED + 1];
     for (uint32_t i = 0; i <= SHARED; i++) fields[i] = (zelamiku_field){.owner = i, .guard = i};
-    uint64_t size = 0;
-    must(zelamiku_format(&handle, SHARED + 1, fields, SHARED + 1, threads, capacity, ZELAMIKU_LEAST_RING, &size), words[1]);
-    int file = open(words[1], O_RDWR | O_CREAT | O_TRUNC | O_CLOEXEC, 0644);
-    if (file < 0 || ftruncate(file, (off_t)size) != 0) {
+    file = open(words[1], O_RDWR | O_CREAT | O_TRUNC | O_CLOEXEC, 0644);
+    if (file < 0 || ftruncate(file, (off_t)1 << 30) != 0) {
         perror(words[1]);
         return 2;
     }
-    must(zelamiku_heap_start(&heap, words[1], &handle, slow_calls, (void *)(intptr_t)file, NULL), "start");
+    zelamiku_device device = {read_file, write_file, sync_slowly, tell_size, NULL};
+    zelamiku_plan plan = {.fields = fields, .count = SHARED + 1, .objects = SHARED + 1, .lanes = threads, .capacity = capacity,
+                          .ring = ZELAMIKU_LEAST_RING};
+    must(zelamiku_heap_open_on(&heap, words[1], &device, &plan, NULL), "open");
     double before = processor_time();
     for (uint32_t i = 0; i < threads; i++) {
         workers[i].own = i;

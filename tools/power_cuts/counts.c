@@ -2,8 +2,7 @@
  *
  *     counts count FILE [CAPACITY [LANES]]   over zelamiku.h; so many lanes of so many records
  *     counts copy FILE                       the same, and copies the running heap to FILE.copy again and again
- *     counts count-device DEVICE SECTOR      over zelamiku_sectors.h in two places: a disk past the page cache, a file through it
- *     counts look FILE, counts look-device DEVICE SECTOR
+ *     counts look FILE
  *
  * `copyT COUNT` is told once a copy has all that was told before it began.
  *
@@ -11,11 +10,8 @@
  * -Wl,--wrap=pwrite,--wrap=fdatasync. */
 #define _GNU_SOURCE
 #include <fcntl.h>
-#include <linux/fs.h>
-#include <sys/ioctl.h>
 #include <sys/stat.h>
 #include "counts.h"
-#include "zelamiku_sectors.h"
 
 /* ---- a sync that is left out (docs/FORMAT.md, "The other calls", has a round's) ---- */
 
@@ -41,38 +37,6 @@ int __wrap_fdatasync(int file) {
     return number == without ? 0 : __real_fdatasync(file);
 }
 
-/* ---- a device ---- */
-
-enum { ROOM = 1 << 20 };
-static zelamiku_sectors host;
-static zelamiku_handle handle;
-static int device = -1;
-static uint8_t *room; /* for calls past the page cache */
-
-static zelamiku_sector_answer read_sector(void *at, uint64_t number, uint8_t *bytes) {
-    (void)at;
-    ssize_t got = pread(device, room, host.sector, (off_t)(number * host.sector));
-    if (got != (ssize_t)host.sector) return got < 0 && errno == EIO ? ZELAMIKU_SECTOR_UNREADABLE : ZELAMIKU_SECTOR_FAULT;
-    memcpy(bytes, room, host.sector);
-    return ZELAMIKU_SECTOR_READ;
-}
-
-static bool write_sectors(void *at, uint64_t number, const uint8_t *bytes, uint64_t count) {
-    (void)at;
-    uint64_t size = count * host.sector, place = number * host.sector;
-    for (uint64_t part; size > 0; bytes += part, place += part, size -= part) {
-        part = size < ROOM ? size : ROOM;
-        memcpy(room, bytes, part);
-        if (pwrite(device, room, part, (off_t)place) != (ssize_t)part) return false;
-    }
-    return true;
-}
-
-static bool flush_device(void *at) {
-    (void)at;
-    return fdatasync(device) == 0;
-}
-
 /* ---- the heap ---- */
 
 /* Opens the heap of a file, or makes one, which only who counts may do. */
@@ -85,36 +49,6 @@ static void open_file(const char *path, uint32_t capacity, uint32_t lanes, bool 
     if (is_there && (!is_look || report.is_made == 0)) return;
     printf("no heap\n");
     exit(NO_HEAP);
-}
-
-static void open_device(const char *path, uint32_t sector, bool is_look) {
-    struct stat info;
-    uint64_t bytes = 0;
-    zelamiku_found found;
-    must_do(stat(path, &info) == 0, path);
-    bool is_file = S_ISREG(info.st_mode);
-    device = open(path, O_RDWR | O_CLOEXEC | (is_file ? 0 : O_DIRECT));
-    must_do(device >= 0 && (is_file || ioctl(device, BLKGETSIZE64, &bytes) == 0), path);
-    if (is_file) {
-        bytes = (uint64_t)info.st_size;
-        /* Else the system reads several pages at once, and one that can't be read fails its neighbours. */
-        must_do(posix_fadvise(device, 0, 0, POSIX_FADV_RANDOM) == 0, path);
-    }
-    room = aligned_alloc(4096, ROOM);
-    must_do(room != NULL, "memory");
-    zelamiku_device calls = {NULL, read_sector, write_sectors, flush_device, bytes / sector};
-    host = (zelamiku_sectors){.device = calls, .sector = sector, .layout = ZELAMIKU_TWO_PLACES};
-    zelamiku_status status = zelamiku_open_sectors(&handle, &host, &found);
-    if (status == ZELAMIKU_NOT_FORMATTED && is_look) {
-        printf("no heap\n");
-        exit(NO_HEAP);
-    }
-    if (status == ZELAMIKU_NOT_FORMATTED)
-        status = zelamiku_format_sectors(&handle, &host, OBJECTS, fields, FIELDS, WORKERS + 1, 4096);
-    must(status);
-    uint64_t made;
-    must(zelamiku_make_calls_sectors(&handle, &host, &made));
-    must(zelamiku_heap_start(&heap, path, &handle, zelamiku_make_calls_of_sectors, &host, NULL));
 }
 
 /* ---- copies ---- */
@@ -144,10 +78,7 @@ int main(int argc, char **argv) {
     uint32_t size = number(argc, argv, 3, 0);
     if (!is_look && strncmp(word, "co", 2) != 0) return REFUSED;
     declare();
-    if (strstr(word, "-device") != NULL)
-        open_device(argv[2], size, is_look);
-    else
-        open_file(argv[2], size, number(argc, argv, 4, WORKERS + 1), is_look);
+    open_file(argv[2], size, number(argc, argv, 4, WORKERS + 1), is_look);
     without = left_out != NULL ? atoi(left_out) : 0;
     if (is_look) {
         look();

@@ -12,9 +12,10 @@
 #include "counts.h"
 #include "zelamiku_nbd.h"
 
-enum { PATIENCE = 60000 };
+enum { PATIENCE = 60000, WIPED = 1 << 20 /* bytes, more than the heap takes */ };
 
-static zelamiku_nbd host;
+static zelamiku_nbd *export;
+static zelamiku_device device;
 
 static void connect_to(const char *server) {
     struct nbd_handle *nbd = nbd_create();
@@ -22,23 +23,33 @@ static void connect_to(const char *server) {
         printf("%s\n", nbd_get_error());
         exit(GONE);
     }
-    must(zelamiku_begin_nbd(&host, nbd, 0, PATIENCE));
+    must(zelamiku_nbd_begin(&export, &device, nbd, 0, PATIENCE));
+}
+
+/* What a making has left that was cut off: nothing was told of it. Its first bytes go first. */
+static void wipe(void) {
+    static const uint8_t zeros[4096];
+    for (uint64_t at = 0; at < WIPED; at += sizeof zeros) {
+        must(device.write(device.context, at, zeros, sizeof zeros));
+        if (at == 0) must(device.sync(device.context));
+    }
+    must(device.sync(device.context));
 }
 
 static void open_heap(bool is_look) {
-    zelamiku_handle handle = ZELAMIKU_NONE;
-    zelamiku_found found;
-    uint64_t made;
-    zelamiku_status status = zelamiku_open_nbd(&handle, &host, &found);
+    zelamiku_plan plan = {.fields = fields, .count = FIELDS, .objects = OBJECTS, .lanes = WORKERS + 1, .capacity = 4096, .ring = 4096};
+    plan.must_exist = 1;
+    zelamiku_status status = zelamiku_heap_open_on(&heap, "the export", &device, &plan, NULL);
     if (status == ZELAMIKU_NOT_FORMATTED && is_look) {
         printf("no heap\n");
         exit(NO_HEAP);
     }
-    if (status == ZELAMIKU_NOT_FORMATTED)
-        status = zelamiku_format_nbd(&handle, &host, OBJECTS, fields, FIELDS, WORKERS + 1, 4096);
+    if (status == ZELAMIKU_NOT_FORMATTED) {
+        wipe();
+        plan.must_exist = 0;
+        status = zelamiku_heap_open_on(&heap, "the export", &device, &plan, NULL);
+    }
     must(status);
-    must(zelamiku_make_calls_nbd(&handle, &host, &made));
-    must(zelamiku_heap_start(&heap, "the export", &handle, zelamiku_make_calls_of_nbd, &host, NULL));
 }
 
 static void open_port(const char *path) {
@@ -56,7 +67,7 @@ int main(int argc, char **argv) {
     open_heap(is_look);
     if (is_look) {
         look();
-        zelamiku_end_nbd(&host);
+        zelamiku_nbd_end(export);
         return 0;
     }
     open_port(argv[3]);

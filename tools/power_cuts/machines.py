@@ -223,7 +223,7 @@ class Parts:
         files = self.python_files() if "python" in needs else []
         if "nbd" in needs:
             linked = [f"{LIBRARY}/libzelamiku.a", "-pthread", "-lnbd"]
-            must_run("cc", *flags, f"{HERE}/counts_nbd.c", "-I", f"{TOP}/bindings/c", *linked, "-o", f"{folder}/counts_nbd")
+            must_run("cc", *flags, f"{HERE}/counts_nbd.c", f"{TOP}/bindings/c/zelamiku_nbd.c", "-I", f"{TOP}/bindings/c", *linked, "-o", f"{folder}/counts_nbd")
             programs += [shutil.which("nbdkit", path=PATHS)]
             files += [re.search(r"plugindir=(.*)", must_run("nbdkit", "--dump-config"))[1] + "/nbdkit-file-plugin.so"]
         self.kernel, self.initramfs = unpacked(kernel, f"{folder}/kernel"), f"{folder}/initramfs"

@@ -72,22 +72,6 @@ WORKS = {
         needs="python",
         memory=640,
     ),
-    "sectors of 512": Work(
-        "counts count-device /dev/data 512",
-        ("try look 1 counts look-device /dev/data 512", "try again 1 counts look-device /dev/data 512"),
-        tells=True,
-    ),
-    "sectors in a file": Work(
-        "counts count-device /mnt/heap 4096",
-        ("try look 1 counts look-device /mnt/heap 4096", "try again 1 counts look-device /mnt/heap 4096"),
-        EMPTY.format("heap"),
-        tells=True,
-    ),
-    "sectors of 4096": Work(
-        "counts count-device /dev/data 4096",
-        ("try look 1 counts look-device /dev/data 4096", "try again 1 counts look-device /dev/data 4096"),
-        tells=True,
-    ),
     # After these looks a host looks twice, over the network.
     "a file, served": Work(
         "serve /mnt/export",
@@ -140,12 +124,6 @@ WHOLE = {
     ],
     "leases": [Run("leases", states=20, true=7)],
     "service": [Run("service", states=120, in_recovery=16, true=24)],
-    "devices": [
-        Run("sectors of 512", "none", states=80, torn=3),
-        Run("sectors of 512", "none", states=60, torn=4),
-        Run("sectors of 4096", "none", states=60, torn=3),
-        Run("sectors in a file", "xfs", states=60, torn=4),
-    ],
     "program": [
         Run("set", states=60),
         Run("run --image", states=60),

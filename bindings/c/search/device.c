@@ -15,18 +15,18 @@ void device_begin(device *it, uint64_t size) {
     it->in_call = 0;
 }
 
-static bool fails(device *it, const zelamiku_call *call) {
+static bool fails(device *it, bool is_sync) {
     if (it->calls < it->fault_at || it->calls >= it->fault_ends) return false;
     if (it->fault == CALL_HANGS) search_nap(300000000 + search_chance() % 3000000000);
-    return it->fault == (call->kind == ZELAMIKU_SYNC ? SYNC_FAILS : WRITE_FAILS);
+    return it->fault == (is_sync ? SYNC_FAILS : WRITE_FAILS);
 }
 
-static void write_bytes(device *it, const zelamiku_call *call, const uint8_t *bytes) {
-    memcpy(it->now + call->at, bytes, call->size);
+static void write_bytes(device *it, uint64_t at, const uint8_t *bytes, uint64_t size) {
+    memcpy(it->now + at, bytes, size);
     if (it->count == it->room) it->pending = realloc(it->pending, (it->room = 2 * it->room + 16) * sizeof *it->pending);
-    it->pending[it->count].at = call->at;
-    it->pending[it->count].size = call->size;
-    memcpy(it->pending[it->count++].bytes, bytes, call->size);
+    it->pending[it->count].at = at;
+    it->pending[it->count].size = size;
+    memcpy(it->pending[it->count++].bytes, bytes, size);
 }
 
 /* A sync takes no time, or some. */
@@ -36,34 +36,51 @@ static void sync_bytes(device *it) {
     it->count = 0;
 }
 
-static zelamiku_status make_calls(device *it, zelamiku_handle *handle, uint64_t *made) {
-    uint8_t bytes[ZELAMIKU_MOST_BYTES];
-    zelamiku_call call = {0};
-    for (;;) {
-        zelamiku_status status = zelamiku_next_call(handle, &call, bytes, sizeof bytes);
-        if (status != ZELAMIKU_OK || call.kind == ZELAMIKU_NO_CALL) return status;
-        search_step();
-        bool is_failed = fails(it, &call);
-        it->calls++;
-        if (is_failed) {
-            it->fails(it->of, it->fault);
-            status = zelamiku_call_failed(handle);
-            errno = EIO;
-            return status == ZELAMIKU_OK ? ZELAMIKU_DEVICE : ZELAMIKU_LOST;
-        }
-        if (call.kind == ZELAMIKU_WRITE)
-            write_bytes(it, &call, bytes);
-        else
-            sync_bytes(it);
-        ++*made;
-        if (zelamiku_call_done(handle) != ZELAMIKU_OK) search_fail("the library takes a call for none");
-    }
+/* A call of the device begins: whether it fails. */
+static bool begin_call(device *it, bool is_sync) {
+    if (it->in_call++ > 0) search_fail("two threads make calls of one device");
+    search_step();
+    bool is_failed = fails(it, is_sync);
+    it->calls++;
+    if (is_failed) it->fails(it->of, it->fault);
+    return is_failed;
 }
 
-zelamiku_status device_calls(zelamiku_handle *handle, void *of, uint64_t *made) {
-    device *it = of;
-    if (it->in_call++ > 0) search_fail("two threads make calls of one device");
-    zelamiku_status status = make_calls(it, handle, made);
+/* A sync that has failed may have lost what was written. */
+static zelamiku_status end_call(device *it, bool is_failed, bool is_sync) {
     it->in_call--;
-    return status;
+    errno = is_failed ? EIO : 0;
+    return !is_failed ? ZELAMIKU_OK : is_sync ? ZELAMIKU_LOST : ZELAMIKU_DEVICE;
+}
+
+static zelamiku_status read_it(void *of, uint64_t at, void *bytes, size_t size) {
+    memcpy(bytes, ((device *)of)->now + at, size);
+    return ZELAMIKU_OK;
+}
+
+static zelamiku_status write_it(void *of, uint64_t at, const void *bytes, size_t size) {
+    device *it = of;
+    bool is_failed = begin_call(it, false);
+    for (uint64_t from = 0, count; !is_failed && from < size; from += count) {
+        count = size - from < ZELAMIKU_MOST_BYTES ? size - from : ZELAMIKU_MOST_BYTES;
+        write_bytes(it, at + from, (const uint8_t *)bytes + from, count);
+    }
+    return end_call(it, is_failed, false);
+}
+
+static zelamiku_status sync_it(void *of) {
+    device *it = of;
+    bool is_failed = begin_call(it, true);
+    if (!is_failed) sync_bytes(it);
+    return end_call(it, is_failed, true);
+}
+
+static zelamiku_status tell_size(void *of, uint64_t *size) {
+    *size = ((device *)of)->size;
+    return ZELAMIKU_OK;
+}
+
+zelamiku_device device_functions(device *it) {
+    zelamiku_device functions = {read_it, write_it, sync_it, tell_size, it};
+    return functions;
 }

@@ -21,5 +21,5 @@ typedef struct {
 } device;
 
 void device_begin(device *it, uint64_t size);
-zelamiku_device_calls device_calls;
+zelamiku_device device_functions(device *it);
 #endif

@@ -507,20 +507,21 @@ static void make_file(judge *it) {
 
 static void make_heap(uint32_t heap) {
     judge *it = &judges[heap];
-    zelamiku_handle handle = ZELAMIKU_NONE;
-    uint64_t size = 0;
     judge_begin(it, current->lanes, current->reverts);
     devices[heap].in_call = 0;
     if (is_in_file(heap)) return make_file(it);
-    MUST(zelamiku_format(&handle, OBJECTS, fields, FIELDS, current->lanes, current->capacity, current->ring, &size) == ZELAMIKU_OK, "no heap");
     device *on = &devices[heap];
-    on->fault = heap == 0 ? current->fault : NEVER_FAILS;
-    on->fault_at = current->fault_at;
-    on->fault_ends = current->fault_at + current->fault_for;
+    on->fault = NEVER_FAILS;
     on->fails = device_fails;
     on->of = it;
-    device_begin(on, size);
-    MUST(zelamiku_heap_start(&it->heap, "searched", &handle, device_calls, on, &plan) == ZELAMIKU_OK, zelamiku_heap_message());
+    device_begin(on, 4096 + 24 * FIELDS + 16 * (uint64_t)current->lanes * current->capacity);
+    zelamiku_device functions = device_functions(on);
+    MUST(zelamiku_heap_open_on(&it->heap, "searched", &functions, &plan, NULL) == ZELAMIKU_OK, zelamiku_heap_message());
+    /* The opening's own calls don't fail. */
+    on->calls = 0;
+    on->fault_at = current->fault_at;
+    on->fault_ends = current->fault_at + current->fault_for;
+    on->fault = heap == 0 ? current->fault : NEVER_FAILS;
 }
 
 /* The heap is closed, if nobody has ended it; and what it leaves is as the judge says. */

@@ -1,4 +1,7 @@
-/* Files that are made beside a path and take its place once they are whole: locks, where a path leads, drafts. */
+/* Files that are made beside a path and take its place once they are whole: locks, where a path leads, drafts.
+ *
+ * The registry's mutex has the list of drafts, and every descriptor from its opening to its closing, so that a fork's child closes all.
+ * Else a draft is its caller's own. What keeps other processes out are locks of the system on the files (flock). */
 /* ---- locks and paths ---- */
 
 /* Opens a file whose descriptor the registry has: as soon as it is open, for a fork. */

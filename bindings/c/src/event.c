@@ -1,12 +1,15 @@
-/* Threads with an event loop: what they have asked for, and the events that they wait for. */
+/* Threads with an event loop: what they have asked for, and the events that they wait for.
+ *
+ * The heap's mutex has what a loop waits for (`asked`, `lacks_room`) and what it knows; that mutex and the registry's have the
+ * descriptor, so that either is enough to read it. */
 /* ---- threads with an event loop ---- */
 
 /* Under the mutex: while an event loop waits for sections or room it counts among those that wait for a round, though its thread doesn't sleep
  * here: else no round would come once a section ends that its own depend on. */
 static void count_loop(heap *of, seat *own) {
-    bool waits = own->asked != 0 || own->is_short;
-    if (waits == own->is_counted) return;
-    own->is_counted = waits;
+    bool waits = own->asked != 0 || own->lacks_room;
+    if (waits == own->counts_as_waiting) return;
+    own->counts_as_waiting = waits;
     if (waits) {
         of->loops++;
         of->awaiting++;
@@ -31,19 +34,19 @@ static void quieten_event(seat *own) {
     if (own->event != 0) (void)!read(own->event - 1, &rung, sizeof rung);
 }
 
-/* Under the mutex, after a round or at the heap's end: rings for each loop whose news that is. At the end it is news for all. A loop that has
+/* Under the mutex, after a round or at the heap's end: rings for each loop that waits for that. At the end it rings for all. A loop that has
  * asked stays asking until its sections are durable. */
 static void tell_loops(heap *of, bool is_trouble, bool is_end) {
     if (of->loops == 0 && !is_end) return;
     for (uint32_t lane = 0; lane < of->lanes; lane++) {
         seat *other = seat_at(of, lane);
         uint64_t durable = other->acknowledged;
-        bool has_news = other->is_short || (other->asked != 0 && (is_trouble || durable != other->told));
-        other->told = durable;
-        other->is_short = false;
+        bool is_due = other->lacks_room || (other->asked != 0 && (is_trouble || durable != other->loop_knows));
+        other->loop_knows = durable;
+        other->lacks_room = false;
         if (durable >= other->asked || is_end) other->asked = 0;
         count_loop(of, other);
-        if (has_news || is_end) ring_event(other);
+        if (is_due || is_end) ring_event(other);
     }
 }
 
@@ -74,14 +77,14 @@ static uint32_t begin_for_loops(heap *of) {
 
 /* A try to enter has found no room. With an event its thread needn't try again before that is readable: it waits from now on. It asks for a few
  * rounds; a later one follows the end of another section, as in sleep_for_step. */
-static void lack_room(heap *of, seat *own) {
+static void note_no_room(heap *of, seat *own) {
     pthread_mutex_lock(&of->mutex);
     if (own->event == 0) {
         ask(of, ZELAMIKU_ROUND_ROOM);
     } else {
-        if (own->lacked != own->ended + 1) own->demands = 0;
-        own->lacked = own->ended + 1;
-        own->is_short = true;
+        if (own->lacked_at != own->ended + 1) own->demands = 0;
+        own->lacked_at = own->ended + 1;
+        own->lacks_room = true;
         count_loop(of, own);
         if (own->demands < DEMANDS && !of->is_troubled) {
             own->demands++;
@@ -110,13 +113,13 @@ static void close_events(heap *of) {
 /* The thread ends its use of the lane, also after the heap's end: it waits for nothing, and has no event. */
 static void drop_event(heap *of, seat *own) {
     pthread_mutex_lock(&of->mutex);
-    own->asked = own->lacked = 0;
-    own->is_short = own->is_rung = false;
+    own->asked = own->lacked_at = 0;
+    own->lacks_room = own->is_rung = false;
     count_loop(of, own);
     pthread_mutex_lock(&registry);
     close_event(of, own);
     pthread_mutex_unlock(&registry);
-    if (of->over != 0) own->is_lent = false;
+    if (of->end_status != 0) own->is_lent = false;
     pthread_mutex_unlock(&of->mutex);
 }
 
@@ -131,7 +134,7 @@ static bool make_event(heap *of, seat *own) {
         of->events++;
     }
     pthread_mutex_unlock(&registry);
-    if (file >= 0 && (own->is_rung || of->over != 0)) ring_event(own);
+    if (file >= 0 && (own->is_rung || of->end_status != 0)) ring_event(own);
     errno = error;
     return file >= 0;
 }
@@ -139,7 +142,7 @@ static bool make_event(heap *of, seat *own) {
 /* Takes the mutex, in a call that is counted, for a handle that is lent, also at the heap's end. NOTHING, FORKED: it hasn't. */
 static zelamiku_status lock_lane(heap *of, seat *own, zelamiku_thread thread, const char *call) {
     if (!is_lane_of(of, own, thread)) return nothing(call, NULL);
-    if (of->over == ZELAMIKU_FORKED) return fail(of->path, ZELAMIKU_FORKED, 0, NULL, NULL, "%s", call);
+    if (of->end_status == ZELAMIKU_FORKED) return fail(of->path, ZELAMIKU_FORKED, 0, NULL, NULL, "%s", call);
     pthread_mutex_lock(&of->mutex);
     if (is_lane_of(of, own, thread)) return ZELAMIKU_OK;
     pthread_mutex_unlock(&of->mutex);
@@ -173,19 +176,19 @@ zelamiku_status zelamiku_thread_event(zelamiku_thread thread, int *descriptor) {
 static zelamiku_status ask_for_all(heap *of, seat *own, uint64_t *durable) {
     quieten_event(own);
     /* Before the sections are looked at, since what a last round acknowledges comes before it says so. */
-    zelamiku_status end_status = of->is_settled ? (zelamiku_status)of->over : ZELAMIKU_OK;
-    uint64_t ended = own->ended, acknowledged = own->acknowledged, before = own->before;
+    zelamiku_status end_status = of->is_settled ? (zelamiku_status)of->end_status : ZELAMIKU_OK;
+    uint64_t ended = own->ended, acknowledged = own->acknowledged, before = own->earlier;
     *durable = acknowledged > before ? acknowledged - before : 0;
-    own->told = acknowledged;
+    own->loop_knows = acknowledged;
     if (acknowledged >= own->asked) own->asked = 0;
     /* Of a write that has failed before it asked it is told once that is made again, and fails. */
     uint64_t known = own->asked != 0 ? own->troubles : of->troubles;
     own->troubles = of->troubles;
-    bool is_new = acknowledged < ended && own->asked < ended && of->over == 0;
+    bool is_new = acknowledged < ended && own->asked < ended && of->end_status == 0;
     if (is_new) own->asked = ended;
     count_loop(of, own);
-    if (is_new && (of->has_work || of->has_looks || of->leaves) && !of->is_troubled) ask(of, ZELAMIKU_ROUND_AWAITED);
-    if (acknowledged >= ended) return own->is_cut ? end_status : ZELAMIKU_OK;
+    if (is_new && (of->has_work || of->has_reads || of->has_more) && !of->is_troubled) ask(of, ZELAMIKU_ROUND_AWAITED);
+    if (acknowledged >= ended) return own->was_cut_off ? end_status : ZELAMIKU_OK;
     return end_status != ZELAMIKU_OK ? end_status : trouble_since(of, known);
 }
 

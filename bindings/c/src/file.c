@@ -1,4 +1,4 @@
-/* The calls of a file: read, write, sync; its lock, and where its path leads. */
+/* A file as a device: read, write, sync, size. Who leads has it, or who opens the heap; there is no lock. */
 /* ---- the file ---- */
 
 static bool write_all(int file, const uint8_t *bytes, uint64_t size, uint64_t at) {
@@ -41,35 +41,34 @@ static bool sync_folder_of(const char *path) {
     errno = error;
     return is_synced;
 }
-/* Makes the calls that are left, and counts the syncs. */
-static zelamiku_status calls_of_file(zelamiku_handle *handle, int file, uint64_t *made, uint64_t *syncs) {
-    uint8_t bytes[ZELAMIKU_MOST_BYTES] = {0};
-    zelamiku_call call = {ZELAMIKU_NO_CALL, 0, 0};
-    for (*made = 0;; ++*made) {
-        zelamiku_status status = zelamiku_next_call(handle, &call, bytes, sizeof bytes);
-        if (status != ZELAMIKU_OK || call.kind == ZELAMIKU_NO_CALL) return status;
-        bool is_sync = call.kind == ZELAMIKU_SYNC;
-        if (is_sync ? !sync_file(file) : call.size > sizeof bytes || !write_all(file, bytes, call.size, call.at)) {
-            int error = errno;
-            status = zelamiku_call_failed(handle);
-            errno = error;
-            return status == ZELAMIKU_STOPPED ? ZELAMIKU_LOST : ZELAMIKU_DEVICE;
-        }
-        *syncs += is_sync;
-        status = zelamiku_call_done(handle);
-        if (status != ZELAMIKU_OK) return status;
-    }
+
+/* ---- a file as a device ---- */
+
+static int descriptor_of(void *context) {
+    return (int)(intptr_t)context;
 }
 
-static zelamiku_status calls_of_heap(zelamiku_handle *handle, void *of, uint64_t *made) {
-    return calls_of_file(handle, ((heap *)of)->file, made, &((heap *)of)->syncs_made);
+static zelamiku_status read_file(void *context, uint64_t at, void *bytes, size_t size) {
+    return read_all(descriptor_of(context), (uint8_t *)bytes, size, at) ? ZELAMIKU_OK : ZELAMIKU_DEVICE;
 }
 
-zelamiku_status zelamiku_make_calls(zelamiku_handle *handle, int descriptor, uint64_t *made) {
-    uint64_t syncs = 0, none = 0;
-    if (handle == NULL) return nothing("make calls", "give a heap");
-    int flags = fcntl(descriptor, F_GETFL);
-    if (flags >= 0 && ((flags & O_APPEND) != 0 || (flags & O_ACCMODE) == O_RDONLY)) flags = -1, errno = EBADF;
-    *(made != NULL ? made : &none) = 0;
-    return flags < 0 ? ZELAMIKU_DEVICE : calls_of_file(handle, descriptor, made != NULL ? made : &none, &syncs);
+static zelamiku_status write_file(void *context, uint64_t at, const void *bytes, size_t size) {
+    return write_all(descriptor_of(context), (const uint8_t *)bytes, size, at) ? ZELAMIKU_OK : ZELAMIKU_DEVICE;
+}
+
+/* The system may have dropped the pages that it couldn't write. */
+static zelamiku_status sync_of_file(void *context) {
+    return sync_file(descriptor_of(context)) ? ZELAMIKU_OK : ZELAMIKU_LOST;
+}
+
+static zelamiku_status size_of_file(void *context, uint64_t *size) {
+    struct stat info;
+    if (fstat(descriptor_of(context), &info) != 0) return ZELAMIKU_DEVICE;
+    *size = (uint64_t)info.st_size;
+    return ZELAMIKU_OK;
+}
+
+static zelamiku_device device_of_file(int file) {
+    zelamiku_device device = {read_file, write_file, sync_of_file, size_of_file, (void *)(intptr_t)file};
+    return device;
 }

@@ -1,4 +1,7 @@
-/* Handles and the places of heaps: the registry, forks, and looking a handle up. */
+/* Handles and the places of heaps: the registry, forks, and looking a handle up.
+ *
+ * The registry's mutex has which places are used (`is_used`, `freed`), each heap's descriptor, device and inode, and each event's
+ * descriptor. A handle is looked up without it: by a count of calls that are underway, and the place's number. */
 /* ---- places of heaps, and forks ---- */
 
 /* In the child: its parent's heaps are at their end here, and so are their descriptors, which would keep the locks. Nothing else is touched:
@@ -8,7 +11,7 @@ static void forked(void) {
         heap *of = &heaps[place];
         close_events(of);
         if (!of->is_used && of->number == 0) continue;
-        of->over = ZELAMIKU_FORKED;
+        of->end_status = ZELAMIKU_FORKED;
         shut(of, true);
         if (!of->is_used) continue;
         of->volume = of->inode = 0;
@@ -71,7 +74,7 @@ static heap *new_place(void) {
         found->file = -1;
         found->volume = found->inode = 0;
         found->lanes = 0;
-        found->over = 0;
+        found->end_status = 0;
         found->is_used = true;
     }
     pthread_mutex_unlock(&registry);
@@ -89,6 +92,7 @@ static void free_changes(heap *of) {
 static void free_place(heap *of) {
     free_changes(of);
     pthread_mutex_lock(&registry);
+    assert(of->is_used);
     of->is_used = false;
     of->freed = ++handed_out;
     pthread_mutex_unlock(&registry);
@@ -119,7 +123,7 @@ static heap *begin_call(zelamiku_heap handle, const char *call, zelamiku_status 
     *status = ZELAMIKU_OK;
     if ((handle.number & 255) != 1 || of->number != handle.number)
         *status = nothing(call, NULL);
-    else if (of->over == ZELAMIKU_FORKED)
+    else if (of->end_status == ZELAMIKU_FORKED)
         *status = fail(of->path, ZELAMIKU_FORKED, 0, NULL, NULL, "%s", call);
     if (*status == ZELAMIKU_OK) return of;
     end_call(of);

@@ -41,18 +41,18 @@
 #define COLD __attribute__((noinline, cold)) static
 
 enum {
-    BUCKETS = sizeof((zelamiku_news *)NULL)->waiting / sizeof(uint32_t),
-    TRIES = 40,           /* before a thread sleeps for a monitor */
-    DEMANDS = 3,          /* rounds that one without room asks for; a later one follows the end of another section */
-    PART = 8,             /* of the time that a round's calls take: so long those without room look while the next takes records */
-    GATHER = 8,           /* of that time: so long a round waits at most for those that the last one has told */
-    MOST_PART = 20000000, /* nanoseconds, of such a part, also after calls that hung */
-    FEWEST = 4096,        /* records for each lane, which a round may take at least */
-    LOOKS = 250000,       /* nanoseconds: where a round takes less, one that waits for it looks for its end so long before it sleeps */
-    LOST_LOOK = 30000,    /* nanoseconds: a look that took longer has let somebody else run, */
-    BLIND = 64,           /* so that nobody looks for so many rounds */
-    SHORT_SLICE = 100000, /* nanoseconds that a thread which makes rounds, or waits for them, runs at once where others want to */
-    NAP = 20000,          /* nanoseconds between two looks, for each thread that waits for a round, where many do */
+    BUCKETS = sizeof((zelamiku_signals *)NULL)->waiting / sizeof(uint32_t),
+    TRIES = 40,               /* before a thread sleeps for a monitor */
+    DEMANDS = 3,              /* rounds that one without room asks for; a later one follows the end of another section */
+    POLLED_PART = 8,          /* 1/8 of the time of the last calls: how long a thread without room polls */
+    GATHERED_PART = 8,        /* 1/8 of that time: how long a round gathers at most */
+    MOST_PART = 20000000,     /* nanoseconds: such a part is no longer, also after calls that hung */
+    FEWEST = 4096,            /* records for each lane, which a round may take at least */
+    MOST_SPIN = 250000,       /* nanoseconds: where a round takes less, a thread looks so long for its end before it sleeps */
+    LONG_SPIN = 30000,        /* nanoseconds: a look that took longer has let another thread run, */
+    UNSPUN_ROUNDS = 64,       /* so nobody looks for so many rounds */
+    SHORT_SLICE = 100000,     /* nanoseconds that a thread which makes rounds, or waits for them, runs at once where others want to */
+    NAP = 20000,              /* nanoseconds between two looks, for each thread that waits for a round, where many do */
     SECOND = 1000000000
 };
 
@@ -88,37 +88,39 @@ typedef struct {
 typedef struct {
     _Alignas(256) _Atomic uint32_t bell; /* 1: somebody has rung since the last sleep */
     _Atomic uint32_t is_behind;          /* it sleeps until the next step of who leads */
-    _Atomic uint32_t rests;              /* whether others may look by its session: see waits.c */
+    _Atomic uint32_t session_use;        /* whether others may look by its session: see waits.c */
     _Atomic uint64_t acknowledged;       /* how many sections of the lane are durable */
     uint32_t wanted;                     /* mutex: the object whose monitor it waits for, plus one; 0: none */
-    bool is_lent, is_left;               /* mutex: a thread has it; that thread is to free the session */
-    bool is_told;                        /* mutex: the log hook was told of a circle of which it is */
-    _Atomic uint32_t is_cut;             /* the heap's end has cut off a section of its thread */
+    bool is_lent;                        /* mutex: a thread has the lane */
+    bool frees_session;                  /* mutex: the heap has ended, and that thread is to free the session */
+    bool is_logged;                      /* mutex: the log has a circle of which it is */
+    _Atomic uint32_t was_cut_off;        /* the heap's end has cut off a section of its thread */
     uint64_t turn;                       /* mutex: who waits for the monitor longest has the least */
-    _Atomic uint64_t before;             /* the sections that the lane had ended when it was lent; changed under the mutex */
+    _Atomic uint64_t earlier;            /* the sections that the lane had ended when it was lent; changed under the mutex */
     uint64_t asked;                      /* mutex: how many sections its event loop has asked for; 0: all of these are durable */
-    uint64_t told;                       /* mutex: how many were durable when the loop was told last */
+    uint64_t loop_knows;                 /* mutex: how many were durable when its event loop learned that last */
     uint64_t troubles;                   /* mutex: of how many the loop knows, or needn't */
-    uint64_t lacked;                     /* mutex: how many sections had ended when the loop found no room, plus one */
+    uint64_t lacked_at;                  /* mutex: how many sections had ended when the loop found no room, plus one */
     _Atomic uint64_t begun;              /* how many had ended when the last round began; of a lane with an event */
     int event;                           /* its descriptor, plus one; 0: none. Changed under the mutex and the registry's */
     _Atomic uint32_t has_event;          /* the same, for who leads */
     uint32_t demands;                    /* mutex: rounds that the loop has asked for since it found no room */
-    bool is_short, is_counted;           /* mutex: the loop has found no room; it counts among `awaiting` */
+    bool lacks_room;                     /* mutex: the loop has found no room */
+    bool counts_as_waiting;              /* mutex: the loop counts among `awaiting` */
     bool is_rung;                        /* mutex: its event is readable, or is to be once there is one */
-    _Alignas(128) _Atomic uint64_t number; /* the handle that it is lent by; 0: calls look at `known` and the heap */
+    _Alignas(128) _Atomic uint64_t number; /* the handle that it is lent by; 0: calls look at `lent_number` and the heap */
     _Atomic uint64_t open;               /* the same while a section is open, so that one look is enough for a load */
     _Atomic uint64_t ended;              /* how many sections the lane has ended */
     uint32_t locks;                      /* own: by how many monitors are held, all together */
     _Atomic uint32_t is_busy;            /* a section is open, or it waits: nobody else touches the session */
     zelamiku_handle session;             /* own; freed by who ends the heap where the thread isn't busy */
-    zelamiku_news *news;                 /* the heap's */
+    zelamiku_signals *signals;           /* the heap's */
     uint32_t records;                    /* own: about how many it has sent since the section `counted` */
     uint32_t has_stored;                 /* own: the section that is open has */
     _Atomic uint64_t last_stored;        /* the last section that has and has ended, by how many had ended with it */
     uint32_t is_plain;                   /* 1: nothing is kept of what its sections change */
     uint32_t lane;
-    _Atomic uint64_t known;              /* the handle, also after the heap's end */
+    _Atomic uint64_t lent_number;        /* the handle, also after the heap's end */
     heap *of;
     uint64_t counted;                    /* own: how many sections had ended when it began to count the records */
     changes *changes;                    /* own; NULL: it is plain */
@@ -133,7 +135,7 @@ struct heap {
     char *path;
     int file;                /* or -1 */
     char *where;             /* the path from the root on, for a look at whether it leads to the file; or NULL */
-    uint64_t looked;         /* leads: when the last such look was */
+    uint64_t path_checked;   /* leads: when the last such look was */
     dev_t volume;            /* registry */
     ino_t inode;
     uint64_t size;           /* of the image, in bytes */
@@ -141,8 +143,7 @@ struct heap {
     uint32_t lanes, objects, fields, processors;
     bool keeps_slice;        /* of the plan */
     bool reverts;            /* each lane keeps what its section changes */
-    zelamiku_device_calls *make_calls;
-    void *device;
+    zelamiku_device device;
     zelamiku_log *log;
     void *log_of;
     zelamiku_dropped *dropped;
@@ -152,33 +153,39 @@ struct heap {
     zelamiku_handle handle;  /* leads */
     uint64_t room;           /* how many records a lane's ring takes, or its log where that is less */
     uint64_t last_calls;     /* leads: how many nanoseconds the calls of the last round took */
-    uint64_t paid;           /* leads: how many records it would have taken in that time */
+    uint64_t affordable;     /* leads: how many records it would have taken in that time */
     uint64_t syncs_made;     /* leads */
     uint32_t urgent;         /* mutex: why a round is wanted now */
-    uint32_t guests;         /* mutex: how many wait to lead for something else than a round */
-    bool is_led, is_ending, is_troubled, is_taken; /* mutex: a thread leads; the helper is to end; a write has failed; a thread ends the heap */
-    uint32_t left;           /* mutex: how many threads are to free their sessions */
+    uint32_t waiting_to_lead; /* mutex: how many wait to lead for something else than a round */
+    bool is_led;             /* mutex: a thread leads */
+    bool is_ending;          /* mutex: the helper is to end */
+    bool is_troubled;        /* mutex: the last round's write has failed */
+    bool is_being_ended;     /* mutex: a thread closes or stops the heap for good */
+    uint32_t sessions_out;   /* mutex: how many threads are to free their sessions (`frees_session`) */
     uint32_t sleepers;       /* mutex: how many of those that wait are told by the next round's end */
-    bool is_own;             /* mutex: who leads waits for that round itself */
+    bool leader_waits;       /* mutex: who leads waits for that round itself */
     uint32_t loops;          /* mutex: how many lanes' event loops count among `awaiting` */
     uint32_t expected_sections; /* leads: as `expected`, of lanes with events */
     _Atomic uint32_t events; /* how many lanes have one; changed under the registry's mutex */
     uint64_t turns;          /* mutex: how many were given */
     zelamiku_stats stats;    /* mutex */
     _Alignas(64) _Atomic uint32_t waiting[BUCKETS]; /* how many wait for monitors, by the object modulo the buckets */
-    _Atomic uint32_t has_work;              /* a section has ended since the last round began, but for those of has_looks */
+    _Atomic uint32_t has_work;              /* a section has ended since the last round began, but for those of has_reads */
     uint32_t enough;                        /* records that a lane has sent, after which a section's end asks for a round */
-    _Alignas(64) _Atomic uint32_t over;     /* the status that all calls answer; 0 while the heap goes on */
+    _Alignas(64) _Atomic uint32_t end_status; /* what all calls answer since the heap's end; 0 while it goes on */
     _Atomic uint32_t is_settled;            /* nothing more will be acknowledged */
-    _Atomic uint32_t has_looks;             /* so have sections none of which has stored: no round comes for these by itself */
-    _Atomic uint32_t told, bell, watches;   /* see above; the helper's next look is due */
-    _Atomic uint32_t awaiting;              /* how many threads wait for a round; whom it was told has yet to look, and doesn't count */
-    _Atomic uint32_t arrivals, expected;    /* how many came for their sections since the last round began; were told by it */
-    _Atomic uint32_t leaves;                /* the last round has taken as much as it might: the next one comes at once */
+    _Atomic uint32_t has_reads;             /* so have sections none of which has stored: no round comes for these by itself */
+    _Atomic uint32_t round_bell;            /* changes after each round: all that wait for one sleep on it */
+    _Atomic uint32_t helper_bell;           /* changes when the helper is wanted, which sleeps on it */
+    _Atomic uint32_t has_timer;             /* the helper looks again within the linger, whoever rings */
+    _Atomic uint32_t awaiting;              /* threads that wait for a round and haven't been told of its end */
+    _Atomic uint32_t arrivals;              /* threads that came to wait for their sections since the last round began */
+    _Atomic uint32_t expected;              /* threads that the last round has told of its end: so many may come back */
+    _Atomic uint32_t has_more;              /* the last round has taken as much as it might: the next one comes at once */
     _Atomic uint64_t steps;                 /* odd while who leads takes records from the lanes' rings, each of which gives room */
-    _Atomic uint64_t haste;                 /* until when those without room look again, by zelamiku_now */
-    _Atomic uint64_t looks;                 /* how many nanoseconds one that waits for a round looks for its end before it sleeps */
-    _Atomic uint64_t blind;                 /* until so many rounds have ended nobody looks: others want the processors */
+    _Atomic uint64_t poll_until;            /* until when those without room look again, by zelamiku_now */
+    _Atomic uint64_t spin_time;             /* how many nanoseconds one that waits for a round looks for its end before it sleeps */
+    _Atomic uint64_t no_spin_before;        /* until so many rounds have ended nobody does: others want the processors */
     _Atomic uint64_t rounds, troubles;      /* that have ended; of which a write has failed */
     _Atomic int error;                      /* errno of the last of these, or of what the heap has ended with */
 };
@@ -193,11 +200,11 @@ static heap heaps[ZELAMIKU_MOST_HEAPS];
 
 /* What zelamiku_inline.h says of a seat. */
 #define IS_OWN(name) (offsetof(seat, name) == offsetof(seat, number) + offsetof(zelamiku_own, name))
-_Static_assert(IS_OWN(open) && IS_OWN(ended) && IS_OWN(records) && IS_OWN(locks) && IS_OWN(is_busy) && IS_OWN(session) && IS_OWN(news) &&
+_Static_assert(IS_OWN(open) && IS_OWN(ended) && IS_OWN(records) && IS_OWN(locks) && IS_OWN(is_busy) && IS_OWN(session) && IS_OWN(signals) &&
                    IS_OWN(has_stored) && IS_OWN(last_stored) && IS_OWN(is_plain),
                "zelamiku_own");
-_Static_assert(offsetof(heap, has_work) == offsetof(heap, waiting) + offsetof(zelamiku_news, has_work), "zelamiku_news");
-_Static_assert(offsetof(heap, enough) == offsetof(heap, waiting) + offsetof(zelamiku_news, enough), "zelamiku_news");
+_Static_assert(offsetof(heap, has_work) == offsetof(heap, waiting) + offsetof(zelamiku_signals, has_work), "zelamiku_signals");
+_Static_assert(offsetof(heap, enough) == offsetof(heap, waiting) + offsetof(zelamiku_signals, enough), "zelamiku_signals");
 _Static_assert(sizeof(seat) == 256 && offsetof(seat, number) == 128 && PLACE == 2096896, "ZELAMIKU_OWN_OF");
 
 static pthread_mutex_t registry = PTHREAD_MUTEX_INITIALIZER;
@@ -223,6 +230,7 @@ static inline zelamiku_own *own_of(seat *own) {
 }
 
 static inline seat *seat_at(heap *of, uint32_t lane) {
+    assert(lane < ZELAMIKU_MOST_LANES);
     return (seat *)(void *)ZELAMIKU_SEATS + (size_t)(of - heaps) * ZELAMIKU_MOST_LANES + lane;
 }
 
@@ -237,6 +245,7 @@ static inline void count_call(heap *of) {
 }
 
 static inline void end_call(heap *of) {
+    assert(of->underway > 0);
     of->underway--;
 }
 
@@ -248,7 +257,7 @@ static inline bool is_open(seat *own, zelamiku_thread thread) {
 static uint32_t sections_of_loops(heap *of);
 static uint32_t begin_for_loops(heap *of);
 static void tell_loops(heap *of, bool is_trouble, bool is_end);
-static void lack_room(heap *of, seat *own);
+static void note_no_room(heap *of, seat *own);
 static void drop_event(heap *of, seat *own);
 static void close_events(heap *of);
 

@@ -1,4 +1,7 @@
-/* A heap's life once its device is open: begin, close, stop, abandon, stats, copy. */
+/* A heap's life once its device is open: begin, close, stop, abandon, stats, copy.
+ *
+ * Under the heap's mutex a heap ends (`end_status`), once; and one thread takes its ending over (`is_being_ended`): that one ends the
+ * helper, waits until nobody leads, and lets all go. What is durable then is settled (`is_settled`), and no round comes after it. */
 /* ---- the beginning of a heap ---- */
 
 /* The seat as no thread has it, also of a lane that the heap doesn't have and one before had. By old handles others may look at its atomic
@@ -6,46 +9,42 @@
 static void clear_seat(heap *of, uint32_t lane) {
     seat *own = seat_at(of, lane);
     assert(own->changes == NULL && own->event == 0);
-    own->known = 0;
+    own->lent_number = 0;
     own->number = own->open = 0;
-    own->ended = own->acknowledged = own->before = own->last_stored = 0;
-    own->bell = own->is_behind = own->rests = own->is_cut = own->is_busy = 0;
+    own->ended = own->acknowledged = own->earlier = own->last_stored = 0;
+    own->bell = own->is_behind = own->session_use = own->was_cut_off = own->is_busy = 0;
     own->wanted = own->locks = own->records = own->has_stored = 0;
-    own->is_lent = own->is_left = own->is_told = false;
+    own->is_lent = own->frees_session = own->is_logged = false;
     own->turn = own->counted = 0;
     own->begun = 0;
-    own->asked = own->told = own->troubles = own->lacked = 0;
+    own->asked = own->loop_knows = own->troubles = own->lacked_at = 0;
     own->demands = 0;
-    own->is_short = own->is_counted = own->is_rung = false;
+    own->lacks_room = own->counts_as_waiting = own->is_rung = false;
     own->is_plain = !of->reverts;
     own->lane = lane;
     own->of = of;
-    own->news = (zelamiku_news *)(void *)of->waiting;
+    own->signals = (zelamiku_signals *)(void *)of->waiting;
     memset(&own->session, 0, sizeof own->session);
 }
 
-/* Takes the sessions of all lanes, each for the seat of its lane: a lane that had a session before comes after those that had none, and may
- * have ended sections. RUNNING: a lane's session is still out. */
+/* A session that was handed out first for its lane has ended no section. */
+static inline bool is_first_of(seat *own) {
+    uint32_t lane = ZELAMIKU_NOBODY;
+    uint64_t ended = 1;
+    return zelamiku_lane(&own->session, &lane, &ended) == ZELAMIKU_OK && lane == own->lane && ended == 0;
+}
+
+/* Takes the sessions of all lanes, which a heap that was just opened hands out from 0 on. */
 static zelamiku_status take_lanes(heap *of, zelamiku_handle *handle) {
-    zelamiku_handle session = ZELAMIKU_NONE;
     zelamiku_status status = ZELAMIKU_OK;
-    uint64_t ended = 0;
     for (uint32_t lane = 0; lane < ZELAMIKU_MOST_LANES; lane++) clear_seat(of, lane);
-    for (of->lanes = 0; of->lanes < ZELAMIKU_MOST_LANES && (status = zelamiku_session(handle, &session)) == ZELAMIKU_OK; of->lanes++) {
-        uint32_t lane = ZELAMIKU_NOBODY;
-        status = zelamiku_lane(&session, &lane, &ended);
-        if (status != ZELAMIKU_OK) {
-            zelamiku_free(&session);
-            return status;
-        }
-        seat *own = seat_at(of, lane);
-        own->session = session;
-        own->ended = own->counted = ended;
-        memset(&session, 0, sizeof session);
+    for (of->lanes = 0; of->lanes < ZELAMIKU_MOST_LANES; of->lanes++) {
+        seat *own = seat_at(of, of->lanes);
+        status = zelamiku_session(handle, &own->session);
+        if (status != ZELAMIKU_OK) break;
+        assert(is_first_of(own));
     }
-    if (status != ZELAMIKU_OK && status != ZELAMIKU_NONE_LEFT) return status;
-    /* Where the heap has a lane more than were handed out. */
-    return zelamiku_acknowledged(handle, of->lanes, &ended) == ZELAMIKU_BAD_LANE ? ZELAMIKU_OK : ZELAMIKU_RUNNING;
+    return status == ZELAMIKU_NONE_LEFT ? ZELAMIKU_OK : status;
 }
 
 static void mark_atomics(heap *of) {
@@ -54,8 +53,8 @@ static void mark_atomics(heap *of) {
     for (uint32_t lane = 0; lane < of->lanes; lane++) {
         seat *own = seat_at(of, lane);
         ARE_ATOMIC(own->bell, offsetof(seat, wanted));
-        ARE_ATOMIC(own->is_cut, sizeof own->is_cut);
-        ARE_ATOMIC(own->before, sizeof own->before);
+        ARE_ATOMIC(own->was_cut_off, sizeof own->was_cut_off);
+        ARE_ATOMIC(own->earlier, sizeof own->earlier);
         ARE_ATOMIC(own->begun, sizeof own->begun);
         ARE_ATOMIC(own->has_event, sizeof own->has_event);
         ARE_ATOMIC(own->number, sizeof *own - offsetof(seat, number));
@@ -71,14 +70,14 @@ static void clear_place(heap *of, const zelamiku_plan *plan) {
     of->log = plan->log;
     of->log_of = plan->log_of;
     of->reverts = plan->reverts != 0;
-    of->looks = 0;
-    of->last_calls = of->paid = of->syncs_made = of->turns = 0;
-    of->urgent = of->guests = of->left = of->sleepers = of->loops = of->expected_sections = 0;
-    of->is_led = of->is_own = of->is_ending = of->is_troubled = of->is_taken = false;
+    of->spin_time = 0;
+    of->last_calls = of->affordable = of->syncs_made = of->turns = 0;
+    of->urgent = of->waiting_to_lead = of->sessions_out = of->sleepers = of->loops = of->expected_sections = 0;
+    of->is_led = of->leader_waits = of->is_ending = of->is_troubled = of->is_being_ended = false;
     memset(&of->stats, 0, sizeof of->stats);
     for (unsigned i = 0; i < BUCKETS; i++) of->waiting[i] = 0;
-    of->has_work = of->is_settled = of->awaiting = of->arrivals = of->expected = of->leaves = of->watches = of->has_looks = 0;
-    of->steps = of->haste = of->rounds = of->troubles = of->blind = 0;
+    of->has_work = of->is_settled = of->awaiting = of->arrivals = of->expected = of->has_more = of->has_timer = of->has_reads = 0;
+    of->steps = of->poll_until = of->rounds = of->troubles = of->no_spin_before = 0;
 }
 
 /* Sets how many records a lane takes, by its ring and its log, and after how many a section's end asks for a round: three quarters of what is
@@ -86,6 +85,7 @@ static void clear_place(heap *of, const zelamiku_plan *plan) {
 static void set_room(heap *of, uint32_t ring, uint32_t capacity) {
     if (capacity < ring) ring = capacity;
     of->room = ring > ZELAMIKU_LEAST_CAPACITY ? ring : ZELAMIKU_LEAST_CAPACITY;
+    assert(of->room > ZELAMIKU_MOST_RECORDS);
     of->enough = (uint32_t)(of->room - ZELAMIKU_MOST_RECORDS) / 4 * 3;
 }
 
@@ -118,7 +118,7 @@ static int start_helper(heap *of) {
 }
 
 /* The heap of the handle lives in the place from now on. After a failure the sessions are free. */
-static zelamiku_status begin(heap *of, zelamiku_handle *handle, zelamiku_heap *told) {
+static zelamiku_status occupy(heap *of, zelamiku_handle *handle, zelamiku_heap *begun) {
     zelamiku_status status = take_lanes(of, handle);
     if (status == ZELAMIKU_OK && of->reverts) {
         status = keep_changes(of, handle);
@@ -128,11 +128,11 @@ static zelamiku_status begin(heap *of, zelamiku_handle *handle, zelamiku_heap *t
         mark_atomics(of);
         of->handle = *handle;
         memset(handle, 0, sizeof *handle);
-        told->number = new_number((size_t)(of - heaps) << 8 | 1);
-        of->number = told->number;
+        begun->number = new_number((size_t)(of - heaps) << 8 | 1);
+        of->number = begun->number;
         int error = start_helper(of);
         if (error == 0) return ZELAMIKU_OK;
-        of->number = told->number = 0;
+        of->number = begun->number = 0;
         zelamiku_free(&of->handle);
         status = fail(of->path, ZELAMIKU_NO_MEMORY, error, "the helper's thread can't be started", NULL, "open");
     } else {
@@ -140,33 +140,6 @@ static zelamiku_status begin(heap *of, zelamiku_handle *handle, zelamiku_heap *t
     }
     for (uint32_t lane = 0; lane < ZELAMIKU_MOST_LANES; lane++) zelamiku_free(&seat_at(of, lane)->session);
     return status;
-}
-
-zelamiku_status zelamiku_heap_start(zelamiku_heap *heap_, const char *name, zelamiku_handle *handle, zelamiku_device_calls *calls,
-                                    void *device, const zelamiku_plan *plan) {
-    static const zelamiku_plan NO_PLAN;
-    if (heap_ != NULL) heap_->number = 0;
-    if (heap_ == NULL || name == NULL || handle == NULL || calls == NULL) return nothing("start", "give each");
-    zelamiku_status status = ZELAMIKU_OK;
-    heap *of = place_for(name, plan != NULL ? plan : &NO_PLAN, "start", &status);
-    if (of == NULL) return status;
-    of->make_calls = calls;
-    of->device = device;
-    of->size = 0;
-    of->objects = ZELAMIKU_MOST_OBJECTS;
-    of->fields = ZELAMIKU_MOST_FIELDS;
-    zelamiku_shape shape = {0};
-    zelamiku_field none = {0};
-    uint32_t ring = plan != NULL && plan->ring != 0 ? plan->ring : ZELAMIKU_LEAST_RING;
-    if (zelamiku_fields(handle, &shape, &none, 0) == ZELAMIKU_OK) set_room(of, ring, shape.capacity);
-    status = begin(of, handle, heap_);
-    if (status != ZELAMIKU_OK) {
-        free_place(of);
-        return status;
-    }
-    /* What opening or making left to be called. */
-    demand(of, ZELAMIKU_ROUND_OPENING);
-    return ZELAMIKU_OK;
 }
 
 /* ---- the end of a heap ---- */
@@ -183,21 +156,22 @@ static void tell_end_of_rounds(heap *of) {
 
 /* Lets go of the file, the library's memory, and the place, but for the sessions of threads that are inside of theirs: each lets go of its
  * own with its next call, and the last of them of the place. */
-static void let_go(heap *of) {
+static void release(heap *of) {
     zelamiku_free(&of->handle);
     close_file(of);
     pthread_mutex_lock(&of->mutex);
+    assert(of->end_status != 0 && of->is_settled && !of->is_led && of->sessions_out == 0);
     free(of->dropped);
     of->dropped = NULL;
     for (uint32_t lane = 0; lane < of->lanes; lane++) {
         seat *own = seat_at(of, lane);
-        own->is_left = own->is_busy;
-        if (own->is_left)
-            of->left++;
+        own->frees_session = own->is_busy;
+        if (own->frees_session)
+            of->sessions_out++;
         else
             zelamiku_free(&own->session);
     }
-    bool is_free = of->left == 0;
+    bool is_free = of->sessions_out == 0;
     pthread_mutex_unlock(&of->mutex);
     if (is_free) free_place(of);
 }
@@ -206,14 +180,15 @@ static void let_go(heap *of) {
 COLD void leave(heap *of, seat *own) {
     bool is_last = false;
     pthread_mutex_lock(&of->mutex);
-    if (own->locks > 0) own->is_cut = 1;
+    if (own->locks > 0) own->was_cut_off = 1;
     own->locks = 0;
     own->open = 0;
     own->is_busy = 0;
-    if (own->is_left) {
-        own->is_left = false;
+    if (own->frees_session) {
+        assert(of->end_status != 0 && of->sessions_out > 0);
+        own->frees_session = false;
         zelamiku_free(&own->session);
-        is_last = --of->left == 0;
+        is_last = --of->sessions_out == 0;
     }
     pthread_mutex_unlock(&of->mutex);
     if (is_last) free_place(of);
@@ -223,9 +198,9 @@ COLD void leave(heap *of, seat *own) {
 static void await_next_round(heap *of) {
     uint64_t rounds = of->rounds;
     while (of->rounds == rounds) {
-        uint32_t seen = of->told;
+        uint32_t seen = of->round_bell;
         pthread_mutex_unlock(&of->mutex);
-        (void)sleep_on(&of->told, seen, ZELAMIKU_NO_DEADLINE);
+        (void)sleep_on(&of->round_bell, seen, ZELAMIKU_NO_DEADLINE);
         pthread_mutex_lock(&of->mutex);
     }
 }
@@ -243,27 +218,28 @@ static zelamiku_status try_stop(heap *of) {
             status = ZELAMIKU_CALLS_LEFT;
     }
     for (uint32_t lane = 0; status != ZELAMIKU_OK && lane < of->lanes; lane++)
-        if (seat_at(of, lane)->is_lent) seat_at(of, lane)->number = seat_at(of, lane)->known;
+        if (seat_at(of, lane)->is_lent) seat_at(of, lane)->number = seat_at(of, lane)->lent_number;
     return status;
 }
 
 /* Under the mutex: waits until all is durable and nothing is open. */
 static zelamiku_status settle(heap *of) {
     uint64_t troubles = of->troubles;
-    zelamiku_status status = (zelamiku_status)of->over;
+    zelamiku_status status = (zelamiku_status)of->end_status;
     while (status == ZELAMIKU_OK && (status = try_stop(of)) == ZELAMIKU_CALLS_LEFT) {
         of->urgent = ZELAMIKU_ROUND_CLOSING;
         ring_helper(of);
         await_next_round(of);
         status = trouble_since(of, troubles);
-        if (status == ZELAMIKU_OK) status = (zelamiku_status)of->over;
+        if (status == ZELAMIKU_OK) status = (zelamiku_status)of->end_status;
     }
     return status;
 }
 
 /* Under the mutex, which it gives back: the helper ends, and nobody leads any more. */
 static void end_helper(heap *of) {
-    of->is_taken = of->is_ending = true;
+    assert(of->end_status != 0 && !of->is_being_ended);
+    of->is_being_ended = of->is_ending = true;
     ring_helper(of);
     pthread_mutex_unlock(&of->mutex);
     (void)pthread_join(of->helper, NULL);
@@ -285,7 +261,7 @@ static zelamiku_status close_cleanly(heap *of) {
 
 static zelamiku_status tell_end(heap *of, zelamiku_status status, int error, const char *call) {
     if (status == ZELAMIKU_OK) {
-        tell_log(of, ZELAMIKU_LOG_INFO, "%s", text_of(of->over, 0));
+        tell_log(of, ZELAMIKU_LOG_INFO, "%s", text_of(of->end_status, 0));
         return ZELAMIKU_OK;
     }
     bool has_cause = status == ZELAMIKU_LOST || status == ZELAMIKU_DEVICE;
@@ -294,8 +270,8 @@ static zelamiku_status tell_end(heap *of, zelamiku_status status, int error, con
 
 static zelamiku_status close_heap(heap *of) {
     pthread_mutex_lock(&of->mutex);
-    zelamiku_status status = of->is_taken ? (zelamiku_status)of->over : settle(of);
-    if (of->is_taken || status == ZELAMIKU_RUNNING || status == ZELAMIKU_DEVICE) {
+    zelamiku_status status = of->is_being_ended ? (zelamiku_status)of->end_status : settle(of);
+    if (of->is_being_ended || status == ZELAMIKU_RUNNING || status == ZELAMIKU_DEVICE) {
         pthread_mutex_unlock(&of->mutex);
         return tell_end(of, status, of->error, "close");
     }
@@ -309,7 +285,7 @@ static zelamiku_status close_heap(heap *of) {
         if (status != ZELAMIKU_OK) error = errno;
     }
     tell_end_of_rounds(of);
-    let_go(of);
+    release(of);
     return tell_end(of, status, error, "close");
 }
 
@@ -325,8 +301,8 @@ zelamiku_status zelamiku_heap_close(zelamiku_heap heap_) {
 /* Stops the heap, so that all calls answer this. */
 static zelamiku_status stop_heap(heap *of, zelamiku_status why, const char *call) {
     pthread_mutex_lock(&of->mutex);
-    zelamiku_status status = (zelamiku_status)of->over;
-    if (of->is_taken) {
+    zelamiku_status status = (zelamiku_status)of->end_status;
+    if (of->is_being_ended) {
         pthread_mutex_unlock(&of->mutex);
         return tell_end(of, status, of->error, call);
     }
@@ -339,7 +315,7 @@ static zelamiku_status stop_heap(heap *of, zelamiku_status why, const char *call
         error = of->error;
     }
     tell_end_of_rounds(of);
-    let_go(of);
+    release(of);
     return tell_end(of, status, error, call);
 }
 
@@ -371,7 +347,7 @@ zelamiku_status zelamiku_heap_stats(zelamiku_heap heap_, zelamiku_stats *stats) 
     pthread_mutex_lock(&of->mutex);
     *stats = of->stats;
     stats->troubles = of->troubles;
-    stats->awaiting = of->awaiting + of->is_own;
+    stats->awaiting = of->awaiting + of->leader_waits;
     for (uint32_t lane = 0; lane < of->lanes; lane++) {
         seat *other = seat_at(of, lane);
         stats->sections += other->acknowledged;
@@ -389,17 +365,17 @@ static zelamiku_status await_round(heap *of, uint64_t seen, uint64_t deadline, u
     uint64_t troubles = of->troubles;
     run_soon(of);
     of->awaiting++;
-    if (of->has_work || of->has_looks) {
+    if (of->has_work || of->has_reads) {
         of->arrivals++;
         demand(of, ZELAMIKU_ROUND_AWAITED);
     }
     for (bool is_early = true;;) {
-        uint32_t word = of->told;
+        uint32_t word = of->round_bell;
         *rounds = of->rounds;
-        if (of->is_settled) status = (zelamiku_status)of->over;
+        if (of->is_settled) status = (zelamiku_status)of->end_status;
         if (status == ZELAMIKU_OK) status = trouble_since(of, troubles);
         if (*rounds > seen || status != ZELAMIKU_OK || !is_early) break;
-        is_early = sleep_on(&of->told, word, deadline);
+        is_early = sleep_on(&of->round_bell, word, deadline);
     }
     of->awaiting--;
     return status == ZELAMIKU_OK ? status : tell_end(of, status, of->error, "await a round");
@@ -425,17 +401,17 @@ static zelamiku_status copy_bytes(heap *of, uint8_t *bytes) {
     return status;
 }
 
-/* The heap's bytes of a moment between two rounds, and the rights of its file. */
+/* The heap's bytes of a moment between two rounds, and the rights of its file, or those of a new one where it has none. */
 static zelamiku_status take_bytes(heap *of, uint8_t *bytes, mode_t *mode) {
-    struct stat info = {0};
+    struct stat info = {.st_mode = 0600};
     pthread_mutex_lock(&of->mutex);
-    zelamiku_status status = (zelamiku_status)of->over;
+    zelamiku_status status = (zelamiku_status)of->end_status;
     if (status == ZELAMIKU_OK) {
         lead_as_guest(of);
-        status = (zelamiku_status)of->over;
+        status = (zelamiku_status)of->end_status;
         pthread_mutex_unlock(&of->mutex);
         if (status == ZELAMIKU_OK) {
-            (void)fstat(of->file, &info);
+            if (of->file >= 0) (void)fstat(of->file, &info);
             status = copy_bytes(of, bytes);
         }
         pthread_mutex_lock(&of->mutex);
@@ -484,8 +460,7 @@ static zelamiku_status write_copy(draft *it, const char *path, const uint8_t *by
 
 static zelamiku_status copy_to(heap *of, const char *path) {
     zelamiku_status status = ZELAMIKU_OK;
-    if (of->over != 0) return tell_end(of, (zelamiku_status)of->over, of->error, "copy");
-    if (of->size == 0) return errno = EBADF, no_copy(path); /* it has no file */
+    if (of->end_status != 0) return tell_end(of, (zelamiku_status)of->end_status, of->error, "copy");
     uint64_t size = of->size;
     uint8_t *bytes = (uint8_t *)malloc(size);
     if (bytes == NULL) return fail(of->path, ZELAMIKU_NO_MEMORY, 0, NULL, NULL, "copy");

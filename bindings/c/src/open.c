@@ -1,10 +1,13 @@
-/* Opening a heap by its path: lock, recover or make, compare with the plan. */
+/* Opening a heap by its path, or on a device: lock, recover or make, compare with the plan.
+ *
+ * Nobody knows the heap before it is open: so no lock is needed but the registry's, for descriptors and for whether this process has the
+ * file open. */
 /* ---- opening ---- */
 
 /* An open that is underway. */
 typedef struct {
     heap *of;
-    const char *path;
+    const char *path; /* or the device's name */
     const zelamiku_plan *plan;
     zelamiku_report *report;
     zelamiku_handle handle;
@@ -17,7 +20,8 @@ static zelamiku_status refuse(door *at, zelamiku_status status, int error) {
     return fail(at->path, status, error, at->cause[0] != 0 ? at->cause : NULL, at->cure[0] != 0 ? at->cure : NULL, "open");
 }
 
-static zelamiku_status no_file(door *at, const char *cause) {
+/* The file or the device has failed, by errno. */
+static zelamiku_status no_device(door *at, const char *cause) {
     int error = errno;
     (void)snprintf(at->cause, sizeof at->cause, "%s", cause);
     return refuse(at, ZELAMIKU_DEVICE, error);
@@ -130,13 +134,13 @@ static uint32_t ring_for(const door *at, uint32_t capacity) {
 
 /* Opens the heap of these bytes. Of a process that has died few sections are dropped; where there are more it is opened again, by which
  * nothing is asked of the device. */
-static zelamiku_status open_bytes(door *at, const uint8_t *image, size_t size, zelamiku_opening *opening) {
+static zelamiku_status open_bytes(door *at, const uint8_t *image, size_t size, zelamiku_opening *by) {
     zelamiku_told *told = &at->report->told;
     uint32_t ring = ring_for(at, at->shape.capacity);
     for (size_t room = 256;;) {
         zelamiku_dropped *dropped = (zelamiku_dropped *)calloc(room, sizeof *dropped);
         if (dropped == NULL) return ZELAMIKU_NO_MEMORY;
-        zelamiku_status status = opening(&at->handle, image, size, ring, told, dropped, room);
+        zelamiku_status status = by(&at->handle, image, size, ring, told, dropped, room);
         bool is_whole = status != ZELAMIKU_OK || told->found.dropped <= room;
         at->of->dropped = is_whole && status == ZELAMIKU_OK ? dropped : NULL;
         if (at->of->dropped == NULL) free(dropped);
@@ -149,11 +153,11 @@ static zelamiku_status open_bytes(door *at, const uint8_t *image, size_t size, z
     }
 }
 
-/* Opens the heap of the file's bytes, which are durable. NOT_FORMATTED has no message yet: its first bytes are no header. */
+/* Opens the heap of the device's bytes, which are durable. NOT_FORMATTED has no message yet: its first bytes are no header. */
 static zelamiku_status open_image(door *at, uint64_t size) {
     uint8_t begun[ZELAMIKU_HEAD_BYTES] = {0};
-    int file = at->of->file;
-    if (!read_all(file, begun, size < sizeof begun ? size : sizeof begun, 0)) return no_file(at, "it can't be read");
+    const zelamiku_device *from = &at->of->device;
+    if (read_device(from, 0, begun, (size_t)(size < sizeof begun ? size : sizeof begun)) != ZELAMIKU_OK) return no_device(at, "it can't be read");
     zelamiku_status status = zelamiku_head(begun, sizeof begun, &at->shape);
     if (status == ZELAMIKU_NOT_FORMATTED) return status;
     if (status == ZELAMIKU_OK && size < at->shape.size) status = ZELAMIKU_TOO_SMALL;
@@ -161,7 +165,8 @@ static zelamiku_status open_image(door *at, uint64_t size) {
     size_t whole = (size_t)at->shape.size;
     uint8_t *image = (uint8_t *)malloc(whole);
     if (image == NULL) return refuse(at, ZELAMIKU_NO_MEMORY, 0);
-    status = read_all(file, image, whole, 0) ? open_bytes(at, image, whole, zelamiku_open) : no_file(at, "it can't be read");
+    status = read_device(from, 0, image, whole);
+    status = status == ZELAMIKU_OK ? open_bytes(at, image, whole, zelamiku_open) : no_device(at, "it can't be read");
     if (status == ZELAMIKU_OLD_VERSION && at->plan->upgrades != 0) {
         status = open_bytes(at, image, whole, zelamiku_upgrade);
         at->report->is_upgraded = status == ZELAMIKU_OK;
@@ -174,21 +179,21 @@ static zelamiku_status open_image(door *at, uint64_t size) {
     return status == ZELAMIKU_DEVICE ? status : refuse(at, status, 0);
 }
 
-/* Whether the file has only zeros from there on. */
+/* Whether the device has only zeros from there on, up to `size`. */
 static zelamiku_status must_be_zeros(door *at, uint64_t from, uint64_t size) {
     uint8_t bytes[4096];
     static const uint8_t zeros[sizeof bytes];
     for (uint64_t count; from < size; from += count) {
         count = size - from < sizeof bytes ? size - from : sizeof bytes;
-        if (!read_all(at->of->file, bytes, count, from)) return no_file(at, "it can't be read");
+        if (read_device(&at->of->device, from, bytes, (size_t)count) != ZELAMIKU_OK) return no_device(at, "it can't be read");
         if (memcmp(bytes, zeros, (size_t)count) != 0) return refuse(at, ZELAMIKU_NOT_FORMATTED, 0);
     }
     return ZELAMIKU_OK;
 }
 
-/* Whether a heap may replace the file, in which the library has found none: it is empty, has only zeros, or is what a making in place that was
- * cut off before its first control has left. A heap with a changed byte isn't free: its control shows that there was one, or its lanes' areas
- * do. */
+/* Whether a heap may replace the first `size` bytes of the device, in which the library has found none: they are none, only zeros, or what a
+ * making in place that was cut off before its first control has left. A heap with a changed byte isn't free: its control shows that there was
+ * one, or its lanes' areas do. */
 static zelamiku_status must_be_free(door *at, uint64_t size) {
     const zelamiku_shape *begun = &at->shape;
     if (begun->is_damaged == 0 && begun->zeros_from == 0) return must_be_zeros(at, 0, size);
@@ -200,14 +205,24 @@ static zelamiku_status must_be_free(door *at, uint64_t size) {
     return status;
 }
 
-/* Gives the new file so many zeros, written, so that its space is there before anything is kept in it. */
-static bool write_zeros(int file, uint64_t size) {
+/* Writes so many zeros, durably, so that there is space before anything is kept in it. */
+static zelamiku_status write_zeros(const zelamiku_device *to, uint64_t size) {
     static const uint8_t zeros[1 << 16];
-    for (uint64_t at = 0, count; at < size; at += count) {
+    zelamiku_status status = ZELAMIKU_OK;
+    for (uint64_t at = 0, count; status == ZELAMIKU_OK && at < size; at += count) {
         count = size - at < sizeof zeros ? size - at : sizeof zeros;
-        if (!write_all(file, zeros, count, at)) return false;
+        status = write_device(to, at, zeros, (size_t)count);
     }
-    return sync_file(file);
+    return status == ZELAMIKU_OK ? sync_device(to) : status;
+}
+
+/* Makes the heap that the handle has on a device of zeros, by all of its first calls. */
+static zelamiku_status make_on(door *at, const zelamiku_device *to, uint64_t size) {
+    uint64_t calls = 0;
+    zelamiku_status status = write_zeros(to, size);
+    if (status == ZELAMIKU_OK) status = make_calls_on(&at->handle, to, &calls, &at->of->syncs_made);
+    if (status == ZELAMIKU_DEVICE || status == ZELAMIKU_LOST) return no_device(at, "a heap can't be made in it");
+    return status == ZELAMIKU_OK ? status : refuse(at, status, 0);
 }
 
 /* The new file may be read and written by whom the old one may; where its system has no such rights, by whom that says. */
@@ -222,18 +237,16 @@ static void keep_rights(const draft *it) {
  * meanwhile is BUSY. */
 static zelamiku_status make_file(door *at, draft *it, uint64_t size) {
     const char *cause = NULL;
-    uint64_t calls = 0;
-    if (!find_real_path(at->path, it->path)) return no_file(at, "it can't be opened");
+    if (!find_real_path(at->path, it->path)) return no_device(at, "it can't be opened");
     zelamiku_status status = begin_draft(it, it->old < 0 ? 0666 : 0600, &cause);
-    if (status == ZELAMIKU_DEVICE) return no_file(at, cause);
+    if (status == ZELAMIKU_DEVICE) return no_device(at, cause);
     if (status != ZELAMIKU_OK) return fail(at->path, status, 0, cause, "open it again", "open");
     keep_rights(it);
-    if (!write_zeros(it->file, size)) return no_file(at, "a heap can't be made in it");
-    status = calls_of_file(&at->handle, it->file, &calls, &at->of->syncs_made);
-    if (status == ZELAMIKU_DEVICE || status == ZELAMIKU_LOST) return no_file(at, "a heap can't be made in it");
-    if (status != ZELAMIKU_OK) return refuse(at, status, 0);
+    zelamiku_device file = device_of_file(it->file);
+    status = make_on(at, &file, size);
+    if (status != ZELAMIKU_OK) return status;
     if (put_in_place(it)) return ZELAMIKU_OK;
-    status = no_file(at, it->is_in_place ? "its folder can't be synced" : "a heap can't be made in it");
+    status = no_device(at, it->is_in_place ? "its folder can't be synced" : "a heap can't be made in it");
     if (it->is_in_place && it->old < 0) (void)unlink(it->path); /* as long as it is locked */
     return status;
 }
@@ -244,13 +257,14 @@ static void adopt(heap *of, draft *it) {
     (void)fstat(it->file, &own);
     pthread_mutex_lock(&registry);
     of->file = it->file;
+    of->device = device_of_file(of->file);
     it->file = -1;
     of->volume = own.st_dev;
     of->inode = own.st_ino;
     pthread_mutex_unlock(&registry);
 }
 
-/* The heap of the plan, with its fingerprint, and how many bytes its file is to have. */
+/* The heap of the plan, with its fingerprint, and how many bytes it takes. */
 static zelamiku_status format(door *at, uint64_t *size) {
     const zelamiku_plan *plan = at->plan;
     uint32_t ring = ring_for(at, at->capacity), count = plan->count + (plan->fingerprint != 0);
@@ -264,28 +278,53 @@ static zelamiku_status format(door *at, uint64_t *size) {
     return status == ZELAMIKU_OK ? status : refuse(at, status, 0);
 }
 
+static void report_made(door *at, uint64_t size) {
+    zelamiku_found made = {size, at->plan->objects, at->plan->count, at->lanes, at->capacity, 0, 0};
+    at->report->told.found = made;
+    at->report->is_made = 1;
+}
+
+/* Whether the plan lets a heap be made. */
+static zelamiku_status may_make(door *at, int error) {
+    if (at->plan->must_exist == 0) return ZELAMIKU_OK;
+    (void)snprintf(at->cause, sizeof at->cause, "there is no heap");
+    (void)snprintf(at->cure, sizeof at->cure, "mount its volume, or open without must_exist to make one");
+    return refuse(at, ZELAMIKU_NOT_FORMATTED, error);
+}
+
 /* Where the path has no heap: makes one, beside the path, for a plan that is good. A kill at any moment leaves at the path what was there, or
  * the heap. */
-static zelamiku_status make_heap(door *at) {
-    const zelamiku_plan *plan = at->plan;
+static zelamiku_status make_at_path(door *at) {
     uint64_t size = 0;
-    if (plan->must_exist != 0) {
-        (void)snprintf(at->cause, sizeof at->cause, "there is no heap");
-        (void)snprintf(at->cure, sizeof at->cure, "mount its volume, or open without must_exist to make one");
-        return refuse(at, ZELAMIKU_NOT_FORMATTED, at->of->file < 0 ? ENOENT : 0);
-    }
-    zelamiku_status status = format(at, &size);
+    zelamiku_status status = may_make(at, at->of->file < 0 ? ENOENT : 0);
+    if (status == ZELAMIKU_OK) status = format(at, &size);
     if (status != ZELAMIKU_OK) return status;
     draft it;
     list_draft(&it, &at->of->file);
     status = make_file(at, &it, size);
     if (status == ZELAMIKU_OK) {
-        zelamiku_found made = {size, plan->objects, plan->count, at->lanes, at->capacity, 0, 0};
-        at->report->told.found = made;
-        at->report->is_made = 1;
+        report_made(at, size);
         adopt(at->of, &it);
     }
     end_draft(&it);
+    return status;
+}
+
+/* Where a device of `has` bytes has no heap: makes one in place, if what it is to lie on is free. */
+static zelamiku_status make_in_place(door *at, uint64_t has) {
+    uint64_t size = 0;
+    zelamiku_status status = format(at, &size);
+    if (status == ZELAMIKU_OK) status = must_be_free(at, has < size ? has : size);
+    if (status == ZELAMIKU_OK) status = may_make(at, 0);
+    if (status != ZELAMIKU_OK) return status;
+    if (has < size) {
+        (void)snprintf(at->cause, sizeof at->cause, "the device has %llu bytes, and the heap takes %llu", (unsigned long long)has,
+                       (unsigned long long)size);
+        (void)snprintf(at->cure, sizeof at->cure, "give it more, or the plan fewer lanes or a smaller capacity");
+        return refuse(at, ZELAMIKU_TOO_SMALL, 0);
+    }
+    status = make_on(at, &at->of->device, size);
+    if (status == ZELAMIKU_OK) report_made(at, size);
     return status;
 }
 
@@ -294,15 +333,15 @@ static zelamiku_status make_heap(door *at) {
 static zelamiku_status lock_file(door *at) {
     struct stat own;
     heap *of = at->of;
-    if (fstat(of->file, &own) != 0) return no_file(at, "it can't be used");
-    if (!S_ISREG(own.st_mode)) return errno = EINVAL, no_file(at, "it is no regular file");
+    if (fstat(of->file, &own) != 0) return no_device(at, "it can't be used");
+    if (!S_ISREG(own.st_mode)) return errno = EINVAL, no_device(at, "it is no regular file");
     bool is_ours = false;
     pthread_mutex_lock(&registry);
     for (size_t place = 1; place < ZELAMIKU_MOST_HEAPS; place++)
         is_ours |= heaps[place].is_used && heaps[place].volume == own.st_dev && heaps[place].inode == own.st_ino;
     pthread_mutex_unlock(&registry);
     zelamiku_status status = lock_alone(of->file);
-    if (status == ZELAMIKU_DEVICE) return no_file(at, "it can't be locked");
+    if (status == ZELAMIKU_DEVICE) return no_device(at, "it can't be locked");
     if (status == ZELAMIKU_BUSY && is_ours) {
         (void)snprintf(at->cause, sizeof at->cause, "this process has its heap open already");
         (void)snprintf(at->cure, sizeof at->cure, "use that one's handle, or close it before");
@@ -323,57 +362,66 @@ static zelamiku_status lock_file(door *at) {
 /* Writes the header and both slots of the control back with the bytes that they read, and syncs. Where a write or a sync of a process before this
  * one has failed, the system may give what the device hasn't, and no later sync brings it there; that it drops its pages is a request alone.
  * What these bytes count was synced before they were written. A byte that is written with its own value isn't lost (docs/FORMAT.md). */
-static bool write_head_back(int file) {
+static zelamiku_status write_head_back(const zelamiku_device *on) {
     uint8_t head[ZELAMIKU_HEAD_BYTES];
-    return read_all(file, head, sizeof head, 0) && write_all(file, head, sizeof head, 0) && sync_file(file);
+    zelamiku_status status = read_device(on, 0, head, sizeof head);
+    if (status == ZELAMIKU_OK) status = write_device(on, 0, head, sizeof head);
+    return status == ZELAMIKU_OK ? sync_device(on) : status;
 }
 
-/* The heap of the locked file: recovered, or made. Its first calls are made here. */
-static zelamiku_status open_locked(door *at) {
-    struct stat info;
-    int file = at->of->file;
-    uint64_t calls = 0;
-    /* What a process before this one wrote may be in the system's cache alone: it is made durable, and then read from the device. */
-    if (!sync_file(file) || fstat(file, &info) != 0) return no_file(at, "it can't be synced");
-    (void)posix_fadvise(file, 0, 0, POSIX_FADV_DONTNEED);
-    zelamiku_status status = open_image(at, (uint64_t)info.st_size);
+/* The heap of the device, which nobody else writes: recovered, or made. Its first calls are made here. */
+static zelamiku_status recover_or_make(door *at) {
+    const zelamiku_device *on = &at->of->device;
+    bool is_file = at->of->file >= 0;
+    uint64_t calls = 0, size = 0;
+    /* What a process before this one wrote may be in a cache alone: it is made durable, and then read from the device. */
+    if (sync_device(on) != ZELAMIKU_OK || tell_size(on, &size) != ZELAMIKU_OK) return no_device(at, "it can't be synced");
+    if (is_file) (void)posix_fadvise(at->of->file, 0, 0, POSIX_FADV_DONTNEED);
+    zelamiku_status status = open_image(at, size);
     if (status == ZELAMIKU_NOT_FORMATTED) {
-        status = must_be_free(at, (uint64_t)info.st_size);
-        return status == ZELAMIKU_OK ? make_heap(at) : status;
+        if (!is_file) return make_in_place(at, size);
+        status = must_be_free(at, size);
+        return status == ZELAMIKU_OK ? make_at_path(at) : status;
     }
     if (status != ZELAMIKU_OK) return status;
-    if (!write_head_back(file)) return no_file(at, "a write or a sync of it has failed");
-    status = calls_of_file(&at->handle, file, &calls, &at->of->syncs_made);
+    status = write_head_back(on);
+    if (status == ZELAMIKU_OK) status = make_calls_on(&at->handle, on, &calls, &at->of->syncs_made);
     if (status == ZELAMIKU_OK) return ZELAMIKU_OK;
     if (status != ZELAMIKU_DEVICE && status != ZELAMIKU_LOST) return refuse(at, status, 0);
-    return no_file(at, "a write or a sync of it has failed");
+    return no_device(at, "a write or a sync of it has failed");
 }
 
 /* Where there is no file none is made for a plan that is no good. */
 static zelamiku_status open_path(door *at) {
     bool is_there = open_listed(&at->of->file, at->path, O_RDWR, 0);
-    if (!is_there && errno != ENOENT) return no_file(at, "it can't be opened");
+    if (!is_there && errno != ENOENT) return no_device(at, "it can't be opened");
     zelamiku_status status = check_plan(at);
     if (status != ZELAMIKU_OK) return status;
-    if (!is_there) return make_heap(at);
+    if (!is_there) return make_at_path(at);
+    at->of->device = device_of_file(at->of->file);
     status = lock_file(at);
-    return status == ZELAMIKU_OK ? open_locked(at) : status;
+    return status == ZELAMIKU_OK ? recover_or_make(at) : status;
 }
 
-static zelamiku_status open_door(door *at, zelamiku_heap *told) {
+static zelamiku_status open_device(door *at, const zelamiku_device *device) {
+    at->of->device = *device;
+    zelamiku_status status = check_plan(at);
+    return status == ZELAMIKU_OK ? recover_or_make(at) : status;
+}
+
+/* Opens the heap of the device, or where it is NULL that of the file at the path. */
+static zelamiku_status open_door(door *at, const zelamiku_device *device, zelamiku_heap *opened) {
     heap *of = at->of;
-    zelamiku_status status = open_path(at);
+    zelamiku_status status = device != NULL ? open_device(at, device) : open_path(at);
     if (status == ZELAMIKU_OK) {
         const zelamiku_found *found = &at->report->told.found;
         of->size = found->size;
         of->objects = found->objects;
         of->fields = found->fields;
         set_room(of, at->ring, found->capacity);
-        of->make_calls = calls_of_heap;
-        of->device = of;
-        of->where = path_from_root(at->path);
-        of->looked = zelamiku_now();
-        status = begin(of, &at->handle, told);
+        if (device == NULL) of->where = path_from_root(at->path);
+        of->path_checked = zelamiku_now();
+        status = occupy(of, &at->handle, opened);
     }
     if (status == ZELAMIKU_OK) return ZELAMIKU_OK;
     zelamiku_free(&at->handle);
@@ -384,7 +432,8 @@ static zelamiku_status open_door(door *at, zelamiku_heap *told) {
     return status;
 }
 
-zelamiku_status zelamiku_heap_open(zelamiku_heap *heap_, const char *path, const zelamiku_plan *plan, zelamiku_report *report) {
+static zelamiku_status open_by(zelamiku_heap *heap_, const char *path, const zelamiku_device *device, const zelamiku_plan *plan,
+                                 zelamiku_report *report) {
     zelamiku_report unseen;
     if (report == NULL) report = &unseen;
     memset(report, 0, sizeof *report);
@@ -398,7 +447,7 @@ zelamiku_status zelamiku_heap_open(zelamiku_heap *heap_, const char *path, const
     zelamiku_status status = ZELAMIKU_OK;
     at.of = place_for(path, plan, "open", &status);
     if (at.of == NULL) return status;
-    status = open_door(&at, heap_);
+    status = open_door(&at, device, heap_);
     if (status != ZELAMIKU_OK) return status;
     const char *how = report->is_made != 0 ? "made" : report->is_upgraded != 0 ? "upgraded and recovered" : "recovered";
     tell_log(at.of, ZELAMIKU_LOG_INFO, "%s: %llu bytes, %u lanes; %llu sections were dropped", how, (unsigned long long)at.of->size,
@@ -406,15 +455,27 @@ zelamiku_status zelamiku_heap_open(zelamiku_heap *heap_, const char *path, const
     return ZELAMIKU_OK;
 }
 
-zelamiku_status zelamiku_heap_dropped(zelamiku_heap heap_, size_t from, zelamiku_dropped *dropped, size_t count, size_t *told) {
+zelamiku_status zelamiku_heap_open(zelamiku_heap *heap_, const char *path, const zelamiku_plan *plan, zelamiku_report *report) {
+    return open_by(heap_, path, NULL, plan, report);
+}
+
+zelamiku_status zelamiku_heap_open_on(zelamiku_heap *heap_, const char *name, const zelamiku_device *device, const zelamiku_plan *plan,
+                                      zelamiku_report *report) {
+    if (has_functions(device)) return open_by(heap_, name, device, plan, report);
+    if (heap_ != NULL) heap_->number = 0;
+    return nothing("open", "give a device with its four functions");
+}
+
+zelamiku_status zelamiku_heap_dropped(zelamiku_heap heap_, size_t from, zelamiku_dropped *dropped, size_t count,
+                                      size_t *written) {
     zelamiku_status status = ZELAMIKU_OK;
-    if (told == NULL || (dropped == NULL && count > 0)) return nothing("dropped", "give each");
-    *told = 0;
+    if (written == NULL || (dropped == NULL && count > 0)) return nothing("dropped", "give each");
+    *written = 0;
     heap *of = begin_call(heap_, "dropped", &status);
     if (of == NULL) return status;
     pthread_mutex_lock(&of->mutex);
     size_t all = of->dropped != NULL ? of->dropped_count : 0;
-    for (size_t i = from; i < all && *told < count; i++) dropped[(*told)++] = of->dropped[i];
+    for (size_t i = from; i < all && *written < count; i++) dropped[(*written)++] = of->dropped[i];
     pthread_mutex_unlock(&of->mutex);
     end_call(of);
     return ZELAMIKU_OK;

@@ -1,4 +1,7 @@
-/* How a thread sleeps and is woken: the clock, futexes, bells, and monitors that are waited for. */
+/* How a thread sleeps and is woken: the clock, futexes, bells, and monitors that are waited for.
+ *
+ * A bell is an atomic word, of a seat or of a heap; no lock has it. The heap's mutex has who wants which monitor (`wanted`, `turn`), and
+ * why a round is wanted (`urgent`). How many wait for a monitor is atomic (`waiting`), since each exit reads it. */
 /* ---- sleeping and waking ---- */
 
 uint64_t zelamiku_now(void) {
@@ -42,14 +45,14 @@ static void ring_seat(seat *other) {
 
 /* Under the mutex. */
 static void ring_helper(heap *of) {
-    of->bell++;
-    wake(&of->bell, 1);
+    of->helper_bell++;
+    wake(&of->helper_bell, 1);
 }
 
 /* Tells all that wait for a round. */
 static void tell_all(heap *of) {
-    of->told++;
-    wake(&of->told, INT_MAX);
+    of->round_bell++;
+    wake(&of->round_bell, INT_MAX);
 }
 
 /* Under the mutex: asks for a round, now. Where one was asked for that hasn't begun, it will be that one. Who leads looks at its end. */
@@ -98,7 +101,8 @@ static void want_no_more(heap *of, seat *own, bool has_taken) {
     pthread_mutex_lock(&of->mutex);
     uint32_t wanted = own->wanted;
     own->wanted = 0;
-    own->is_told = false;
+    own->is_logged = false;
+    assert(wanted == 0 || of->waiting[(wanted - 1) % BUCKETS] > 0);
     if (wanted != 0) of->waiting[(wanted - 1) % BUCKETS]--;
     pthread_mutex_unlock(&of->mutex);
     if (wanted != 0 && !has_taken) wake_first(of, wanted - 1);
@@ -115,6 +119,7 @@ static uint32_t locks_of(seat *own, uint32_t object) {
  * records is taken to be durable as of the sections, which is about right. */
 static bool has_enough(const heap *of, seat *own) {
     uint64_t ended = own->ended, durable = own->acknowledged;
+    assert(durable <= ended && own->counted <= ended);
     if (durable > own->counted) {
         own->records = (uint32_t)(own->records * (ended - durable) / (ended - own->counted));
         own->counted = durable;
@@ -129,7 +134,7 @@ COLD void tell_of_work(heap *of, seat *own) {
         own->counted = own->ended;
         of->has_work = 1;
         demand(of, ZELAMIKU_ROUND_FULL);
-    } else if (atomic_exchange(&of->has_work, 1) == 0 && (of->awaiting > 0 || !of->watches)) {
+    } else if (atomic_exchange(&of->has_work, 1) == 0 && (of->awaiting > 0 || !of->has_timer)) {
         pthread_mutex_lock(&of->mutex);
         ring_helper(of);
         pthread_mutex_unlock(&of->mutex);

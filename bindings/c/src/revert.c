@@ -1,5 +1,7 @@
-/* Taking a section back: what it changes is kept as it stores, and zelamiku_thread_revert stores the old values again. Room for that is kept
- * too: so the records of the section that is open are counted here, as the library counts them. */
+/* Taking a section back: what it changes is kept as it stores, and zelamiku_thread_revert stores the old values again. Room for that is
+ * kept too: so the records of the section that is open are counted here, as the library counts them.
+ *
+ * What is kept is the thread's own, and nobody else looks at it: there is no lock. */
 static zelamiku_status why_not(seat *own, zelamiku_thread thread, const char *call);
 static zelamiku_status why_not_of(heap *of, seat *own, zelamiku_thread thread, const char *call);
 static zelamiku_status refused(seat *own, zelamiku_status status, const char *call, const char *what, uint32_t number);

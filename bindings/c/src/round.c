@@ -1,4 +1,25 @@
-/* Rounds: who makes one, what it takes, whom it tells, and the helper's thread. */
+/* Rounds: how what threads have done becomes durable. One thread at a time leads (`is_led`, under the heap's mutex): it takes records
+ * from the lanes' rings into the proved library, and makes the device's calls that this asks for, four syncs among them. It holds no lock
+ * meanwhile.
+ *
+ *  1. Who leads. The first thread that waits for its sections, for all that come meanwhile: so it wakes nobody to have a round made, and
+ *     nobody has to wake it. One with a deadline leaves the round to the helper, and so does each after a failed write. Who wants no
+ *     round but none underway (a copy, a close) leads as a guest, and goes first.
+ *  2. When. At once where a thread waits for its sections or for room, where a lane has sent three quarters of what its ring or its log
+ *     takes, or where the last round has reached its bound. Else by the helper, a linger after the end of a section that has stored. A
+ *     section that has only loaded asks for none: it goes with the next. After a failed write each second.
+ *  3. Gathering. The threads that the last round has told come back soon, each with a section more. Who leads waits until as many have
+ *     come, at most an eighth of the time that the last calls took: one that misses a round waits for all of the next.
+ *  4. Bounds. A round takes as many records as the last one would have taken in the time of its calls, and at least 4,096 for each lane
+ *     with sections. So one that waits isn't kept by what others send. Where nobody waits, or everybody does, it takes a ring's fill for
+ *     each lane.
+ *  5. Room. While records are taken (`steps` is odd) every lane gains room. Threads without any look again and again, up to an eighth of
+ *     the calls' time, so that the same round takes what they do next. While calls are made they sleep.
+ *  6. Looks. Who waits for a round sleeps on `round_bell`. Where rounds are shorter than a quarter of a millisecond it looks for the end
+ *     before, since a wake takes as long. One look that lasted too long shows that others want the processor: no one looks for 64 rounds.
+ *  7. No lost wake. Who leads writes `acknowledged`, then `round_bell`, then wakes; who waits reads the bell, then its sections, and
+ *     sleeps only while the bell is as it was read. A section's end writes `ended`, then reads `has_work`; who leads clears `has_work`,
+ *     then reads `ended`. All of these stand in one order, so that one of the two sees the other. */
 /* ---- waiting for a round ---- */
 
 static bool is_durable(const seat *own, uint64_t sections) {
@@ -16,12 +37,12 @@ static zelamiku_status sleep_for_step(heap *of, seat *own, uint64_t step, unsign
     zelamiku_status status;
     of->awaiting++;
     own->is_behind = 1;
-    /* A round that takes records, or has begun to since, gives what another one would; and so does one that comes at once. */
-    if (step % 2 == 0 && of->steps == step && !of->leaves && *demands < DEMANDS) {
+    /* A round that is taking records, or is about to start, gives the same room: it needn't be asked for. */
+    if (step % 2 == 0 && of->steps == step && !of->has_more && *demands < DEMANDS) {
         ++*demands;
         demand(of, ZELAMIKU_ROUND_ROOM);
     }
-    while ((status = trouble_since(of, troubles)) == ZELAMIKU_OK && (status = (zelamiku_status)of->over) == ZELAMIKU_OK && !*is_late &&
+    while ((status = trouble_since(of, troubles)) == ZELAMIKU_OK && (status = (zelamiku_status)of->end_status) == ZELAMIKU_OK && !*is_late &&
            of->steps == step)
         *is_late = !sleep_seat(own, deadline);
     own->is_behind = 0;
@@ -35,7 +56,7 @@ static zelamiku_status sleep_for_step(heap *of, seat *own, uint64_t step, unsign
 static zelamiku_status await_room(heap *of, seat *own, uint64_t step, unsigned *demands, uint64_t deadline, bool *is_late) {
     uint64_t now = zelamiku_now();
     *is_late = now >= deadline;
-    if (step % 2 == 0 || now >= of->haste) return sleep_for_step(of, own, step, demands, deadline, is_late);
+    if (step % 2 == 0 || now >= of->poll_until) return sleep_for_step(of, own, step, demands, deadline, is_late);
     uint32_t waiting = ++of->awaiting;
     if (waiting < of->processors)
         (void)sched_yield();
@@ -50,7 +71,7 @@ static zelamiku_status await_room(heap *of, seat *own, uint64_t step, unsigned *
 /* Waits until as many threads have come for their sections as the last round has told, and event loops have ended as many, a part of its
  * calls' time at most: a round that one of them misses costs it a whole one. */
 static void gather(heap *of) {
-    uint64_t now = zelamiku_now(), part = of->last_calls / GATHER, soon = now + NAP / 2;
+    uint64_t now = zelamiku_now(), part = of->last_calls / GATHERED_PART, soon = now + NAP / 2;
     uint64_t end = now + (part < MOST_PART ? part : MOST_PART);
     while (of->arrivals + sections_of_loops(of) < of->expected + of->expected_sections && (now = zelamiku_now()) < end)
         if (now < soon)
@@ -60,13 +81,13 @@ static void gather(heap *of) {
 }
 
 /* Wakes those that sleep without room. */
-static void go_on(heap *of) {
+static void wake_those_behind(heap *of) {
     for (uint32_t lane = 0; lane < of->lanes; lane++)
         if (seat_at(of, lane)->is_behind) ring_seat(seat_at(of, lane));
 }
 
 /* Waits until they are awake, or until that time: else the rings may be empty before the first of them has gone on. */
-static void let_come(heap *of, uint64_t end) {
+static void await_woken(heap *of, uint64_t end) {
     for (uint32_t lane = 0; lane < of->lanes; lane++)
         while (seat_at(of, lane)->is_behind && zelamiku_now() < end) nap(NAP);
 }
@@ -78,39 +99,41 @@ static void let_come(heap *of, uint64_t end) {
 static uint64_t bound(const heap *of, uint32_t lanes, uint32_t waiting) {
     uint64_t least = waiting == 0 || waiting >= lanes ? of->room : FEWEST;
     least *= lanes > 0 ? lanes : 1;
-    return of->paid > least ? of->paid : least;
+    return of->affordable > least ? of->affordable : least;
 }
 
 /* Notes how long taking so many records took, and the calls after it. */
 static void note_times(heap *of, uint64_t records, uint64_t taking, uint64_t calls) {
     of->last_calls = calls;
     if (calls > MOST_PART) calls = MOST_PART;
-    if (records > 0) of->paid = records * calls / (taking + 1);
+    if (records > 0) of->affordable = records * calls / (taking + 1);
 }
 
 /* Takes what the threads have done, at most so many records, and tells how long that took. Where calls take long it is worth some time that
  * much comes into one round: those without room are woken before. Else they have room soon, and sleep until all is taken. */
 static zelamiku_status take(heap *of, uint64_t most, uint64_t *records, uint64_t *time) {
-    uint64_t begun = zelamiku_now(), part = of->last_calls / PART;
+    uint64_t begun = zelamiku_now(), part = of->last_calls / POLLED_PART;
     if (part > MOST_PART) part = MOST_PART;
-    of->haste = begun + part;
+    of->poll_until = begun + part;
+    assert(of->is_led && of->steps % 2 == 0);
     of->steps++;
     if (part > NAP) {
-        go_on(of);
-        let_come(of, begun + part / 4);
+        wake_those_behind(of);
+        await_woken(of, begun + part / 4);
     }
     begun = zelamiku_now();
     zelamiku_status status = zelamiku_round(&of->handle, most, records);
+    assert(*records <= most && of->steps % 2 == 1);
     *time = zelamiku_now() - begun;
-    of->leaves = *records == most;
+    of->has_more = *records == most;
     of->steps++;
-    go_on(of);
+    wake_those_behind(of);
     return status;
 }
 
 static zelamiku_status make_calls(heap *of, uint64_t *calls) {
     uint64_t made = 0;
-    zelamiku_status status = of->make_calls(&of->handle, of->device, &made);
+    zelamiku_status status = make_calls_on(&of->handle, &of->device, &made, &of->syncs_made);
     *calls += made;
     return status;
 }
@@ -127,6 +150,7 @@ static zelamiku_status round_and_calls(heap *of, uint64_t most, zelamiku_stats *
     for (uint32_t lane = 0; status == ZELAMIKU_OK && lane < of->lanes; lane++) {
         uint64_t sections = 0;
         status = zelamiku_acknowledged(&of->handle, lane, &sections);
+        assert(status != ZELAMIKU_OK || sections >= seat_at(of, lane)->acknowledged);
         if (status == ZELAMIKU_OK && seat_at(of, lane)->acknowledged != sections) seat_at(of, lane)->acknowledged = sections;
     }
     return status == ZELAMIKU_STOPPED ? ZELAMIKU_LOST : status;
@@ -142,8 +166,9 @@ static void shut(heap *of, bool is_for_good) {
 
 /* Under the mutex: the heap is at its end, and whoever sleeps is told. */
 static void end(heap *of, zelamiku_status status) {
-    if (of->over != 0) return;
-    of->over = (uint32_t)status;
+    assert(status != ZELAMIKU_OK);
+    if (of->end_status != 0) return;
+    of->end_status = (uint32_t)status;
     shut(of, true);
     tell_loops(of, false, true);
     for (uint32_t lane = 0; lane < of->lanes; lane++) ring_seat(seat_at(of, lane));
@@ -151,9 +176,10 @@ static void end(heap *of, zelamiku_status status) {
 
 /* Under the mutex: who leads does no more. */
 static void lead_no_more(heap *of, bool is_helper) {
-    of->is_led = of->is_own = false;
-    bool has_news = (of->has_work && (of->awaiting > 0 || !of->watches)) || (of->has_looks && of->awaiting > 0);
-    if (!is_helper && (of->urgent != 0 || of->leaves || has_news || of->is_troubled || of->is_ending)) ring_helper(of);
+    assert(of->is_led);
+    of->is_led = of->leader_waits = false;
+    bool is_wanted = (of->has_work && (of->awaiting > 0 || !of->has_timer)) || (of->has_reads && of->awaiting > 0);
+    if (!is_helper && (of->urgent != 0 || of->has_more || is_wanted || of->is_troubled || of->is_ending)) ring_helper(of);
 }
 
 static void add_up(zelamiku_stats *all, const zelamiku_stats *round) {
@@ -172,7 +198,7 @@ static void finish(heap *of, zelamiku_status status, int error, const zelamiku_s
     pthread_mutex_lock(&of->mutex);
     bool was_troubled = of->is_troubled;
     of->is_troubled = is_trouble;
-    if (is_trouble) of->leaves = 0; /* it doesn't come at once */
+    if (is_trouble) of->has_more = 0; /* it doesn't come at once */
     add_up(&of->stats, round);
     of->stats.syncs = of->syncs_made;
     /* Of what the heap has ended with the first cause, also where a stop has set another status meanwhile. */
@@ -183,13 +209,14 @@ static void finish(heap *of, zelamiku_status status, int error, const zelamiku_s
         of->is_settled = 1;
     }
     of->rounds++;
+    assert(of->sleepers <= of->awaiting);
     of->awaiting -= of->sleepers;
     of->sleepers = 0;
     tell_loops(of, is_trouble, false);
     lead_no_more(of, is_helper);
     pthread_mutex_unlock(&of->mutex);
     tell_all(of);
-    if (is_trouble) go_on(of);
+    if (is_trouble) wake_those_behind(of);
     if (is_end) tell_log(of, ZELAMIKU_LOG_ERROR, "%s: %s; %s", text_of(status, 0), strerror(error), text_of(status, 1));
     if (is_trouble && !was_troubled) tell_log(of, ZELAMIKU_LOG_WARNING, "a write has failed, and is made again: %s", strerror(error));
     if (was_troubled && status == ZELAMIKU_OK) tell_log(of, ZELAMIKU_LOG_INFO, "writes go on");
@@ -200,8 +227,8 @@ static bool is_astray(heap *of) {
     struct stat own, named;
     uint64_t now = zelamiku_now();
     bool was = of->stats.is_astray != 0;
-    if (of->where == NULL || now - of->looked < SECOND) return was;
-    of->looked = now;
+    if (of->where == NULL || now - of->path_checked < SECOND) return was;
+    of->path_checked = now;
     bool is_there = stat(of->where, &named) == 0;
     if ((!is_there && errno != ENOENT && errno != ENOTDIR) || fstat(of->file, &own) != 0) return was;
     return !is_there || own.st_dev != named.st_dev || own.st_ino != named.st_ino;
@@ -213,11 +240,12 @@ static zelamiku_status lead(heap *of, uint32_t cause, bool is_helper) {
     if (cause == ZELAMIKU_ROUND_AWAITED) gather(of);
     uint64_t begun = zelamiku_now();
     pthread_mutex_lock(&of->mutex);
+    assert(of->is_led);
     of->urgent = 0;
     pthread_mutex_unlock(&of->mutex);
     uint32_t come = atomic_exchange(&of->arrivals, 0), sections = sections_of_loops(of);
     /* No section that has ended before is unknown to this round: one of whose end nothing is learned here finds the word 0, and tells. */
-    of->has_looks = 0;
+    of->has_reads = 0;
     of->has_work = 0;
     uint32_t lanes = 0, waiting = (come > of->expected ? come : of->expected) + begin_for_loops(of);
     for (uint32_t lane = 0; lane < of->lanes; lane++) lanes += seat_at(of, lane)->ended > seat_at(of, lane)->acknowledged;
@@ -228,7 +256,7 @@ static zelamiku_status lead(heap *of, uint32_t cause, bool is_helper) {
     of->expected = come + of->arrivals;
     of->expected_sections = sections + sections_of_loops(of);
     round.longest_round = zelamiku_now() - begun;
-    of->looks = round.longest_round < LOOKS ? LOOKS : 0;
+    of->spin_time = round.longest_round < MOST_SPIN ? MOST_SPIN : 0;
     round.is_astray = is_astray(of);
     bool has_strayed = round.is_astray != 0 && of->stats.is_astray == 0;
     finish(of, status, error, &round, is_helper);
@@ -241,15 +269,15 @@ static zelamiku_status lead(heap *of, uint32_t cause, bool is_helper) {
  * and so does each after a failed write. */
 static bool leads_or_counts(heap *of, bool has_deadline, uint64_t *counted) {
     pthread_mutex_lock(&of->mutex);
-    bool has_news = of->has_work || of->has_looks || of->leaves, is_free = !of->is_led && of->guests == 0 && of->over == 0;
-    bool leads = is_free && has_news && !has_deadline && !of->is_troubled;
+    bool has_sections = of->has_work || of->has_reads || of->has_more, is_free = !of->is_led && of->waiting_to_lead == 0 && of->end_status == 0;
+    bool leads = is_free && has_sections && !has_deadline && !of->is_troubled;
     if (leads) {
-        of->is_led = of->is_own = true;
+        of->is_led = of->leader_waits = true;
     } else if (*counted != of->rounds) {
         *counted = of->rounds;
         of->awaiting++;
         of->sleepers++;
-        if (of->is_troubled || (has_deadline && has_news)) ask(of, ZELAMIKU_ROUND_AWAITED);
+        if (of->is_troubled || (has_deadline && has_sections)) ask(of, ZELAMIKU_ROUND_AWAITED);
     }
     pthread_mutex_unlock(&of->mutex);
     return leads;
@@ -260,6 +288,7 @@ static void count_no_more(heap *of, uint64_t counted) {
     if (of->rounds != counted) return;
     pthread_mutex_lock(&of->mutex);
     if (of->rounds == counted) {
+        assert(of->sleepers > 0 && of->awaiting > 0);
         of->awaiting--;
         of->sleepers--;
     }
@@ -268,14 +297,15 @@ static void count_no_more(heap *of, uint64_t counted) {
 
 /* Under the mutex, which it gives back while it sleeps: leads, for something else than a round. */
 static void lead_as_guest(heap *of) {
-    of->guests++;
+    of->waiting_to_lead++;
     while (of->is_led) {
-        uint32_t seen = of->told;
+        uint32_t seen = of->round_bell;
         pthread_mutex_unlock(&of->mutex);
-        (void)sleep_on(&of->told, seen, ZELAMIKU_NO_DEADLINE);
+        (void)sleep_on(&of->round_bell, seen, ZELAMIKU_NO_DEADLINE);
         pthread_mutex_lock(&of->mutex);
     }
-    of->guests--;
+    assert(of->waiting_to_lead > 0);
+    of->waiting_to_lead--;
     of->is_led = true;
 }
 
@@ -283,11 +313,11 @@ static void lead_as_guest(heap *of) {
 
 /* Under the mutex: why a round comes now. */
 static uint32_t cause_of(const heap *of, bool is_due) {
-    if (of->over != 0) return ZELAMIKU_ROUND_NONE;
+    if (of->end_status != 0) return ZELAMIKU_ROUND_NONE;
     if (of->urgent != 0) return of->urgent;
     if (of->is_troubled) return is_due ? ZELAMIKU_ROUND_AGAIN : ZELAMIKU_ROUND_NONE;
-    if (of->leaves) return ZELAMIKU_ROUND_LEFT;
-    if (of->awaiting > 0 && (of->has_work || of->has_looks)) return ZELAMIKU_ROUND_AWAITED;
+    if (of->has_more) return ZELAMIKU_ROUND_LEFT;
+    if (of->awaiting > 0 && (of->has_work || of->has_reads)) return ZELAMIKU_ROUND_AWAITED;
     return of->has_work && is_due ? ZELAMIKU_ROUND_LINGER : ZELAMIKU_ROUND_NONE;
 }
 
@@ -305,7 +335,7 @@ static bool has_stores(heap *of) {
  * meanwhile is seen, or tells. */
 static bool comes_by_linger(heap *of) {
     if (!of->has_work || of->urgent != 0 || of->is_troubled || of->awaiting > 0) return true;
-    of->has_looks = 1;
+    of->has_reads = 1;
     of->has_work = 0;
     if (!has_stores(of)) return false;
     of->has_work = 1;
@@ -318,27 +348,27 @@ static bool comes_by_linger(heap *of) {
 static uint32_t rest(heap *of) {
     uint64_t due = ZELAMIKU_NO_DEADLINE;
     for (bool has_begun = false;; has_begun = true) {
-        bool is_due = due != ZELAMIKU_NO_DEADLINE && zelamiku_now() >= due, is_free = !of->is_led && of->guests == 0;
+        bool is_due = due != ZELAMIKU_NO_DEADLINE && zelamiku_now() >= due, is_free = !of->is_led && of->waiting_to_lead == 0;
         if (of->is_ending) return ZELAMIKU_ROUND_NONE;
         if (is_due) {
-            of->watches = 0; /* before it is looked whether there is work */
+            of->has_timer = 0; /* before it is looked whether there is work */
             due = ZELAMIKU_NO_DEADLINE;
             is_due = !is_free || comes_by_linger(of);
         }
         uint32_t cause = is_free ? cause_of(of, is_due) : (uint32_t)ZELAMIKU_ROUND_NONE;
         if (cause != ZELAMIKU_ROUND_NONE) {
             of->is_led = true;
-            of->watches = 1; /* it looks again after the round */
+            of->has_timer = 1; /* it looks again after the round */
             return cause;
         }
         bool has_reason = !has_begun || (!of->is_led && (of->has_work || of->is_troubled));
-        if (due == ZELAMIKU_NO_DEADLINE && has_reason && of->over == 0) {
+        if (due == ZELAMIKU_NO_DEADLINE && has_reason && of->end_status == 0) {
             due = after(of->is_troubled ? SECOND : of->linger);
-            of->watches = 1;
+            of->has_timer = 1;
         }
-        uint32_t seen = of->bell;
+        uint32_t seen = of->helper_bell;
         pthread_mutex_unlock(&of->mutex);
-        (void)sleep_on(&of->bell, seen, due);
+        (void)sleep_on(&of->helper_bell, seen, due);
         pthread_mutex_lock(&of->mutex);
     }
 }

@@ -1,4 +1,4 @@
-/* Short time slices, for threads that make rounds or wait for them. */
+/* Short time slices, for threads that make rounds or wait for them. Nothing here is shared, and there is no lock. */
 /* ---- slices ---- */
 
 /* Since Linux 6.12 a thread may say for how long it wants to run at once (sched_setattr). One that asks for a short slice runs soon after it is

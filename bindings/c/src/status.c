@@ -1,4 +1,4 @@
-/* Statuses as texts, the message of a thread, and the log hook. */
+/* Statuses as texts, the message of a thread, and the log hook. A message is its thread's own; the hook is called under no lock. */
 /* ---- what is told ---- */
 
 static _Thread_local char message[ZELAMIKU_MOST_MESSAGE];

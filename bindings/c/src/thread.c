@@ -1,17 +1,22 @@
-/* A thread's calls, from enter to await. */
+/* A thread's calls, from enter to await.
+ *
+ * A seat is its thread's own while a section is open (`open` is the handle) or a call is inside of one (`is_busy`): no lock is taken for
+ * enter, exit, load and store. Who ends the heap, or looks by another's session, makes `number` 0 and then reads `is_busy`; the thread
+ * writes `is_busy` and then reads `number`. So one of the two sees the other. The heap's mutex has which lanes are lent. */
 /* ---- a thread's use of it ---- */
 
 /* Lends a lane that nobody has. */
 static zelamiku_status lend(heap *of, zelamiku_thread *thread) {
     pthread_mutex_lock(&of->mutex);
-    zelamiku_status status = of->over != 0 ? (zelamiku_status)of->over : ZELAMIKU_NONE_LEFT;
+    zelamiku_status status = of->end_status != 0 ? (zelamiku_status)of->end_status : ZELAMIKU_NONE_LEFT;
     for (uint32_t lane = 0; lane < of->lanes && status == ZELAMIKU_NONE_LEFT; lane++) {
         seat *own = seat_at(of, lane);
         if (own->is_lent) continue;
+        assert(own->locks == 0 && !own->is_busy && own->lent_number == 0 && own->wanted == 0 && own->event == 0);
         own->is_lent = true;
-        own->before = own->ended;
+        own->earlier = own->ended;
         thread->number = new_number((size_t)((char *)own - ZELAMIKU_SEATS));
-        own->known = thread->number;
+        own->lent_number = thread->number;
         own->number = thread->number;
         status = ZELAMIKU_OK;
     }
@@ -33,15 +38,15 @@ zelamiku_status zelamiku_thread_begin(zelamiku_thread *thread, zelamiku_heap hea
 
 /* Whether the handle is that of a lane of the place's heap, also at its end. In a call that is counted it stays so. */
 static bool is_lane_of(const heap *of, const seat *own, zelamiku_thread thread) {
-    return thread.number != 0 && of->number != 0 && own->known == thread.number;
+    return thread.number != 0 && of->number != 0 && own->lent_number == thread.number;
 }
 
 /* The same as why_not, in a call that is counted. */
 static zelamiku_status why_not_of(heap *of, seat *own, zelamiku_thread thread, const char *call) {
     if (!is_lane_of(of, own, thread)) return nothing(call, NULL);
-    if (of->over == ZELAMIKU_FORKED) return fail(of->path, ZELAMIKU_FORKED, 0, NULL, NULL, "%s", call);
+    if (of->end_status == ZELAMIKU_FORKED) return fail(of->path, ZELAMIKU_FORKED, 0, NULL, NULL, "%s", call);
     pthread_mutex_lock(&of->mutex);
-    zelamiku_status status = (zelamiku_status)of->over;
+    zelamiku_status status = (zelamiku_status)of->end_status;
     pthread_mutex_unlock(&of->mutex);
     if (status == ZELAMIKU_OK) return ZELAMIKU_OK;
     leave(of, own);
@@ -75,9 +80,9 @@ COLD zelamiku_status not_open(seat *own, zelamiku_thread thread, const char *cal
 static zelamiku_status refused_of(heap *of, seat *own, zelamiku_status status, const char *call, const char *what, uint32_t number) {
     if (status == ZELAMIKU_NOTHING) return nothing(call, NULL);
     if (status == ZELAMIKU_STOPPED) status = ZELAMIKU_LOST;
-    if (status == (zelamiku_status)of->over || status == ZELAMIKU_LOST) {
+    if (status == (zelamiku_status)of->end_status || status == ZELAMIKU_LOST) {
         leave(of, own);
-        return tell_end(of, status, of->over != 0 ? of->error : EIO, call);
+        return tell_end(of, status, of->end_status != 0 ? of->error : EIO, call);
     }
     const char *cause = status == ZELAMIKU_DEVICE ? "a write has failed" : NULL;
     if (status == ZELAMIKU_SECTION_FULL && own->changes != NULL)
@@ -107,7 +112,7 @@ static zelamiku_status give_back(heap *of, seat *own, zelamiku_thread thread) {
     pthread_mutex_lock(&of->mutex);
     own->is_lent = false;
     own->number = 0;
-    own->known = 0;
+    own->lent_number = 0;
     pthread_mutex_unlock(&of->mutex);
     return ZELAMIKU_OK;
 }
@@ -129,7 +134,7 @@ static zelamiku_status enter_asleep(heap *of, seat *own, uint32_t object, uint64
     zelamiku_status status;
     for (;;) {
         uint64_t step = of->steps;
-        status = (zelamiku_status)of->over;
+        status = (zelamiku_status)of->end_status;
         if (status == ZELAMIKU_OK) status = zelamiku_try_enter(&own->session, object);
         if (is_late || (status != ZELAMIKU_HELD && status != ZELAMIKU_BEHIND)) break;
         if (status == ZELAMIKU_HELD) {
@@ -152,7 +157,7 @@ COLD zelamiku_status enter_slowly(seat *own, uint32_t object, zelamiku_status st
     if (of == NULL) return nothing(call, NULL);
     bool may_sleep = deadline > 0;
     for (unsigned tries = 1; may_sleep && status == ZELAMIKU_HELD && tries < TRIES; tries++) status = zelamiku_try_enter(&own->session, object);
-    if (!may_sleep && status == ZELAMIKU_BEHIND) lack_room(of, own);
+    if (!may_sleep && status == ZELAMIKU_BEHIND) note_no_room(of, own);
     if (may_sleep && (status == ZELAMIKU_HELD || status == ZELAMIKU_BEHIND)) status = enter_asleep(of, own, object, deadline);
     if (status == ZELAMIKU_OK) return ZELAMIKU_OK;
     count_call(of); /* before it isn't busy */
@@ -174,6 +179,7 @@ static inline zelamiku_status enter(zelamiku_thread thread, uint32_t object, uin
         status = enter_slowly(own, object, status, deadline, call);
         if (status != ZELAMIKU_OK) return status;
     }
+    assert(own->is_busy);
     own->locks++;
     atomic_store_explicit(&own->open, thread.number, memory_order_relaxed);
     return ZELAMIKU_OK;
@@ -207,6 +213,7 @@ zelamiku_status zelamiku_thread_exit(zelamiku_thread thread, uint32_t object) {
     if (SELDOM(!is_open(own, thread))) return not_open(own, thread, "exit", false, object);
     zelamiku_status status = zelamiku_exit(&own->session, object);
     if (SELDOM(status != ZELAMIKU_OK)) return refused(own, status, "exit", "object", object);
+    assert(own->locks > 0 && own->is_busy);
     own->records += 2; /* it was taken before */
     bool is_quiet = --own->locks > 0 || zelamiku_ends(own_of(own), thread);
     return is_quiet && own->of->waiting[object % BUCKETS] == 0 ? ZELAMIKU_OK : zelamiku_thread_exited(thread, object);
@@ -260,7 +267,7 @@ static zelamiku_status begin_wait(heap *of, seat *own, uint32_t object) {
     bool is_late = false;
     for (;;) {
         uint64_t step = of->steps;
-        zelamiku_status status = (zelamiku_status)of->over;
+        zelamiku_status status = (zelamiku_status)of->end_status;
         if (status == ZELAMIKU_OK) status = zelamiku_begin_wait(&own->session, object);
         if (status != ZELAMIKU_BEHIND || demands == DEMANDS) return status;
         status = await_room(of, own, step, &demands, ZELAMIKU_NO_DEADLINE, &is_late);
@@ -272,7 +279,7 @@ static zelamiku_status begin_wait(heap *of, seat *own, uint32_t object) {
 static zelamiku_status resume(heap *of, seat *own, uint32_t object) {
     zelamiku_status status;
     for (;;) {
-        status = (zelamiku_status)of->over;
+        status = (zelamiku_status)of->end_status;
         if (status == ZELAMIKU_OK) status = zelamiku_try_resume(&own->session);
         if (status != ZELAMIKU_HELD && status != ZELAMIKU_IN_SET) break;
         if (status == ZELAMIKU_IN_SET || !want(of, own, object)) (void)sleep_seat(own, ZELAMIKU_NO_DEADLINE);
@@ -291,6 +298,7 @@ zelamiku_status zelamiku_thread_wait(zelamiku_thread thread, uint32_t object) {
     if (keeps && !has_room(changes_of(own), 2)) return refused(own, ZELAMIKU_SECTION_FULL, "wait for", "object", object);
     zelamiku_status status = begin_wait(of, own, object);
     if (status != ZELAMIKU_OK) return refused(own, status, "wait for", "object", object);
+    assert(locks > 0 && locks <= own->locks);
     own->locks -= locks;
     own->records += 2;
     if (own->locks == 0) {
@@ -358,7 +366,7 @@ zelamiku_status zelamiku_thread_look(zelamiku_thread thread, uint32_t object, ze
  * again after what was read of the seat. No handle's number comes back. */
 static seat *known_seat(zelamiku_thread thread) {
     seat *own = seat_of(thread);
-    return thread.number != 0 && own->known == thread.number ? own : NULL;
+    return thread.number != 0 && own->lent_number == thread.number ? own : NULL;
 }
 
 uint32_t zelamiku_thread_lane(zelamiku_thread thread) {
@@ -368,31 +376,31 @@ uint32_t zelamiku_thread_lane(zelamiku_thread thread) {
 
 uint64_t zelamiku_thread_sections(zelamiku_thread thread) {
     seat *own = known_seat(thread);
-    uint64_t sections = own == NULL ? 0 : own->ended - own->before;
+    uint64_t sections = own == NULL ? 0 : own->ended - own->earlier;
     return known_seat(thread) != NULL ? sections : 0;
 }
 
 uint64_t zelamiku_thread_earlier(zelamiku_thread thread) {
     seat *own = known_seat(thread);
-    uint64_t before = own == NULL ? 0 : own->before;
+    uint64_t before = own == NULL ? 0 : own->earlier;
     return known_seat(thread) != NULL ? before : 0;
 }
 
 uint64_t zelamiku_thread_durable(zelamiku_thread thread) {
     seat *own = known_seat(thread);
-    uint64_t acknowledged = own == NULL ? 0 : own->acknowledged, before = own == NULL ? 0 : own->before;
+    uint64_t acknowledged = own == NULL ? 0 : own->acknowledged, before = own == NULL ? 0 : own->earlier;
     return known_seat(thread) != NULL && acknowledged > before ? acknowledged - before : 0;
 }
 
 /* Looks again and again whether a round has ended since that word was seen, until that time at most. A look that took long has let somebody
  * else run: where others want the processors who looks keeps them from who makes the round, so that for a while nobody does. */
 static void look_for_round(heap *of, uint32_t seen, uint64_t now, uint64_t end) {
-    while (of->told == seen && of->awaiting < of->processors && now < end) {
+    while (of->round_bell == seen && of->awaiting < of->processors && now < end) {
         uint64_t before = now;
         (void)sched_yield();
         now = zelamiku_now();
-        if (now - before <= LOST_LOOK) continue;
-        of->blind = of->rounds + BLIND;
+        if (now - before <= LONG_SPIN) continue;
+        of->no_spin_before = of->rounds + UNSPUN_ROUNDS;
         return;
     }
 }
@@ -400,9 +408,9 @@ static void look_for_round(heap *of, uint32_t seen, uint64_t now, uint64_t end) 
 /* Sleeps until a round has ended since that word was seen. Where rounds are short, and fewer wait than there are processors, it looks for a
  * while before: to be woken takes as long as a sync of a quick disk. */
 static bool sleep_for_round(heap *of, uint32_t seen, uint64_t deadline) {
-    uint64_t looks = of->rounds < of->blind ? 0 : of->looks, now = looks > 0 ? zelamiku_now() : 0, end = now + looks;
+    uint64_t looks = of->rounds < of->no_spin_before ? 0 : of->spin_time, now = looks > 0 ? zelamiku_now() : 0, end = now + looks;
     if (looks > 0) look_for_round(of, seen, now, end < deadline ? end : deadline);
-    return of->told != seen || sleep_on(&of->told, seen, deadline);
+    return of->round_bell != seen || sleep_on(&of->round_bell, seen, deadline);
 }
 
 /* Sleeps until so many sections of the lane are durable. */
@@ -412,9 +420,9 @@ static zelamiku_status await_sections(heap *of, seat *own, uint64_t sections, ui
     run_soon(of);
     of->arrivals++;
     for (bool is_early = true;;) {
-        uint32_t seen = of->told;
+        uint32_t seen = of->round_bell;
         /* Before the sections are looked at, since what a last round acknowledges comes before it says so. */
-        if (of->is_settled) status = (zelamiku_status)of->over;
+        if (of->is_settled) status = (zelamiku_status)of->end_status;
         *is_all = is_durable(own, sections);
         if (*is_all) status = ZELAMIKU_OK;
         if (!*is_all && status == ZELAMIKU_OK) status = trouble_since(of, troubles);
@@ -431,19 +439,19 @@ static zelamiku_status await_sections(heap *of, seat *own, uint64_t sections, ui
 /* Whether all sections of the handle can be awaited. One that is open can't: it ends after this call. One that the heap's end has cut off
  * never ends, also where its thread has yet to learn of that end, and so is busy; or has learned of it before who leads has told why. */
 static zelamiku_status can_await_all(heap *of, const seat *own, zelamiku_thread thread) {
-    zelamiku_status over = (zelamiku_status)of->over;
-    if (own->is_cut && over == ZELAMIKU_OK) return tell_end(of, ZELAMIKU_LOST, EIO, "await");
-    if (own->is_cut || (own->is_busy && over != ZELAMIKU_OK)) return tell_end(of, over, of->error, "await");
+    zelamiku_status over = (zelamiku_status)of->end_status;
+    if (own->was_cut_off && over == ZELAMIKU_OK) return tell_end(of, ZELAMIKU_LOST, EIO, "await");
+    if (own->was_cut_off || (own->is_busy && over != ZELAMIKU_OK)) return tell_end(of, over, of->error, "await");
     bool is_open = own->open == thread.number && over == ZELAMIKU_OK;
     return is_open ? fail(of->path, ZELAMIKU_UNFINISHED, 0, NULL, NULL, "await") : ZELAMIKU_OK;
 }
 
 /* The same as zelamiku_thread_await_until, in a call that is counted. */
 static zelamiku_status await_of(heap *of, seat *own, zelamiku_thread thread, uint64_t sections, uint64_t deadline, bool *is_all) {
-    uint64_t ended = own->ended, before = own->before;
+    uint64_t ended = own->ended, before = own->earlier;
     /* After the counts were read: else they may be those of the thread that has the lane next. */
     if (!is_lane_of(of, own, thread)) return nothing("await", NULL);
-    if (of->over == ZELAMIKU_FORKED) return fail(of->path, ZELAMIKU_FORKED, 0, NULL, NULL, "await");
+    if (of->end_status == ZELAMIKU_FORKED) return fail(of->path, ZELAMIKU_FORKED, 0, NULL, NULL, "await");
     if (sections > ended - before) {
         zelamiku_status status = can_await_all(of, own, thread);
         if (status != ZELAMIKU_OK) return status;

@@ -1,9 +1,9 @@
-/* Who waits for whom: threads that sleep for monitors, and circles of threads that wait for each other.
+/* Who waits for whom: threads that sleep for monitors, and circles of threads that wait for each other. The heap's mutex has all of it.
  *
- * Under the mutex what a lane wants stays, and a thread whose lane wants something is inside of an enter or a wait, so that it gives no monitor
- * back. So a circle that is found here was one at that moment, though its owners were looked at one after the other. A circle is closed by a
- * thread that begins to sleep in an enter: one that waits in a set was put down by the owner of what it wants, which was running then. So each
- * circle is seen by the look of one of its threads, once that has slept for a second. */
+ * Under the mutex what a lane wants stays, and a thread whose lane wants something is inside of an enter or a wait, so that it gives no
+ * monitor back. So a circle that is found here was one at that moment, though its owners were looked at one after the other. A circle is
+ * closed by a thread that begins to sleep in an enter: one that waits in a set was put down by the owner of what it wants, which was
+ * running then. So each circle is seen by the look of one of its threads, once that has slept for a second. */
 /* ---- who waits for whom ---- */
 
 /* While another thread sleeps for a monitor its session may be looked by. */
@@ -11,22 +11,22 @@ enum { IN_USE = 0, RESTS = 1, IS_BORROWED = 2 };
 
 /* Sleeps as sleep_seat does; meanwhile others may look by its session. */
 static bool rest_seat(seat *own, uint64_t deadline) {
-    own->rests = RESTS;
+    own->session_use = RESTS;
     bool is_early = sleep_seat(own, deadline);
-    for (uint32_t resting = RESTS; !atomic_compare_exchange_strong(&own->rests, &resting, IN_USE); resting = RESTS) (void)sched_yield();
+    for (uint32_t resting = RESTS; !atomic_compare_exchange_strong(&own->session_use, &resting, IN_USE); resting = RESTS) (void)sched_yield();
     return is_early;
 }
 
 static bool is_borrowed(seat *other) {
     uint32_t resting = RESTS;
-    return atomic_compare_exchange_strong(&other->rests, &resting, IS_BORROWED);
+    return atomic_compare_exchange_strong(&other->session_use, &resting, IS_BORROWED);
 }
 
 /* Of a lane that is lent: whether nothing of it is open. Its thread waits for the mutex then if it begins something. */
 static bool is_shut(seat *other) {
     other->number = 0;
     if (!other->is_busy) return true;
-    other->number = other->known;
+    other->number = other->lent_number;
     return false;
 }
 
@@ -41,10 +41,10 @@ static seat *borrow_seat(heap *of) {
 }
 
 static void return_seat(seat *other) {
-    if (other->rests == IS_BORROWED)
-        other->rests = RESTS;
+    if (other->session_use == IS_BORROWED)
+        other->session_use = RESTS;
     else if (other->is_lent)
-        other->number = other->known;
+        other->number = other->lent_number;
 }
 
 /* Under the mutex: for each lane that wants a monitor the lane that has it, by a session that nobody else uses; NOBODY for each other one,
@@ -85,8 +85,8 @@ static bool is_untold(heap *of, uint64_t circle) {
     bool is = false;
     for (uint32_t lane = 0; lane < of->lanes; lane++)
         if (circle >> lane & 1) {
-            is |= !seat_at(of, lane)->is_told;
-            seat_at(of, lane)->is_told = true;
+            is |= !seat_at(of, lane)->is_logged;
+            seat_at(of, lane)->is_logged = true;
         }
     return is;
 }
@@ -96,7 +96,7 @@ COLD void tell_circle(heap *of, seat *own) {
     uint32_t owners[ZELAMIKU_MOST_LANES];
     char text[480] = "";
     pthread_mutex_lock(&of->mutex);
-    if (of->over == 0) {
+    if (of->end_status == 0) {
         find_owners(of, own, owners);
         uint64_t circle = circle_of(of, owners, own->lane);
         if (circle != 0 && is_untold(of, circle)) spell_circle(of, owners, own->lane, text, sizeof text);
@@ -115,30 +115,30 @@ static bool sleep_for_monitor(heap *of, seat *own, uint64_t *look, uint64_t dead
 }
 
 static size_t list_waits(heap *of, const uint32_t *owners, zelamiku_wait *waits, size_t count) {
-    size_t told = 0;
-    for (uint32_t lane = 0; lane < of->lanes && told < count; lane++) {
+    size_t written = 0;
+    for (uint32_t lane = 0; lane < of->lanes && written < count; lane++) {
         uint32_t wanted = seat_at(of, lane)->wanted;
         if (wanted == 0 || owners[lane] == lane) continue; /* it has just taken it */
         zelamiku_wait wait = {lane, wanted - 1, owners[lane], circle_of(of, owners, lane) != 0};
-        waits[told++] = wait;
+        waits[written++] = wait;
     }
-    return told;
+    return written;
 }
 
-zelamiku_status zelamiku_heap_waits(zelamiku_heap heap_, zelamiku_wait *waits, size_t count, size_t *told) {
+zelamiku_status zelamiku_heap_waits(zelamiku_heap heap_, zelamiku_wait *waits, size_t count, size_t *written) {
     zelamiku_status status = ZELAMIKU_OK;
     uint32_t owners[ZELAMIKU_MOST_LANES];
-    if (told == NULL || (waits == NULL && count > 0)) return nothing("waits", "give each");
-    *told = 0;
+    if (written == NULL || (waits == NULL && count > 0)) return nothing("waits", "give each");
+    *written = 0;
     heap *of = begin_call(heap_, "waits", &status);
     if (of == NULL) return status;
     pthread_mutex_lock(&of->mutex);
-    status = (zelamiku_status)of->over;
+    status = (zelamiku_status)of->end_status;
     if (status == ZELAMIKU_OK) {
         seat *by = borrow_seat(of);
         find_owners(of, by, owners);
         if (by != NULL) return_seat(by);
-        *told = list_waits(of, owners, waits, count);
+        *written = list_waits(of, owners, waits, count);
     }
     pthread_mutex_unlock(&of->mutex);
     if (status != ZELAMIKU_OK) status = tell_end(of, status, of->error, "waits");

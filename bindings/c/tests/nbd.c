@@ -1,4 +1,4 @@
-/* Tests of zelamiku_nbd.h on nbdkit, whose answers may be errors, and whose connection may end, at each request in turn.
+/* Tests of zelamiku_nbd.c on nbdkit, whose answers may be errors, and whose connection may end, at each request in turn.
  *
  *     nbd FOLDER [BLOCK..]     prints nothing but a last line, and answers 0, where all is as it must be; BLOCK: what a server demands
  *                              (1 and 512, 4096, 65536) */
@@ -131,18 +131,6 @@ static int watched_completed(struct nbd_handle *nbd, uint64_t request) {
     return answer;
 }
 
-/* A sync is told as done once all writes were answered, and a flush after them. */
-static zelamiku_status watched_call_done(zelamiku_handle *heap) {
-    zelamiku_call call = {0};
-    uint8_t byte = 0;
-    zelamiku_status status = zelamiku_next_call(heap, &call, &byte, 1);
-    if (status == ZELAMIKU_OK && call.kind == ZELAMIKU_SYNC) {
-        MUST(unanswered == 0 && unflushed == 0 && barriers > 0);
-        barriers = 0;
-    }
-    return zelamiku_call_done(heap);
-}
-
 static int cannot_flush;
 
 static int flaky_can_flush(struct nbd_handle *nbd) {
@@ -155,22 +143,13 @@ static int flaky_can_fua(struct nbd_handle *nbd) {
     return cannot_fua ? 0 : nbd_can_fua(nbd);
 }
 
-static size_t most; /* the most bytes that were asked of calloc at once */
-
-static void *watched_calloc(size_t count, size_t size) {
-    if (count * size > most) most = count * size;
-    return calloc(count, size);
-}
-
 #define nbd_aio_pwrite flaky_pwrite
 #define nbd_aio_flush flaky_flush
 #define nbd_aio_pread watched_pread
 #define nbd_aio_command_completed watched_completed
 #define nbd_can_flush flaky_can_flush
 #define nbd_can_fua flaky_can_fua
-#define calloc watched_calloc
-#define zelamiku_call_done watched_call_done
-#include "zelamiku_nbd.h"
+#include "../zelamiku_nbd.c"
 #undef nbd_can_flush
 
 static const zelamiku_field FIELD = {0, 0, 5, 0};
@@ -199,8 +178,34 @@ static struct nbd_handle *connected(void) {
     return nbd;
 }
 
-static void begin(zelamiku_nbd *host) {
-    MUST(zelamiku_begin_nbd(host, connected(), 0, PATIENCE) == ZELAMIKU_OK && host->block == block);
+/* A host of the export. */
+typedef struct {
+    zelamiku_nbd *nbd;
+    zelamiku_device device;
+} export_host;
+
+static void begin(export_host *host) {
+    MUST(zelamiku_nbd_begin(&host->nbd, &host->device, connected(), 0, PATIENCE) == ZELAMIKU_OK && host->nbd->block == block);
+}
+
+/* Makes the calls that are left, as the library does. A sync is done once all writes were answered, and a flush after them. */
+static zelamiku_status make_calls(zelamiku_handle *heap, export_host *host, uint64_t *made) {
+    uint8_t bytes[ZELAMIKU_MOST_BYTES] = {0};
+    zelamiku_call call = {ZELAMIKU_NO_CALL, 0, 0};
+    const zelamiku_device *on = &host->device;
+    for (*made = 0;; ++*made) {
+        zelamiku_status status = zelamiku_next_call(heap, &call, bytes, sizeof bytes);
+        if (status != ZELAMIKU_OK || call.kind == ZELAMIKU_NO_CALL) return status;
+        bool is_sync = call.kind == ZELAMIKU_SYNC;
+        status = is_sync ? on->sync(on->context) : on->write(on->context, call.at, bytes, (size_t)call.size);
+        if (is_sync && status == ZELAMIKU_OK) {
+            MUST(unanswered == 0 && unflushed == 0 && barriers > 0);
+            barriers = 0;
+        }
+        if (is_sync && status == ZELAMIKU_LOST) MUST(zelamiku_call_failed(heap) == ZELAMIKU_STOPPED);
+        if (status != ZELAMIKU_OK) return status;
+        MUST(zelamiku_call_done(heap) == ZELAMIKU_OK);
+    }
 }
 
 static void empty_file(off_t size) {
@@ -225,61 +230,74 @@ static void store(zelamiku_handle *heap, uint64_t value) {
     MUST(zelamiku_end(&session) == ZELAMIKU_OK && zelamiku_round(heap, ZELAMIKU_ALL, &applied) == ZELAMIKU_OK && applied > 0);
 }
 
-static zelamiku_status make(zelamiku_handle *heap, zelamiku_nbd *host) {
-    return zelamiku_format_nbd(heap, host, 1, &FIELD, 1, LANES, CAPACITY);
-}
-
-/* A heap on the export, in which 7 is durable. */
-static void make_heap(zelamiku_handle *heap, zelamiku_nbd *host) {
-    uint64_t made = 0, sections = 0;
-    MUST(make(heap, host) == ZELAMIKU_OK && zelamiku_make_calls_nbd(heap, host, &made) == ZELAMIKU_OK && made > 0);
+/* A heap on the export, which has zeros before, and in it 7 is durable. */
+static void make_heap(zelamiku_handle *heap, export_host *host) {
+    uint64_t made = 0, sections = 0, size = 0;
+    MUST(zelamiku_format(heap, 1, &FIELD, 1, LANES, CAPACITY, ZELAMIKU_LEAST_RING, &size) == ZELAMIKU_OK && make_calls(heap, host, &made) == ZELAMIKU_OK && made > 0);
     store(heap, 7);
-    MUST(zelamiku_make_calls_nbd(heap, host, &made) == ZELAMIKU_OK && made > 0);
+    MUST(make_calls(heap, host, &made) == ZELAMIKU_OK && made > 0);
     MUST(zelamiku_acknowledged(heap, 0, &sections) == ZELAMIKU_OK && sections == 1);
 }
 
-static void end(zelamiku_handle *heap, zelamiku_nbd *host) {
+static void end(zelamiku_handle *heap, export_host *host) {
     zelamiku_free(heap);
-    zelamiku_end_nbd(host);
-    MUST(host->nbd == NULL && host->image == NULL);
+    zelamiku_nbd_end(host->nbd);
+}
+
+/* The same, and nobody has it open. */
+static void leave_heap(void) {
+    export_host host;
+    zelamiku_handle heap = ZELAMIKU_NONE;
+    empty_file(SIZE);
+    begin(&host);
+    make_heap(&heap, &host);
+    end(&heap, &host);
+}
+
+static const zelamiku_plan PLAN = {.fields = &FIELD, .count = 1, .objects = 1, .lanes = LANES, .capacity = CAPACITY};
+
+static zelamiku_status open_it(zelamiku_heap *heap, const export_host *host, bool must_exist, zelamiku_report *report) {
+    zelamiku_plan plan = PLAN;
+    plan.must_exist = must_exist;
+    return zelamiku_heap_open_on(heap, "export", &host->device, &plan, report);
+}
+
+static uint64_t value_of(zelamiku_heap heap) {
+    zelamiku_thread own;
+    uint64_t value = 0;
+    MUST(zelamiku_thread_begin(&own, heap) == ZELAMIKU_OK && zelamiku_thread_enter(own, 0) == ZELAMIKU_OK);
+    MUST(zelamiku_thread_load(own, 0, &value) == ZELAMIKU_OK && zelamiku_thread_exit(own, 0) == ZELAMIKU_OK);
+    MUST(zelamiku_thread_end(own) == ZELAMIKU_OK);
+    return value;
 }
 
 /* The value that the next host finds. */
 static uint64_t found(void) {
-    zelamiku_nbd host;
-    zelamiku_handle heap = ZELAMIKU_NONE;
-    zelamiku_found what = {0};
-    uint64_t made = 0;
+    export_host host;
+    zelamiku_heap heap;
     begin(&host);
-    MUST(zelamiku_open_nbd(&heap, &host, &what) == ZELAMIKU_OK && what.fields == 1 && what.lanes == LANES);
-    MUST(zelamiku_make_calls_nbd(&heap, &host, &made) == ZELAMIKU_OK);
-    uint64_t value = load(&heap);
-    MUST(zelamiku_close(&heap) == ZELAMIKU_OK && zelamiku_make_calls_nbd(&heap, &host, &made) == ZELAMIKU_OK);
-    end(&heap, &host);
+    MUST(open_it(&heap, &host, true, NULL) == ZELAMIKU_OK);
+    uint64_t value = value_of(heap);
+    MUST(zelamiku_heap_close(heap) == ZELAMIKU_OK);
+    zelamiku_nbd_end(host.nbd);
     return value;
 }
 
 static void life(void) {
-    zelamiku_nbd host;
-    zelamiku_handle heap = ZELAMIKU_NONE, session = ZELAMIKU_NONE;
-    zelamiku_found what = {1, 1, 1, 1, 1, 1, 1};
-    const zelamiku_found nothing = {0};
-    uint64_t made = 0;
+    export_host host;
+    zelamiku_heap heap;
+    zelamiku_report report;
     empty_file(SIZE);
     begin(&host);
-    MUST(zelamiku_open_nbd(&heap, &host, &what) == ZELAMIKU_NOT_FORMATTED && !heap.is_open);
-    MUST(memcmp(&what, &nothing, sizeof what) == 0);
-    MUST(zelamiku_make_calls_nbd(&heap, &host, &made) == ZELAMIKU_NOTHING && made == 0);
-    MUST(zelamiku_format_nbd(&heap, &host, 1, &FIELD, 1, 33, CAPACITY) == ZELAMIKU_BAD_HEADER && !heap.is_open);
+    MUST(open_it(&heap, &host, true, NULL) == ZELAMIKU_NOT_FORMATTED && heap.number == 0);
     with_flush = 0;
-    make_heap(&heap, &host);
-    MUST(with_flush > 0);
-    MUST(zelamiku_open_nbd(&heap, &host, &what) == ZELAMIKU_OPEN && make(&heap, &host) == ZELAMIKU_OPEN && heap.is_open);
-    MUST(zelamiku_make_calls_nbd(&heap, &host, &made) == ZELAMIKU_OK && made == 0);
-    MUST(zelamiku_session(&heap, &session) == ZELAMIKU_OK);
-    MUST(zelamiku_make_calls_nbd(&session, &host, &made) == ZELAMIKU_WRONG_KIND && session.is_open);
-    zelamiku_free(&session);
-    end(&heap, &host);
+    MUST(open_it(&heap, &host, false, &report) == ZELAMIKU_OK && report.is_made == 1 && value_of(heap) == 5);
+    MUST(zelamiku_heap_close(heap) == ZELAMIKU_OK && with_flush > 0);
+    /* By the same connection. */
+    MUST(open_it(&heap, &host, false, &report) == ZELAMIKU_OK && report.is_made == 0 && value_of(heap) == 5);
+    MUST(zelamiku_heap_close(heap) == ZELAMIKU_OK);
+    zelamiku_nbd_end(host.nbd);
+    leave_heap();
     MUST(found() == 7);
     /* Without FUA each batch has a flush of its own. */
     cannot_fua = 1;
@@ -288,88 +306,93 @@ static void life(void) {
     cannot_fua = 0;
 }
 
-/* What can't be a heap's device, and a heap that isn't made, leave the export as it was. */
-static void refusals(void) {
-    zelamiku_nbd host;
-    zelamiku_handle heap = ZELAMIKU_NONE;
-    struct nbd_handle *nbd = nbd_create();
-    MUST(nbd != NULL && zelamiku_begin_nbd(&host, nbd, 0, PATIENCE) == ZELAMIKU_DEVICE && errno == ENOTCONN);
-    nbd_close(nbd);
-    nbd = connected();
-    MUST(zelamiku_begin_nbd(&host, nbd, 3000, PATIENCE) == ZELAMIKU_DEVICE && errno == EINVAL);
-    MUST(zelamiku_begin_nbd(&host, nbd, 131072, PATIENCE) == ZELAMIKU_DEVICE && errno == EINVAL);
-    cannot_flush = 1;
-    MUST(zelamiku_begin_nbd(&host, nbd, 0, PATIENCE) == ZELAMIKU_DEVICE && errno == EOPNOTSUPP);
-    cannot_flush = 0;
-    MUST(zelamiku_begin_nbd(&host, nbd, 4096, PATIENCE) == ZELAMIKU_OK && host.block == 4096);
-    zelamiku_end_nbd(&host);
-    more[0] = "-r";
-    nbd = connected();
-    MUST(zelamiku_begin_nbd(&host, nbd, 0, PATIENCE) == ZELAMIKU_DEVICE && errno == EROFS);
-    nbd_close(nbd);
-    more[0] = NULL;
-    uint8_t bytes[7] = {0};
-    empty_file(65536);
-    MUST(pwrite(file, "no heap", 7, 0) == 7);
-    begin(&host);
-    MUST(make(&heap, &host) == ZELAMIKU_TOO_SMALL && !heap.is_open);
-    MUST(pread(file, bytes, 7, 0) == 7 && memcmp(bytes, "no heap", 7) == 0);
-    /* The connection ends before the request. */
-    shutdown(nbd_aio_get_fd(host.nbd), SHUT_RDWR);
-    zelamiku_found what = {0};
-    MUST(zelamiku_open_nbd(&heap, &host, &what) == ZELAMIKU_DEVICE && errno != 0 && !heap.is_open && host.nbd == NULL);
-    MUST(zelamiku_open_nbd(&heap, &host, &what) == ZELAMIKU_DEVICE && errno == ENOTCONN);
-    zelamiku_end_nbd(&host);
-    empty_file(SIZE);
-    begin(&host);
-    MUST(make(&heap, &host) == ZELAMIKU_OK);
-    zelamiku_free(&heap);
-    shutdown(nbd_aio_get_fd(host.nbd), SHUT_RDWR);
-    MUST(make(&heap, &host) == ZELAMIKU_DEVICE && errno != 0 && !heap.is_open);
-    end(&heap, &host);
+static void cannot_begin(struct nbd_handle *connection, uint32_t size, int cause) {
+    export_host host = {.nbd = (zelamiku_nbd *)1};
+    MUST(zelamiku_nbd_begin(&host.nbd, &host.device, connection, size, PATIENCE) == ZELAMIKU_DEVICE && errno == cause && host.nbd == NULL);
 }
 
-/* Of a large export that has no image the first blocks are read, and of one that has, the image. */
+/* What can't be a heap's device, and a heap that isn't made, leave the export as it was. */
+static void refusals(void) {
+    export_host host;
+    zelamiku_heap heap;
+    uint8_t bytes[7] = {0};
+    struct nbd_handle *nbd = nbd_create();
+    MUST(nbd != NULL);
+    cannot_begin(nbd, 0, ENOTCONN);
+    MUST(zelamiku_nbd_begin(NULL, &host.device, nbd, 0, 0) == ZELAMIKU_NOTHING && zelamiku_nbd_begin(&host.nbd, NULL, nbd, 0, 0) == ZELAMIKU_NOTHING);
+    MUST(zelamiku_nbd_begin(&host.nbd, &host.device, NULL, 0, 0) == ZELAMIKU_NOTHING && host.nbd == NULL);
+    zelamiku_nbd_end(NULL);
+    nbd_close(nbd);
+    nbd = connected();
+    cannot_begin(nbd, 3000, EINVAL);
+    cannot_begin(nbd, 131072, EINVAL);
+    cannot_flush = 1;
+    cannot_begin(nbd, 0, EOPNOTSUPP);
+    cannot_flush = 0;
+    MUST(zelamiku_nbd_begin(&host.nbd, &host.device, nbd, 4096, PATIENCE) == ZELAMIKU_OK && host.nbd->block == 4096);
+    zelamiku_nbd_end(host.nbd);
+    more[0] = "-r";
+    nbd = connected();
+    cannot_begin(nbd, 0, EROFS);
+    nbd_close(nbd);
+    more[0] = NULL;
+    empty_file(65536);
+    begin(&host);
+    MUST(open_it(&heap, &host, false, NULL) == ZELAMIKU_TOO_SMALL && heap.number == 0);
+    zelamiku_nbd_end(host.nbd);
+    MUST(pwrite(file, "no heap", 7, 0) == 7);
+    begin(&host);
+    MUST(open_it(&heap, &host, false, NULL) == ZELAMIKU_NOT_FORMATTED && heap.number == 0);
+    MUST(pread(file, bytes, 7, 0) == 7 && memcmp(bytes, "no heap", 7) == 0);
+    /* What isn't of the export. */
+    MUST(host.device.write(host.device.context, 65535, bytes, 2) == ZELAMIKU_DEVICE && errno == ENOSPC);
+    MUST(host.device.read(host.device.context, UINT64_MAX, bytes, 2) == ZELAMIKU_DEVICE && errno == ENOSPC);
+    /* The connection ends before the request. */
+    shutdown(nbd_aio_get_fd(host.nbd->connection), SHUT_RDWR);
+    MUST(open_it(&heap, &host, false, NULL) == ZELAMIKU_DEVICE && zelamiku_heap_error() != 0 && heap.number == 0 && host.nbd->connection == NULL);
+    MUST(open_it(&heap, &host, false, NULL) == ZELAMIKU_DEVICE && zelamiku_heap_error() == ENOTCONN);
+    zelamiku_nbd_end(host.nbd);
+}
+
+/* Of a large export that has no image so much is read as the heap would take, and of one that has, the image, once. */
 static void sizes(void) {
-    zelamiku_nbd host;
-    zelamiku_handle heap = ZELAMIKU_NONE;
-    zelamiku_found what = {0};
-    const uint64_t first = (ZELAMIKU_HEAD_BYTES + block - 1) / block * block;
+    export_host host;
+    zelamiku_heap heap;
+    zelamiku_report report;
     empty_file((off_t)1 << 40);
     begin(&host);
-    bytes_read = most_read_at = most = 0;
-    MUST(zelamiku_open_nbd(&heap, &host, &what) == ZELAMIKU_NOT_FORMATTED && bytes_read == first && most_read_at == first && most <= first);
-    make_heap(&heap, &host);
-    end(&heap, &host);
+    bytes_read = most_read_at = 0;
+    MUST(open_it(&heap, &host, true, NULL) == ZELAMIKU_NOT_FORMATTED);
+    uint64_t whole = bytes_read;
+    MUST(most_read_at == whole && whole < 1 << 20);
+    MUST(open_it(&heap, &host, false, &report) == ZELAMIKU_OK && report.is_made == 1 && zelamiku_heap_close(heap) == ZELAMIKU_OK);
+    MUST(whole == (report.told.found.size + block - 1) / block * block);
+    zelamiku_nbd_end(host.nbd);
     begin(&host);
-    bytes_read = most_read_at = most = 0;
-    MUST(zelamiku_open_nbd(&heap, &host, &what) == ZELAMIKU_OK);
-    uint64_t whole = (what.size + block - 1) / block * block;
-    MUST(bytes_read == first + whole && most_read_at == whole && most == whole);
-    end(&heap, &host);
+    bytes_read = most_read_at = 0;
+    MUST(open_it(&heap, &host, false, NULL) == ZELAMIKU_OK && bytes_read == whole && most_read_at == whole);
+    MUST(zelamiku_heap_close(heap) == ZELAMIKU_OK);
+    zelamiku_nbd_end(host.nbd);
     /* Its header tells another size. */
     MUST(pwrite(file, "\xff", 1, 24) == 1);
     begin(&host);
     bytes_read = 0;
-    MUST(zelamiku_open_nbd(&heap, &host, &what) == ZELAMIKU_BAD_HEADER && bytes_read == first && !heap.is_open);
-    zelamiku_end_nbd(&host);
-    empty_file(SIZE);
-    begin(&host);
-    make_heap(&heap, &host);
-    end(&heap, &host);
+    MUST(open_it(&heap, &host, false, NULL) == ZELAMIKU_BAD_HEADER && bytes_read == (ZELAMIKU_HEAD_BYTES + block - 1) / block * block && heap.number == 0);
+    zelamiku_nbd_end(host.nbd);
+    leave_heap();
     MUST(ftruncate(file, 65536) == 0);
     begin(&host);
-    MUST(zelamiku_open_nbd(&heap, &host, &what) == ZELAMIKU_TOO_SMALL && !heap.is_open);
-    zelamiku_end_nbd(&host);
+    MUST(open_it(&heap, &host, false, NULL) == ZELAMIKU_TOO_SMALL && heap.number == 0);
+    zelamiku_nbd_end(host.nbd);
     empty_file(SIZE);
 }
 
 /* After a request of a round has met a fault. GARBLED bytes have to be put right by this host. */
-static void after_refusal(zelamiku_handle *heap, zelamiku_nbd *host, int again) {
+static void after_refusal(zelamiku_handle *heap, export_host *host, int again) {
     uint64_t made = 0, sections = 0;
     MUST(fault != CUT && errno != 0 && zelamiku_acknowledged(heap, 1, &sections) == ZELAMIKU_CALLS_LEFT);
     if (again) {
-        MUST(zelamiku_make_calls_nbd(heap, host, &made) == ZELAMIKU_OK && made > 0);
+        MUST(make_calls(heap, host, &made) == ZELAMIKU_OK && made > 0);
         MUST(zelamiku_acknowledged(heap, 1, &sections) == ZELAMIKU_OK && sections == 1);
     }
     end(heap, host);
@@ -377,10 +400,10 @@ static void after_refusal(zelamiku_handle *heap, zelamiku_nbd *host, int again) 
     MUST(value == 8 || (value == 7 && !again));
 }
 
-static void after_loss(zelamiku_handle *heap, zelamiku_nbd *host) {
+static void after_loss(zelamiku_handle *heap, export_host *host) {
     uint64_t made = 0;
-    MUST(host->nbd == NULL && errno != 0);
-    MUST(zelamiku_make_calls_nbd(heap, host, &made) == ZELAMIKU_STOPPED && made == 0);
+    MUST(host->nbd->connection == NULL && errno != 0);
+    MUST(make_calls(heap, host, &made) == ZELAMIKU_STOPPED && made == 0);
     MUST(zelamiku_round(heap, ZELAMIKU_ALL, &made) == ZELAMIKU_STOPPED && zelamiku_close(heap) == ZELAMIKU_STOPPED);
     end(heap, host);
     uint64_t value = found();
@@ -390,14 +413,15 @@ static void after_loss(zelamiku_handle *heap, zelamiku_nbd *host) {
 /* Each request of a round meets the fault in turn. Answers how many there were. */
 static int faults(int again) {
     for (int call = 1;; call++) {
-        zelamiku_nbd host;
+        export_host host;
         zelamiku_handle heap = ZELAMIKU_NONE;
         uint64_t made = 0;
+        empty_file(SIZE);
         begin(&host);
         make_heap(&heap, &host);
         store(&heap, 8);
         fails_in = call;
-        zelamiku_status status = zelamiku_make_calls_nbd(&heap, &host, &made);
+        zelamiku_status status = make_calls(&heap, &host, &made);
         int left = fails_in;
         fails_in = 0;
         if (status == ZELAMIKU_OK) {
@@ -425,19 +449,14 @@ static int all_faults(void) {
 
 /* The server answers nothing for longer than patience lasts. */
 static void patience(void) {
-    zelamiku_nbd host;
-    zelamiku_handle heap = ZELAMIKU_NONE;
-    uint64_t made = 0;
-    begin(&host);
-    make_heap(&heap, &host);
-    end(&heap, &host);
+    export_host host;
+    zelamiku_heap heap;
+    leave_heap();
     more[0] = "--filter=delay";
     more[1] = "delay-write=3000ms";
-    zelamiku_found what = {0};
-    MUST(zelamiku_begin_nbd(&host, connected(), 0, 800) == ZELAMIKU_OK);
-    MUST(zelamiku_open_nbd(&heap, &host, &what) == ZELAMIKU_OK);
-    MUST(zelamiku_make_calls_nbd(&heap, &host, &made) == ZELAMIKU_LOST && errno == ETIMEDOUT && host.nbd == NULL);
-    end(&heap, &host);
+    MUST(zelamiku_nbd_begin(&host.nbd, &host.device, connected(), 0, 800) == ZELAMIKU_OK);
+    MUST(open_it(&heap, &host, false, NULL) == ZELAMIKU_DEVICE && zelamiku_heap_error() == ETIMEDOUT && host.nbd->connection == NULL);
+    zelamiku_nbd_end(host.nbd);
     more[0] = NULL;
     MUST(found() == 7);
 }
@@ -493,53 +512,48 @@ static uint8_t *file_bytes(void) {
     return bytes;
 }
 
-/* An export gets a heap that has one with another value. A crash at each request leaves the old heap, none, or the new one, with the
- * value that each has: and never an old header over zeros. */
-static unsigned formats(void) {
-    zelamiku_nbd host;
-    zelamiku_handle heap = ZELAMIKU_NONE;
-    uint64_t made = 0;
-    unsigned seen[3] = {0};
+/* A heap is made. A crash at each request leaves none, or the new one, with its first value. */
+static unsigned makings(void) {
+    export_host host;
+    zelamiku_heap heap;
+    unsigned seen[2] = {0};
     empty_file(SIZE);
-    begin(&host);
-    make_heap(&heap, &host);
-    end(&heap, &host);
-    MUST(found() == 7);
     uint8_t *before = file_bytes();
     begin(&host);
     records = 1;
-    MUST(make(&heap, &host) == ZELAMIKU_OK && zelamiku_make_calls_nbd(&heap, &host, &made) == ZELAMIKU_OK);
+    MUST(open_it(&heap, &host, false, NULL) == ZELAMIKU_OK);
     records = 0;
-    end(&heap, &host);
+    MUST(zelamiku_heap_close(heap) == ZELAMIKU_OK);
+    zelamiku_nbd_end(host.nbd);
     for (size_t count = 0; count <= asked_count; count++)
         for (int crash = 0; crash < CRASHES; crash++) {
             uint64_t value = 0;
             zelamiku_status status = after_crash(before, (size_t)SIZE, count, crash, &value);
-            MUST(status == ZELAMIKU_NOT_FORMATTED || (status == ZELAMIKU_OK && (value == 7 || value == 5)));
-            /* The old one until the first request is answered, the new one from the last batch on, which opens the gate. */
-            if (status == ZELAMIKU_OK) MUST(value == 7 ? count <= 1 : count + 2 > asked_count);
-            seen[status != ZELAMIKU_OK ? 0 : value == 7 ? 1 : 2]++;
+            MUST(status == ZELAMIKU_NOT_FORMATTED || (status == ZELAMIKU_OK && value == 5));
+            /* From the last batch on, which opens the gate. */
+            if (status == ZELAMIKU_OK) MUST(count + 2 > asked_count);
+            seen[status == ZELAMIKU_OK]++;
         }
-    MUST(seen[0] > 0 && seen[1] > 0 && seen[2] > 0);
-    unsigned crashes = seen[0] + seen[1] + seen[2];
+    MUST(seen[0] > 0 && seen[1] > 0);
     free(before);
     forget();
     MUST(found() == 5);
-    return crashes;
+    return seen[0] + seen[1];
 }
 
 /* A crash at each request of a round, of a server that has lost what wasn't flushed, or some of it. */
 static unsigned rounds(void) {
-    zelamiku_nbd host;
+    export_host host;
     zelamiku_handle heap = ZELAMIKU_NONE;
     uint64_t made = 0;
     unsigned seen[2] = {0};
+    empty_file(SIZE);
     begin(&host);
     make_heap(&heap, &host);
     uint8_t *before = file_bytes();
     store(&heap, 8);
     records = 1;
-    MUST(zelamiku_make_calls_nbd(&heap, &host, &made) == ZELAMIKU_OK);
+    MUST(make_calls(&heap, &host, &made) == ZELAMIKU_OK);
     records = 0;
     end(&heap, &host);
     for (size_t count = 0; count <= asked_count; count++)
@@ -594,16 +608,17 @@ static unsigned gone_on(const uint8_t *before, size_t batch, size_t next, unsign
 
 /* Why a connection that has ended isn't made again, and the failed request repeated: the server has lost those before it. */
 static void restarts(unsigned *wrong, unsigned *tried) {
-    zelamiku_nbd host;
+    export_host host;
     zelamiku_handle heap = ZELAMIKU_NONE;
     uint64_t made = 0;
     unsigned again = 0, pairs = 0;
+    empty_file(SIZE);
     begin(&host);
     make_heap(&heap, &host);
     uint8_t *before = file_bytes();
     store_by_three(&heap);
     records = 1;
-    MUST(zelamiku_make_calls_nbd(&heap, &host, &made) == ZELAMIKU_OK);
+    MUST(make_calls(&heap, &host, &made) == ZELAMIKU_OK);
     records = 0;
     end(&heap, &host);
     for (size_t i = 0, batch = 0; i < asked_count; i++) {
@@ -621,22 +636,23 @@ static void restarts(unsigned *wrong, unsigned *tried) {
 
 /* Many writes of a batch are underway at once, and no flush begins over them. */
 static void in_flight(void) {
-    zelamiku_nbd host;
+    export_host host;
     zelamiku_handle heap = ZELAMIKU_NONE, sessions[2] = {ZELAMIKU_NONE, ZELAMIKU_NONE};
     zelamiku_field fields[1000];
     uint64_t applied = 0, made = 0;
     for (uint32_t i = 0; i < 1000; i++) fields[i] = (zelamiku_field){0, 0, 0, 0};
+    empty_file(SIZE);
     begin(&host);
-    MUST(zelamiku_format_nbd(&heap, &host, 1, fields, 1000, 2, 8000) == ZELAMIKU_OK);
-    MUST(zelamiku_make_calls_nbd(&heap, &host, &made) == ZELAMIKU_OK);
+    MUST(zelamiku_format(&heap, 1, fields, 1000, 2, 8000, ZELAMIKU_LEAST_RING, &made) == ZELAMIKU_OK);
+    MUST(make_calls(&heap, &host, &made) == ZELAMIKU_OK);
     for (int i = 0; i < 2; i++) MUST(zelamiku_session(&heap, &sessions[i]) == ZELAMIKU_OK);
     most_unanswered = 0;
     for (uint32_t i = 0; i < 400; i++) {
         MUST(zelamiku_try_enter(&sessions[i % 2], 0) == ZELAMIKU_OK);
         MUST(zelamiku_store(&sessions[i % 2], i * 997 % 1000, i + 1) == ZELAMIKU_OK && zelamiku_exit(&sessions[i % 2], 0) == ZELAMIKU_OK);
     }
-    MUST(zelamiku_round(&heap, ZELAMIKU_ALL, &applied) == ZELAMIKU_OK && applied == 1200 && zelamiku_make_calls_nbd(&heap, &host, &made) == ZELAMIKU_OK);
-    MUST(most_unanswered > 1 && most_unanswered <= ZELAMIKU_NBD_IN_FLIGHT);
+    MUST(zelamiku_round(&heap, ZELAMIKU_ALL, &applied) == ZELAMIKU_OK && applied == 1200 && make_calls(&heap, &host, &made) == ZELAMIKU_OK);
+    MUST(most_unanswered > 1 && most_unanswered <= IN_FLIGHT);
     for (int i = 0; i < 2; i++) MUST(zelamiku_end(&sessions[i]) == ZELAMIKU_OK);
     end(&heap, &host);
 }
@@ -666,7 +682,7 @@ int main(int argc, char **argv) {
         }
         life();
         calls += all_faults();
-        crashes += formats() + rounds();
+        crashes += makings() + rounds();
         restarts(&wrong, &tried);
         in_flight();
     }
@@ -674,7 +690,7 @@ int main(int argc, char **argv) {
     MUST(flushes_wrong == 0 && calls > 2 && (wrong > 0 || tried == 0));
     MUST(close(file) == 0 && unlink("nbd.image") == 0);
     printf("nbd: lives, refusals, large exports, patience; with %d demands of a server %d faults, one at each request of a round in turn, "
-           "and %u crashes in rounds and while a heap is made over another; of a server that has lost what wasn't flushed the batch again "
+           "and %u crashes in rounds and while a heap is made; of a server that has lost what wasn't flushed the batch again "
            "is right, and the failed request alone wrong %u times of %u\n",
            count, calls, crashes, wrong, tried);
     return 0;

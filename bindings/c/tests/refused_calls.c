@@ -275,24 +275,11 @@ static zelamiku_heap open_one(const char *path) {
     return heap;
 }
 
-/* A copy is written to no pipe and no folder, nor to a path that is too long; of a heap that is in no file there is none. */
-static zelamiku_status make_no_calls(zelamiku_handle *heap, void *device, uint64_t *made) {
-    static uint8_t bytes[ZELAMIKU_MOST_BYTES];
-    zelamiku_call call;
-    (void)device;
-    for (;; ++*made) {
-        zelamiku_status status = zelamiku_next_call(heap, &call, bytes, sizeof bytes);
-        if (status != ZELAMIKU_OK || call.kind == ZELAMIKU_NO_CALL) return status;
-        if (zelamiku_call_done(heap) != ZELAMIKU_OK) return ZELAMIKU_FAULT;
-    }
-}
-
+/* A copy is written to no pipe and no folder, nor to a path that is too long. */
 static void copies(void) {
     static char long_path[PATH_MAX + 100];
     memset(long_path, 'x', sizeof long_path - 1);
-    zelamiku_heap heap = open_one("heap"), elsewhere;
-    zelamiku_handle handle = ZELAMIKU_NONE;
-    uint64_t size, made;
+    zelamiku_heap heap = open_one("heap");
     MUST(mkfifo("pipe", 0600) == 0 && mkdir("folder", 0700) == 0);
     MUST(zelamiku_heap_copy(heap, "pipe") == ZELAMIKU_DEVICE && zelamiku_heap_error() == EINVAL);
     MUST(zelamiku_heap_copy(heap, "folder") == ZELAMIKU_DEVICE && zelamiku_heap_error() == EISDIR);
@@ -300,12 +287,6 @@ static void copies(void) {
     MUST(zelamiku_heap_copy(heap, "") == ZELAMIKU_DEVICE && zelamiku_heap_error() == ENOENT);
     forks = true;
     MUST(zelamiku_heap_copy(heap, "copy") == ZELAMIKU_OK && !forks && zelamiku_heap_close(heap) == ZELAMIKU_OK);
-    MUST(zelamiku_format(&handle, OBJECTS_THERE, FIELDS, FIELDS_THERE, 2, 2000, 4096, &size) == ZELAMIKU_OK);
-    int file = open("calls", O_RDWR | O_CREAT | O_CLOEXEC, 0600), appending = open("calls", O_WRONLY | O_APPEND | O_CLOEXEC);
-    MUST(zelamiku_make_calls(&handle, appending, &made) == ZELAMIKU_DEVICE && errno == EBADF && made == 0);
-    MUST(zelamiku_make_calls(&handle, appending, NULL) == ZELAMIKU_DEVICE && zelamiku_make_calls(&handle, file, NULL) == ZELAMIKU_OK);
-    MUST(close(file) == 0 && close(appending) == 0 && zelamiku_heap_start(&elsewhere, "nowhere", &handle, make_no_calls, NULL, NULL) == ZELAMIKU_OK);
-    MUST(zelamiku_heap_copy(elsewhere, "copy") == ZELAMIKU_DEVICE && zelamiku_heap_error() == EBADF && zelamiku_heap_close(elsewhere) == ZELAMIKU_OK);
 }
 
 /* A heap is made at the end of a link from the root on; and in a folder whose path leaves no room for the name beside it none is made. */

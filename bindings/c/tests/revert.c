@@ -14,6 +14,7 @@
 #include <sys/mman.h>
 #include <sys/wait.h>
 #include <unistd.h>
+#include "memory.h"
 #include "zelamiku_core.h"
 
 #define MUST(is_so) \
@@ -523,18 +524,6 @@ static void room_between(void) {
 
 /* ---- refusals ---- */
 
-static zelamiku_status no_calls(zelamiku_handle *heap, void *device, uint64_t *made) {
-    zelamiku_call call = {0, 0, 0};
-    uint8_t bytes[ZELAMIKU_MOST_BYTES];
-    (void)device;
-    for (*made = 0;; ++*made) {
-        zelamiku_status status = zelamiku_next_call(heap, &call, bytes, sizeof bytes);
-        if (status != ZELAMIKU_OK || call.kind == ZELAMIKU_NO_CALL) return status;
-        status = zelamiku_call_done(heap);
-        if (status != ZELAMIKU_OK) return status;
-    }
-}
-
 static void refusals(void) {
     zelamiku_thread nobody = {0};
     MUST(zelamiku_thread_revert(nobody) == ZELAMIKU_NOTHING && says("revert"));
@@ -566,13 +555,16 @@ static void refusals(void) {
     MUST(zelamiku_thread_revert(own) == ZELAMIKU_CLOSED);
 }
 
-/* A heap of another device keeps the values too. */
+/* A heap of another device keeps the values too; and memory may be wanting for one of the lanes. */
 static void other_devices(void) {
-    zelamiku_handle handle = ZELAMIKU_NONE;
-    zelamiku_plan plan = {.reverts = 1};
-    uint64_t size = 0;
-    OK(zelamiku_format(&handle, OBJECTS, fields, FIELDS, LANES, 4096, ZELAMIKU_LEAST_RING, &size));
-    OK(zelamiku_heap_start(&all, "a device", &handle, no_calls, NULL, &plan));
+    zelamiku_plan plan = {.fields = fields, .count = FIELDS, .objects = OBJECTS, .lanes = LANES, .reverts = 1, .fingerprint = 5};
+    memory held = new_memory(1 << 24);
+    zelamiku_device device = device_of(&held);
+    for (unsigned lane = 1; lane <= LANES; lane++) {
+        allocations_left = lane;
+        MUST(zelamiku_heap_open_on(&all, "a device", &device, &plan, NULL) == ZELAMIKU_NO_MEMORY && all.number == 0);
+    }
+    OK(zelamiku_heap_open_on(&all, "a device", &device, &plan, NULL));
     zelamiku_thread own = begin_thread();
     OK(zelamiku_thread_enter(own, 1));
     OK(zelamiku_thread_store(own, 1, 7));
@@ -582,6 +574,7 @@ static void other_devices(void) {
     MUST(load(own, 1) == 1 && load(own, 13) == 13 && load(own, PLAIN - 3) == PLAIN - 3);
     OK(zelamiku_thread_exit(own, 1));
     close_all();
+    free_memory(&held);
 }
 
 /* Memory is wanting for one of the lanes: no heap is open then, and nothing is left of it. */
@@ -589,14 +582,9 @@ static void scarce_memory(void) {
     zelamiku_plan plan = {.fields = fields, .count = FIELDS, .objects = OBJECTS, .lanes = LANES, .reverts = 1, .fingerprint = 5};
     MUST(unlink("revert.heap") == 0 || errno == ENOENT);
     for (unsigned lane = 1; lane <= LANES; lane++) {
-        zelamiku_handle handle = ZELAMIKU_NONE;
-        uint64_t size = 0;
         allocations_left = lane;
         MUST(zelamiku_heap_open(&all, "revert.heap", &plan, NULL) == ZELAMIKU_NO_MEMORY && all.number == 0);
         MUST(says("revert.heap: open: there was no memory"));
-        OK(zelamiku_format(&handle, OBJECTS, fields, FIELDS, LANES, 4096, ZELAMIKU_LEAST_RING, &size));
-        allocations_left = lane;
-        MUST(zelamiku_heap_start(&all, "a device", &handle, no_calls, NULL, &plan) == ZELAMIKU_NO_MEMORY && !handle.is_open && all.number == 0);
     }
     /* And there is some. */
     OK(zelamiku_heap_open(&all, "revert.heap", &plan, NULL));

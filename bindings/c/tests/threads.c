@@ -174,7 +174,7 @@ static unsigned logged[3]; /* lines, by their level */
 
 /* Until when those without room look: set further, where a round lasts. */
 static void make_haste(void) {
-    heaps[all.number >> 8 & 255].haste = UINT64_MAX;
+    heaps[all.number >> 8 & 255].poll_until = UINT64_MAX;
 }
 
 static char last_warning[ZELAMIKU_MOST_MESSAGE];
@@ -500,17 +500,17 @@ static void bounds(void) {
     heap *of = &heaps[0]; /* no heap is there */
     of->room = 16384;
     note_times(of, 1000, 100000 - 1, 50000);
-    MUST(of->paid == 500 && of->last_calls == 50000);
+    MUST(of->affordable == 500 && of->last_calls == 50000);
     MUST(bound(of, 0, 0) == 16384 && bound(of, 4, 0) == 65536 && bound(of, 4, 4) == 65536 && bound(of, 1, 1) == 16384);
     MUST(bound(of, 4, 1) == 16384 && bound(of, 4, 3) == 16384 && bound(of, 2, 1) == 8192);
     note_times(of, 0, 1, 70000);
-    MUST(of->paid == 500 && of->last_calls == 70000);
+    MUST(of->affordable == 500 && of->last_calls == 70000);
     note_times(of, 100000, 5000000 - 1, 8000000);
-    MUST(of->paid == 160000 && bound(of, 4, 0) == 160000 && bound(of, 4, 1) == 160000);
+    MUST(of->affordable == 160000 && bound(of, 4, 0) == 160000 && bound(of, 4, 1) == 160000);
     /* Calls that hung pay for 20 milliseconds. */
     note_times(of, 100000, 5000000 - 1, 8000000000);
-    MUST(of->paid == 400000 && of->last_calls == 8000000000);
-    of->room = of->paid = of->last_calls = 0;
+    MUST(of->affordable == 400000 && of->last_calls == 8000000000);
+    of->room = of->affordable = of->last_calls = 0;
 }
 
 /* ---- waits, and refusals ---- */
@@ -1311,47 +1311,6 @@ static void copies(void) {
     MUST(zelamiku_heap_close(all) == ZELAMIKU_OK);
 }
 
-/* ---- sessions before ---- */
-
-static zelamiku_status no_calls(zelamiku_handle *heap, void *device, uint64_t *made) {
-    zelamiku_call call = {0, 0, 0};
-    uint8_t bytes[ZELAMIKU_MOST_BYTES];
-    (void)device;
-    for (*made = 0;; ++*made) {
-        zelamiku_status status = zelamiku_next_call(heap, &call, bytes, sizeof bytes);
-        if (status != ZELAMIKU_OK || call.kind == ZELAMIKU_NO_CALL) return status;
-        status = zelamiku_call_done(heap);
-        if (status != ZELAMIKU_OK) return status;
-    }
-}
-
-/* Where a session had a lane before, its sections aren't taken for a thread's, and each thread has the lane that it is known by. */
-static void after_a_session(void) {
-    zelamiku_handle handle = ZELAMIKU_NONE, session = ZELAMIKU_NONE;
-    uint64_t number = 0;
-    pthread_t waiter;
-    uint64_t woken = 0;
-    MUST(zelamiku_format(&handle, 2, FIELDS, 3, LANES, 2000, ZELAMIKU_LEAST_RING, &number) == ZELAMIKU_OK);
-    MUST(zelamiku_session(&handle, &session) == ZELAMIKU_OK && zelamiku_try_enter(&session, LIST) == ZELAMIKU_OK);
-    MUST(zelamiku_store(&session, COUNT, 7) == ZELAMIKU_OK && zelamiku_exit(&session, LIST) == ZELAMIKU_OK);
-    MUST(zelamiku_end(&session) == ZELAMIKU_OK && zelamiku_round(&handle, ZELAMIKU_ALL, &number) == ZELAMIKU_OK);
-    MUST(no_calls(&handle, NULL, &number) == ZELAMIKU_OK);
-    MUST(zelamiku_heap_start(&all, "a device", &handle, no_calls, NULL, NULL) == ZELAMIKU_OK);
-    zelamiku_thread own = begin_thread();
-    MUST(zelamiku_thread_sections(own) == 0 && zelamiku_thread_durable(own) == 0);
-    add(own, LIST, COUNT, 1);
-    MUST(zelamiku_thread_await(own) == ZELAMIKU_OK && zelamiku_thread_durable(own) == 1 && zelamiku_thread_sections(own) == 1);
-    MUST(pthread_create(&waiter, NULL, wait_once, NULL) == 0);
-    await_waiter(own);
-    MUST(zelamiku_thread_enter(own, TOTAL) == ZELAMIKU_OK);
-    MUST(zelamiku_thread_notify_all(own, TOTAL, &woken) == ZELAMIKU_OK);
-    /* One lane, and not its own. */
-    MUST(woken != 0 && (woken & (woken - 1)) == 0 && woken != (uint64_t)1 << zelamiku_thread_lane(own));
-    MUST(zelamiku_thread_exit(own, TOTAL) == ZELAMIKU_OK);
-    MUST(ends(waiter, NULL) && look(LIST, COUNT) == 8);
-    MUST(zelamiku_thread_end(own) == ZELAMIKU_OK && zelamiku_heap_close(all) == ZELAMIKU_OK);
-}
-
 /* ---- slices ---- */
 
 static zelamiku_heap open_keeping(uint32_t keeps_slice) {
@@ -1422,14 +1381,14 @@ static void slices(void) {
 static void looks_that_last(void) {
     heap *of = &heaps[0]; /* no heap is there */
     of->processors = 4;
-    of->looks = LOOKS;
+    of->spin_time = MOST_SPIN;
     of->rounds = 7;
     uint64_t now = zelamiku_now();
     MUST(zelamiku_now() - now < SECOND);
-    look_for_round(of, of->told, now - LOST_LOOK - 1, now + SECOND);
-    MUST(of->blind == 7 + BLIND && zelamiku_now() - now < SECOND / 2);
-    of->blind = of->processors = 0;
-    of->looks = of->rounds = 0;
+    look_for_round(of, of->round_bell, now - LONG_SPIN - 1, now + SECOND);
+    MUST(of->no_spin_before == 7 + UNSPUN_ROUNDS && zelamiku_now() - now < SECOND / 2);
+    of->no_spin_before = of->processors = 0;
+    of->spin_time = of->rounds = 0;
 }
 
 /* ---- turns, and rest ---- */
@@ -1540,14 +1499,13 @@ int main(int argc, char **argv) {
     waits_are_listed();
     waits_in_full_run();
     copies();
-    after_a_session();
     slices();
     looks_that_last();
     turns(0);
     for (int i = 0; i < 5; i++) turns(20);
     rest_for(argc > 2 ? (unsigned)strtoul(argv[2], NULL, 10) : 200);
     printf("threads: lives of %d threads, room, rings, bounds, refusals, deadlines, failing writes and syncs, looks, stops, calls underway,"
-           " circles, copies, sessions before, turns, rest\n",
+           " circles, copies, turns, rest\n",
            LANES);
     return 0;
 }

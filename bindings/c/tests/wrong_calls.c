@@ -557,50 +557,6 @@ static void forks(void) {
 
 /* ---- hosts ---- */
 
-static zelamiku_status no_calls(zelamiku_handle *heap, void *device, uint64_t *made) {
-    zelamiku_call call = {0, 0, 0};
-    uint8_t bytes[ZELAMIKU_MOST_BYTES];
-    (void)device;
-    for (*made = 0;; ++*made) {
-        zelamiku_status status = zelamiku_next_call(heap, &call, bytes, sizeof bytes);
-        if (status != ZELAMIKU_OK || call.kind == ZELAMIKU_NO_CALL) return status;
-        status = zelamiku_call_done(heap);
-        if (status != ZELAMIKU_OK) return status;
-    }
-}
-
-static void hosts(void) {
-    zelamiku_handle handle = ZELAMIKU_NONE, session = ZELAMIKU_NONE;
-    zelamiku_heap heap;
-    uint64_t size = 0, made = 0;
-    IS(zelamiku_heap_start(NULL, "host", &handle, no_calls, NULL, NULL), NOTHING, "NULL");
-    IS(zelamiku_heap_start(&heap, NULL, &handle, no_calls, NULL, NULL), NOTHING, "NULL");
-    IS(zelamiku_heap_start(&heap, "host", NULL, no_calls, NULL, NULL), NOTHING, "NULL");
-    IS(zelamiku_heap_start(&heap, "host", &handle, NULL, NULL, NULL), NOTHING, "NULL");
-    IS(zelamiku_heap_start(&heap, "host", &handle, no_calls, NULL, NULL), NOTHING, "host: ");
-    MUST(zelamiku_format(&handle, OBJECTS, fields, FIELDS, 3, 2000, ZELAMIKU_LEAST_RING, &size) == ZELAMIKU_OK);
-    MUST(zelamiku_session(&handle, &session) == ZELAMIKU_OK);
-    IS(zelamiku_heap_start(&heap, "host", &session, no_calls, NULL, NULL), WRONG_KIND, "host: ");
-    IS(zelamiku_heap_start(&heap, "host", &handle, no_calls, NULL, NULL), RUNNING, "host: ");
-    MUST(handle.is_open && zelamiku_end(&session) == ZELAMIKU_OK);
-    zelamiku_free(&session); /* it keeps what the session came back by */
-    int file = open("calls", O_RDWR | O_CREAT | O_APPEND | O_CLOEXEC, 0600);
-    calls += 4;
-    MUST(zelamiku_make_calls(&handle, file, &made) == ZELAMIKU_DEVICE && errno == EBADF && made == 0 && close(file) == 0);
-    file = open("calls", O_RDONLY | O_CLOEXEC);
-    MUST(zelamiku_make_calls(&handle, file, &made) == ZELAMIKU_DEVICE && errno == EBADF && made == 0 && close(file) == 0);
-    MUST(zelamiku_make_calls(&handle, -1, &made) == ZELAMIKU_DEVICE && errno == EBADF && made == 0);
-    MUST(zelamiku_make_calls(NULL, -1, &made) == ZELAMIKU_NOTHING);
-    zelamiku_free(&handle);
-    MUST(zelamiku_format(&handle, OBJECTS, fields, FIELDS, 3, 2000, ZELAMIKU_LEAST_RING, &size) == ZELAMIKU_OK);
-    zelamiku_heap second = {1};
-    IS(zelamiku_heap_start(&heap, "host", &handle, no_calls, NULL, NULL), OK, "");
-    MUST(!handle.is_open);
-    IS(zelamiku_heap_start(&second, "host", &handle, no_calls, NULL, NULL), NOTHING, "host: ");
-    MUST(second.number == 0);
-    IS(zelamiku_heap_close(heap), OK, "");
-}
-
 static bool is_no_shape(const zelamiku_shape *it) {
     return it->size == 0 && it->zeros_from == 0 && it->objects == 0 && it->fields == 0 && it->lanes == 0 && it->capacity == 0 && it->is_damaged == 0;
 }
@@ -707,7 +663,6 @@ int main(int argc, char **argv) {
     copies();
     abandoned();
     forks();
-    hosts();
     full();
     printf("wrong calls: %u, of which %u were answered wrongly\n", calls, wrong);
     return wrong == 0 ? 0 : 1;

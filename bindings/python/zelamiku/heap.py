@@ -307,7 +307,7 @@ def _opened(calls: Library, path: str, plan: Plan, wanted: PlanRow) -> tuple[int
     wanted.count = len(fields)
     wanted.objects = len(plan.objects)
     handle, row = c_uint64(), ReportRow()
-    status = calls.heap_open_2(byref(handle), _encoded(path), byref(wanted), byref(row))
+    status = calls.heap_open(byref(handle), _encoded(path), byref(wanted), byref(row))
     if status == OK:
         return handle.value, row
     if status == OTHER_HEAP:

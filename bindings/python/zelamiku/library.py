@@ -157,7 +157,7 @@ _HEAP = _THREAD = c_uint64
 
 # What each call takes and answers; a status where nothing else is said.
 _SLEEPING: dict[str, list[Any]] = {
-    "heap_open_2": [POINTER(c_uint64), c_char_p, POINTER(PlanRow), POINTER(ReportRow)],
+    "heap_open": [POINTER(c_uint64), c_char_p, POINTER(PlanRow), POINTER(ReportRow)],
     "heap_close": [_HEAP],
     "heap_stop": [_HEAP],
     "heap_abandon": [_HEAP],

@@ -73,8 +73,6 @@ class Cause(enum.Enum):
 
     NONE = 0
     """There was none yet."""
-    OPENING = 1
-    """The calls of opening and making."""
     AWAITED = 2
     """A thread waits until its sections are durable."""
     ROOM = 3

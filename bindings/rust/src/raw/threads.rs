@@ -118,7 +118,7 @@ const _: () = assert!(size_of::<Stats>() == 88 && size_of::<Wait>() == 16);
 
 // What a section's end asks of its heap, and what the thread that has a lane keeps of it: zelamiku_inline.h has them.
 #[repr(C)]
-struct News {
+struct Signals {
     waiting: [AtomicU32; 64],
     has_work: AtomicU32,
     enough: u32,
@@ -132,7 +132,7 @@ struct Own {
     locks: u32,
     is_busy: AtomicU32,
     session: Handle,
-    news: *const News,
+    signals: *const Signals,
     records: u32,
     has_stored: u32,
     last_stored: AtomicU64,
@@ -140,21 +140,19 @@ struct Own {
 }
 
 // Where the library has each of them. It reads and writes the same memory: the table's name has the number of this layout, and changes with it.
-const _: () = assert!(offset_of!(News, waiting) == 0 && offset_of!(News, has_work) == 256 && offset_of!(News, enough) == 260);
+const _: () = assert!(offset_of!(Signals, waiting) == 0 && offset_of!(Signals, has_work) == 256 && offset_of!(Signals, enough) == 260);
 const _: () = assert!(offset_of!(Own, number) == 0 && offset_of!(Own, open) == 8 && offset_of!(Own, ended) == 16);
 const _: () = assert!(offset_of!(Own, locks) == 24 && offset_of!(Own, is_busy) == 28 && offset_of!(Own, session) == 32);
-const _: () = assert!(offset_of!(Own, news) == 48 && offset_of!(Own, records) == 56 && offset_of!(Own, has_stored) == 60);
+const _: () = assert!(offset_of!(Own, signals) == 48 && offset_of!(Own, records) == 56 && offset_of!(Own, has_stored) == 60);
 const _: () = assert!(offset_of!(Own, last_stored) == 64 && offset_of!(Own, is_plain) == 72);
 
 extern "C" {
-    // The number is that of the layout of `Own` and `News`: a library of another one doesn't link.
+    // The number is that of the layout of `Own` and `Signals`: a library of another one doesn't link.
     #[link_name = "zelamiku_seats_3"]
     static mut zelamiku_seats: [u8; 0];
     fn zelamiku_thread_exited(thread: ThreadNumber, object: u32) -> u32;
     fn zelamiku_heap_message() -> *const c_char;
     fn zelamiku_heap_error() -> i32;
-    // An older name is of a library whose plans are shorter.
-    #[link_name = "zelamiku_heap_open_2"]
     fn zelamiku_heap_open(heap: *mut HeapNumber, path: *const c_char, plan: *const RawPlan, report: *mut Report) -> u32;
     fn zelamiku_heap_dropped(heap: HeapNumber, from: usize, dropped: *mut Dropped, count: usize, told: *mut usize) -> u32;
     fn zelamiku_heap_close(heap: HeapNumber) -> u32;
@@ -230,7 +228,7 @@ calls! {
 /// The calls that every section makes, as zelamiku_inline.h has them: the proved library is called at once where it may be, and the library's own
 /// function makes the whole call else.
 // SAFETY (of all that is unsafe here): each number names a place in the library's table, and that of a thread is its own, but for what is atomic;
-// its `news` is the heap's. The proved library has one call at a time of a session, since a thread's calls take `&mut`.
+// its `signals` is the heap's. The proved library has one call at a time of a session, since a thread's calls take `&mut`.
 impl ThreadNumber {
     #[inline]
     fn own(&self) -> *mut Own {
@@ -273,7 +271,7 @@ impl ThreadNumber {
                 (*own).has_stored = 0;
             }
             (*own).ended.store((*own).ended.load(Relaxed) + 1, SeqCst);
-            if (*(*own).news).has_work.load(SeqCst) == 0 || (*own).records >= (*(*own).news).enough {
+            if (*(*own).signals).has_work.load(SeqCst) == 0 || (*own).records >= (*(*own).signals).enough {
                 return false;
             }
             (*own).is_busy.store(0, Release);
@@ -306,7 +304,7 @@ impl ThreadNumber {
             (*own).records += 2;
             (*own).locks -= 1;
             let is_quiet = (*own).locks > 0 || self.ends();
-            if is_quiet && (*(*own).news).waiting[object as usize % 64].load(SeqCst) == 0 {
+            if is_quiet && (*(*own).signals).waiting[object as usize % 64].load(SeqCst) == 0 {
                 return OK;
             }
             zelamiku_thread_exited(*self, object)

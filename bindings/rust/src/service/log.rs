@@ -51,8 +51,6 @@ pub enum Cause {
     /// There was none yet.
     #[default]
     None,
-    /// The heap was opened or made.
-    Opening,
     /// A session waits until its sections are durable.
     Awaited,
     /// A session has no room for a section's records.
@@ -118,7 +116,6 @@ impl From<threads::Stats> for Stats {
             entering: told.entering,
             last_cause: match told.last_cause {
                 0 => Cause::None,
-                1 => Cause::Opening,
                 2 => Cause::Awaited,
                 3 => Cause::Room,
                 4 => Cause::Full,

@@ -1,0 +1,74 @@
+/* A heap's device: its four functions, and the calls that the proved library asks for.
+ *
+ * Who opens the heap has the device, and then who leads. No lock is held in a call, which may hang. */
+/* ---- the four functions ---- */
+
+/* What a function has answered: OK, DEVICE or LOST. errno has the cause. */
+static zelamiku_status answer_of(zelamiku_status answer) {
+    if (answer == ZELAMIKU_OK) return ZELAMIKU_OK;
+    if (errno == 0) errno = EIO;
+    return answer == ZELAMIKU_DEVICE ? ZELAMIKU_DEVICE : ZELAMIKU_LOST;
+}
+
+static zelamiku_status read_device(const zelamiku_device *from, uint64_t at, void *bytes, size_t size) {
+    errno = 0;
+    return answer_of(from->read(from->context, at, bytes, size));
+}
+
+static zelamiku_status write_device(const zelamiku_device *to, uint64_t at, const void *bytes, size_t size) {
+    errno = 0;
+    return answer_of(to->write(to->context, at, bytes, size));
+}
+
+static zelamiku_status sync_device(const zelamiku_device *it) {
+    errno = 0;
+    return answer_of(it->sync(it->context));
+}
+
+static zelamiku_status tell_size(const zelamiku_device *of, uint64_t *size) {
+    errno = 0;
+    *size = 0;
+    return answer_of(of->size(of->context, size));
+}
+
+static bool has_functions(const zelamiku_device *it) {
+    return it != NULL && it->read != NULL && it->write != NULL && it->sync != NULL && it->size != NULL;
+}
+
+/* ---- the proved library's calls ---- */
+
+/* Makes one call. A sync that is LOST is told to the library, which lets the heap go; any other call is told again by it. */
+static zelamiku_status make_call(zelamiku_handle *handle, const zelamiku_device *on, const zelamiku_call *call, const uint8_t *bytes) {
+    bool is_sync = call->kind == ZELAMIKU_SYNC;
+    assert(is_sync || (call->size > 0 && call->size <= ZELAMIKU_MOST_BYTES));
+    zelamiku_status status = is_sync ? sync_device(on) : write_device(on, call->at, bytes, (size_t)call->size);
+    if (status == ZELAMIKU_OK) return zelamiku_call_done(handle);
+    int error = errno;
+    if (is_sync && status == ZELAMIKU_LOST) {
+        zelamiku_status stopped = zelamiku_call_failed(handle);
+        assert(stopped == ZELAMIKU_STOPPED);
+        (void)stopped;
+    }
+    errno = error;
+    return status;
+}
+
+/* Makes the calls that are left, in order, and counts them and the syncs. DEVICE: the one that failed is the first of the next time. */
+static zelamiku_status make_calls_on(zelamiku_handle *handle, const zelamiku_device *on, uint64_t *made, uint64_t *syncs) {
+    uint8_t bytes[ZELAMIKU_MOST_BYTES] = {0};
+    zelamiku_call call = {ZELAMIKU_NO_CALL, 0, 0};
+    for (*made = 0;; ++*made) {
+        zelamiku_status status = zelamiku_next_call(handle, &call, bytes, sizeof bytes);
+        if (status != ZELAMIKU_OK || call.kind == ZELAMIKU_NO_CALL) return status;
+        status = make_call(handle, on, &call, bytes);
+        if (status != ZELAMIKU_OK) return status;
+        *syncs += call.kind == ZELAMIKU_SYNC;
+    }
+}
+
+zelamiku_status zelamiku_make_calls(zelamiku_handle *handle, int descriptor, uint64_t *made) {
+    zelamiku_device file = device_of_file(descriptor);
+    uint64_t syncs = 0, none = 0;
+    if (handle == NULL) return nothing("make calls", "give a heap");
+    return make_calls_on(handle, &file, made != NULL ? made : &none, &syncs);
+}

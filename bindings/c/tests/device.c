@@ -1,0 +1,509 @@
+/* Tests of zelamiku_heap_open_on, over a device of this test's own, whose calls fail, tear and hang.
+ *
+ *     device FOLDER [threads]     prints one line, and answers 0, where all is as it must be; with `threads` only what threads do at once */
+#define _GNU_SOURCE
+#include <errno.h>
+#include <pthread.h>
+#include <stdatomic.h>
+#include <stdio.h>
+#include <unistd.h>
+#include "memory.h"
+
+#define MUST(is_so) \
+    do { \
+        if (!(is_so)) { \
+            fprintf(stderr, "line %d: %s (%s at call %u; %s)\n", __LINE__, #is_so, NAMES[fault], fault_at, zelamiku_heap_message()); \
+            exit(1); \
+        } \
+    } while (0)
+#define OK(call) MUST((call) == ZELAMIKU_OK)
+
+/* What a fault does to a call. TORN: half of a write's bytes are there, and the answer is DEVICE. LATE: a write is whole, or a sync done, and the
+ * answer is DEVICE. STRANGE: it answers what no function may. */
+enum { NO_FAULT, REFUSED, TORN, LATE, GONE, STRANGE, HANGS, FAULTS = HANGS };
+static const char *const NAMES[] = {"no fault", "refused", "torn", "late", "gone", "strange", "hangs"};
+
+static memory held;
+static _Atomic unsigned fault, fault_at; /* which call meets it, from 1 on; 0: none */
+static _Atomic unsigned calls;
+static pthread_mutex_t bytes_lock = PTHREAD_MUTEX_INITIALIZER; /* of what the device holds */
+static _Atomic unsigned in_call, hung;
+static _Atomic bool is_let_go, is_over; /* no call may come */
+static const char *kind_of_fault;       /* of the call that has met it */
+
+static const zelamiku_field FIELDS[] = {{0, 0, 5, 0}, {1, 1, 6, 0}, {0, 0, 9, 1}};
+static const zelamiku_plan PLAN = {.fields = FIELDS, .count = 3, .objects = 2, .lanes = 4, .capacity = 2000, .linger = 1000000};
+enum { SIZE = 1 << 18 };
+
+/* ---- the device ---- */
+
+static bool is_due(void) {
+    return ++calls == fault_at;
+}
+
+static zelamiku_status begin_call(const char *kind, bool *has_fault) {
+    MUST(++in_call == 1 && !is_over);
+    *has_fault = is_due();
+    if (!*has_fault) return ZELAMIKU_OK;
+    kind_of_fault = kind;
+    errno = ENOSPC;
+    if (fault == HANGS) {
+        hung++;
+        while (!is_let_go) usleep(1000);
+        *has_fault = false;
+        return ZELAMIKU_OK;
+    }
+    return fault == GONE ? ZELAMIKU_LOST : fault == STRANGE ? ZELAMIKU_HELD : ZELAMIKU_DEVICE;
+}
+
+static zelamiku_status end_call(zelamiku_status status) {
+    in_call--;
+    if (status != ZELAMIKU_OK) errno = ENOSPC;
+    return status;
+}
+
+static zelamiku_status flaky_read(void *of, uint64_t at, void *bytes, size_t size) {
+    bool has_fault;
+    zelamiku_status status = begin_call("read", &has_fault);
+    MUST(size <= SIZE && at <= SIZE - size);
+    if (!has_fault) return end_call(memory_read(of, at, bytes, size));
+    memset(bytes, 0x5a, size / 2);
+    return end_call(status);
+}
+
+static zelamiku_status flaky_write(void *of, uint64_t at, const void *bytes, size_t size) {
+    bool has_fault;
+    zelamiku_status status = begin_call("write", &has_fault);
+    MUST(size > 0 && size <= 1 << 16);
+    pthread_mutex_lock(&bytes_lock);
+    if (!has_fault || fault == LATE) (void)memory_write(of, at, bytes, size);
+    if (has_fault && fault == TORN) (void)memory_write(of, at, bytes, size / 2);
+    pthread_mutex_unlock(&bytes_lock);
+    return end_call(status);
+}
+
+static zelamiku_status flaky_sync(void *of) {
+    bool has_fault;
+    zelamiku_status status = begin_call("sync", &has_fault);
+    pthread_mutex_lock(&bytes_lock);
+    if (!has_fault || fault == LATE) (void)memory_sync(of);
+    pthread_mutex_unlock(&bytes_lock);
+    return end_call(status);
+}
+
+static zelamiku_status flaky_size(void *of, uint64_t *size) {
+    bool has_fault;
+    zelamiku_status status = begin_call("size", &has_fault);
+    *size = has_fault ? 12345 : ((memory *)of)->size;
+    return end_call(status);
+}
+
+static const zelamiku_device DEVICE = {flaky_read, flaky_write, flaky_sync, flaky_size, &held};
+
+static void empty(void) {
+    memset(held.now, 0, SIZE);
+    memset(held.durable, 0, SIZE);
+}
+
+/* From now on: the fault at the call from here. */
+static void plant(unsigned what, unsigned at) {
+    fault = what;
+    fault_at = at;
+    calls = 0;
+}
+
+/* ---- a heap on it ---- */
+
+static zelamiku_heap heap;
+
+static void begin(void) {
+    is_over = false;
+    OK(zelamiku_heap_open_on(&heap, "device", &DEVICE, &PLAN, NULL));
+}
+
+static zelamiku_thread begin_thread(void) {
+    zelamiku_thread own;
+    OK(zelamiku_thread_begin(&own, heap));
+    return own;
+}
+
+static uint64_t load(zelamiku_thread own, uint32_t field) {
+    uint64_t value = 0;
+    OK(zelamiku_thread_enter(own, field % 2));
+    OK(zelamiku_thread_load(own, field, &value));
+    OK(zelamiku_thread_exit(own, field % 2));
+    return value;
+}
+
+/* Both fields, by one section. */
+static void store(zelamiku_thread own, uint64_t value) {
+    OK(zelamiku_thread_enter(own, 0));
+    OK(zelamiku_thread_enter(own, 1));
+    OK(zelamiku_thread_store(own, 0, value));
+    OK(zelamiku_thread_store(own, 1, value + 1));
+    OK(zelamiku_thread_exit(own, 1));
+    OK(zelamiku_thread_exit(own, 0));
+}
+
+static void close_heap(void) {
+    OK(zelamiku_heap_close(heap));
+    is_over = true;
+}
+
+/* The value of a heap on these bytes, as another host finds it; 0: there is none. */
+static uint64_t value_on(const uint8_t *bytes) {
+    memory copy = new_memory(SIZE);
+    zelamiku_heap other;
+    zelamiku_thread own;
+    uint64_t value = 0, second = 0;
+    pthread_mutex_lock(&bytes_lock);
+    memcpy(copy.now, bytes, SIZE);
+    pthread_mutex_unlock(&bytes_lock);
+    zelamiku_device device = device_of(&copy);
+    zelamiku_plan plan = PLAN;
+    plan.must_exist = 1;
+    zelamiku_status status = zelamiku_heap_open_on(&other, "another host", &device, &plan, NULL);
+    if (status == ZELAMIKU_OK) {
+        OK(zelamiku_thread_begin(&own, other));
+        OK(zelamiku_thread_enter(own, 0));
+        OK(zelamiku_thread_enter(own, 1));
+        OK(zelamiku_thread_load(own, 0, &value));
+        OK(zelamiku_thread_load(own, 1, &second));
+        OK(zelamiku_thread_exit(own, 1));
+        OK(zelamiku_thread_exit(own, 0));
+        MUST(second == value + 1);
+        OK(zelamiku_heap_close(other));
+    } else {
+        MUST(status == ZELAMIKU_NOT_FORMATTED && other.number == 0);
+    }
+    free_memory(&copy);
+    return value;
+}
+
+/* A heap on the device, in which 7 is durable, and nobody has it open. */
+static void make(void) {
+    empty();
+    plant(NO_FAULT, 0);
+    begin();
+    zelamiku_thread own = begin_thread();
+    store(own, 7);
+    OK(zelamiku_thread_await(own));
+    close_heap();
+    MUST(value_on(held.durable) == 7);
+}
+
+static bool says(const char *text) {
+    return strstr(zelamiku_heap_message(), text) != NULL;
+}
+
+/* ---- a life ---- */
+
+static void life(const char *folder) {
+    zelamiku_report report;
+    char path[4096];
+    uint64_t seen = 0, rounds = 0;
+    empty();
+    plant(NO_FAULT, 0);
+    OK(zelamiku_heap_open_on(&heap, "device", &DEVICE, &PLAN, &report));
+    MUST(report.is_made == 1 && report.told.found.fields == 3 && report.told.found.lanes == 4 && report.told.found.size < SIZE);
+    zelamiku_thread own = begin_thread();
+    MUST(load(own, 0) == 5 && load(own, 1) == 6 && load(own, 2) == 9);
+    store(own, 7);
+    OK(zelamiku_thread_await(own));
+    MUST(value_on(held.durable) == 7);
+    /* A copy of it is a file. */
+    (void)snprintf(path, sizeof path, "%s/device.copy", folder);
+    OK(zelamiku_heap_copy(heap, path));
+    store(own, 8);
+    OK(zelamiku_heap_await_round(heap, seen, ZELAMIKU_NO_DEADLINE, &rounds));
+    close_heap();
+    begin();
+    own = begin_thread();
+    MUST(load(own, 0) == 8 && load(own, 1) == 9 && load(own, 2) == 9);
+    close_heap();
+    OK(zelamiku_heap_open(&heap, path, &PLAN, &report));
+    MUST(report.is_made == 0);
+    own = begin_thread();
+    MUST(load(own, 0) == 7);
+    OK(zelamiku_heap_close(heap));
+    MUST(unlink(path) == 0);
+}
+
+/* ---- what is refused leaves what was ---- */
+
+static void refuses(zelamiku_status wanted, const zelamiku_plan *plan, const char *text) {
+    memory before = new_memory(SIZE);
+    memcpy(before.now, held.now, SIZE);
+    heap.number = 1;
+    is_over = false;
+    MUST(zelamiku_heap_open_on(&heap, "device", &DEVICE, plan, NULL) == wanted && heap.number == 0 && says(text));
+    MUST(memcmp(before.now, held.now, SIZE) == 0);
+    is_over = true;
+    free_memory(&before);
+}
+
+static void refusals(void) {
+    zelamiku_plan plan = PLAN;
+    zelamiku_device device = DEVICE;
+    device.sync = NULL;
+    heap.number = 1;
+    MUST(zelamiku_heap_open_on(&heap, "device", &device, &PLAN, NULL) == ZELAMIKU_NOTHING && heap.number == 0 && says("four functions"));
+    MUST(zelamiku_heap_open_on(&heap, "device", NULL, &PLAN, NULL) == ZELAMIKU_NOTHING);
+    MUST(zelamiku_heap_open_on(&heap, NULL, &DEVICE, &PLAN, NULL) == ZELAMIKU_NOTHING);
+    MUST(zelamiku_heap_open_on(&heap, "device", &DEVICE, NULL, NULL) == ZELAMIKU_NOTHING);
+    MUST(zelamiku_heap_open_on(NULL, "device", &DEVICE, &PLAN, NULL) == ZELAMIKU_NOTHING);
+    empty();
+    plant(NO_FAULT, 0);
+    plan.must_exist = 1;
+    refuses(ZELAMIKU_NOT_FORMATTED, &plan, "device: open: there is no heap");
+    plan = PLAN;
+    plan.lanes = 33;
+    refuses(ZELAMIKU_BAD_HEADER, &plan, "lanes is 33 in the plan");
+    plan.lanes = 32;
+    refuses(ZELAMIKU_TOO_SMALL, &plan, "the device has 262144 bytes, and the heap takes");
+    /* One byte anywhere in what the heap would take is something else's; past that nothing is looked at. */
+    held.now[100000] = 1;
+    refuses(ZELAMIKU_NOT_FORMATTED, &PLAN, "it has no heap, and isn't empty");
+    held.now[100000] = 0;
+    held.now[SIZE - 1] = 1;
+    begin();
+    close_heap();
+    MUST(held.now[SIZE - 1] == 1);
+    /* Any first byte of a heap is damaged. */
+    make();
+    for (unsigned at = 0; at < 9; at++) {
+        held.now[at] ^= 4;
+        refuses(ZELAMIKU_NOT_FORMATTED, &PLAN, "left as it is");
+        held.now[at] ^= 4;
+    }
+    plan = PLAN;
+    plan.objects = 3;
+    refuses(ZELAMIKU_OTHER_HEAP, &plan, "objects: 2 in the file, and 3 in the plan");
+    MUST(value_on(held.now) == 7);
+}
+
+/* ---- a fault at each call ---- */
+
+/* Of an opening: none is open then, and what was is there still. Answers how many calls there were. */
+static unsigned openings(void) {
+    for (unsigned at = 1;; at++) {
+        make();
+        uint8_t *before = (uint8_t *)malloc(SIZE);
+        MUST(before != NULL);
+        memcpy(before, held.now, SIZE);
+        plant(fault, at);
+        is_over = false;
+        heap.number = 1;
+        zelamiku_status status = zelamiku_heap_open_on(&heap, "device", &DEVICE, &PLAN, NULL);
+        bool is_done = calls < at;
+        fault_at = 0;
+        if (is_done) {
+            OK(status);
+            close_heap();
+        } else {
+            MUST(status == ZELAMIKU_DEVICE && heap.number == 0 && zelamiku_heap_error() == ENOSPC && says("No space left on device"));
+            is_over = true;
+            if (strcmp(kind_of_fault, "read") == 0 || strcmp(kind_of_fault, "size") == 0) MUST(memcmp(before, held.now, SIZE) == 0);
+        }
+        MUST(value_on(held.now) == 7 && value_on(held.durable) == 7);
+        free(before);
+        if (is_done) return at - 1;
+    }
+}
+
+/* Of a making: afterwards there is no heap or the new one, and where there is none the device is free, or refused and left as it is. */
+static unsigned makings(void) {
+    for (unsigned at = 1;; at++) {
+        empty();
+        plant(fault, at);
+        is_over = false;
+        zelamiku_status status = zelamiku_heap_open_on(&heap, "device", &DEVICE, &PLAN, NULL);
+        bool is_done = calls < at;
+        fault_at = 0;
+        if (!is_done) MUST(status == ZELAMIKU_DEVICE && heap.number == 0 && zelamiku_heap_error() == ENOSPC);
+        if (is_done) {
+            OK(status);
+            close_heap();
+        }
+        is_over = true;
+        uint64_t now = value_on(held.now), durable = value_on(held.durable);
+        MUST((now == 5 || now == 0) && (durable == 5 || durable == 0) && (!is_done || durable == 5));
+        if (is_done) return at - 1;
+        is_over = false;
+        status = zelamiku_heap_open_on(&heap, "device", &DEVICE, &PLAN, NULL);
+        MUST(status == ZELAMIKU_OK || (status == ZELAMIKU_NOT_FORMATTED && says("it was left as it is")));
+        if (status == ZELAMIKU_OK) OK(zelamiku_heap_close(heap));
+    }
+}
+
+/* Each later call of the heap answers its end. */
+static void after_loss(zelamiku_thread own) {
+    uint64_t value = 0;
+    zelamiku_stats stats;
+    MUST(zelamiku_thread_await(own) == ZELAMIKU_LOST && zelamiku_heap_error() == ENOSPC);
+    MUST(zelamiku_thread_enter(own, 0) == ZELAMIKU_LOST && zelamiku_thread_load(own, 0, &value) == ZELAMIKU_LOST && value == 0);
+    MUST(zelamiku_heap_stats(heap, &stats) == ZELAMIKU_OK && stats.sections == 1);
+    MUST(zelamiku_heap_close(heap) == ZELAMIKU_LOST);
+    is_over = true;
+    MUST(zelamiku_thread_enter(own, 0) == ZELAMIKU_LOST);
+}
+
+/* DEVICE is no end: the section is there still, and durable once the call was made again. */
+static void after_refusal(zelamiku_thread own) {
+    MUST(zelamiku_heap_error() == ENOSPC && says("No space left on device"));
+    uint64_t crashed = value_on(held.durable);
+    MUST(crashed == 7 || (crashed == 8 && fault == LATE));
+    MUST(load(own, 0) == 8);
+    zelamiku_status status;
+    for (unsigned tries = 0; (status = zelamiku_thread_await(own)) == ZELAMIKU_DEVICE; tries++) MUST(tries < 3);
+    OK(status);
+    MUST(value_on(held.durable) == 8);
+    close_heap();
+}
+
+/* Of a round, whose section stores 8. A crash now leaves 7 or 8, whatever of the writes since the last sync is there. */
+static unsigned rounds(void) {
+    for (unsigned at = 1;; at++) {
+        empty();
+        plant(NO_FAULT, 0);
+        begin();
+        zelamiku_thread own = begin_thread();
+        store(own, 7);
+        OK(zelamiku_thread_await(own));
+        store(own, 8);
+        plant(fault, at);
+        zelamiku_status status = zelamiku_thread_await(own);
+        bool is_done = calls < at;
+        fault_at = 0;
+        uint64_t crashed = value_on(held.durable);
+        MUST(crashed == 7 || crashed == 8);
+        if (is_done) {
+            OK(status);
+            MUST(crashed == 8);
+            close_heap();
+            return at - 1;
+        }
+        bool is_loss = fault == GONE || fault == STRANGE;
+        MUST(status == (is_loss ? ZELAMIKU_LOST : ZELAMIKU_DEVICE));
+        if (is_loss)
+            after_loss(own);
+        else
+            after_refusal(own);
+    }
+}
+
+/* ---- a call that hangs ---- */
+
+typedef struct {
+    zelamiku_thread own;
+    uint32_t object;
+    zelamiku_status status;
+    _Atomic bool is_back;
+} sleeper;
+
+static void *enter_asleep(void *data) {
+    sleeper *it = (sleeper *)data;
+    it->status = zelamiku_thread_enter(it->own, it->object);
+    it->is_back = true;
+    return NULL;
+}
+
+static void *await_asleep(void *data) {
+    sleeper *it = (sleeper *)data;
+    it->status = zelamiku_thread_await(it->own);
+    it->is_back = true;
+    return NULL;
+}
+
+static void *stop_heap(void *data) {
+    sleeper *it = (sleeper *)data;
+    it->status = zelamiku_heap_stop(heap);
+    it->is_back = true;
+    return NULL;
+}
+
+static void until(_Atomic bool *is_so) {
+    for (unsigned tries = 0; !*is_so; tries++) {
+        MUST(tries < 20000);
+        usleep(1000);
+    }
+}
+
+static void until_entering(uint32_t count) {
+    zelamiku_stats stats = {.entering = count + 1};
+    for (unsigned tries = 0; stats.entering != count; tries++) {
+        MUST(tries < 20000);
+        OK(zelamiku_heap_stats(heap, &stats));
+        usleep(1000);
+    }
+}
+
+/* A call of the round hangs, and the heap is stopped meanwhile: who sleeps for a monitor is answered at once, who waits for the round and the
+ * stop itself once the call has returned. What the round has made durable is. */
+static bool hangs(unsigned at) {
+    pthread_t threads[3];
+    empty();
+    plant(NO_FAULT, 0);
+    begin();
+    zelamiku_thread holder = begin_thread();
+    sleeper waiting = {.own = begin_thread()}, entering = {.own = begin_thread(), .object = 1}, stopping = {.is_back = false};
+    store(waiting.own, 7);
+    OK(zelamiku_thread_await(waiting.own));
+    store(waiting.own, 8);
+    OK(zelamiku_thread_enter(holder, 1));
+    hung = 0;
+    is_let_go = false;
+    plant(HANGS, at);
+    MUST(pthread_create(&threads[0], NULL, await_asleep, &waiting) == 0);
+    MUST(pthread_create(&threads[1], NULL, enter_asleep, &entering) == 0);
+    until_entering(1);
+    while (hung == 0 && !waiting.is_back) usleep(1000);
+    bool has_hung = hung > 0;
+    if (has_hung) {
+        /* Others go on. */
+        zelamiku_thread other = begin_thread();
+        OK(zelamiku_thread_enter(other, 0));
+        OK(zelamiku_thread_exit(other, 0));
+        MUST(pthread_create(&threads[2], NULL, stop_heap, &stopping) == 0);
+        until(&entering.is_back);
+        MUST(entering.status == ZELAMIKU_CLOSED);
+        MUST(zelamiku_thread_enter(other, 0) == ZELAMIKU_CLOSED);
+        usleep(20000);
+        MUST(!stopping.is_back && !waiting.is_back && in_call == 1);
+        is_let_go = true;
+        MUST(pthread_join(threads[2], NULL) == 0 && stopping.status == ZELAMIKU_OK);
+        is_over = true;
+        MUST(pthread_join(threads[0], NULL) == 0 && waiting.status == ZELAMIKU_OK);
+    } else {
+        MUST(pthread_join(threads[0], NULL) == 0 && waiting.status == ZELAMIKU_OK);
+        OK(zelamiku_heap_stop(heap));
+        is_over = true;
+    }
+    MUST(pthread_join(threads[1], NULL) == 0 && entering.status == ZELAMIKU_CLOSED);
+    fault_at = 0;
+    MUST(value_on(held.durable) == 8);
+    return has_hung;
+}
+
+int main(int argc, char **argv) {
+    unsigned opened = 0, made = 0, rounded = 0, stopped = 0;
+    bool is_short = argc == 3 && strcmp(argv[2], "threads") == 0;
+    MUST(argc == 2 || is_short);
+    held = new_memory(SIZE);
+    life(argv[1]);
+    refusals();
+    for (unsigned what = REFUSED; what < FAULTS && !is_short; what++) {
+        fault = what;
+        opened += openings();
+        fault = what;
+        made += makings();
+        fault = what;
+        rounded += rounds();
+    }
+    while (hangs(stopped + 1)) stopped++;
+    MUST(stopped > 0 && (is_short || (opened > 0 && made > 0 && rounded > 0)));
+    printf("device: a fault at each call of an opening %u, of a making %u, of a round %u; a stop while each call of a round hangs %u\n", opened, made,
+           rounded, stopped);
+    free_memory(&held);
+    return 0;
+}
