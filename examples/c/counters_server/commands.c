@@ -54,6 +54,7 @@ static int64_t load(client *c, uint32_t key) {
 static void store(client *c, uint32_t key, int64_t value) {
     must(zelamiku_thread_store(own, key, (uint64_t)value));
     c->waits = stored[key] = zelamiku_thread_sections(own) + 1; /* the one that is open */
+    assert(c->waits > durable);
 }
 
 /* ---- commands: each answers for `words`, in a section that holds the monitors of `keys` ---- */

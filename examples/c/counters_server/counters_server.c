@@ -126,6 +126,7 @@ static void drop(client *c) {
     free(c->out.at);
     free(c->queue.at);
     free(c);
+    assert(client_count > 0);
     client_count--;
 }
 
@@ -159,6 +160,7 @@ static void run_commands(client *c) {
 
 /* Sends the answers, which may leave. The client may be gone then. */
 static void flush(client *c) {
+    assert(c->out.used == 0 || c->waits <= durable);
     while (c->sent < c->out.used) {
         ssize_t size = send(c->file, c->out.at + c->sent, c->out.used - c->sent, MSG_NOSIGNAL | MSG_DONTWAIT);
         if (size < 0 && errno == EINTR) continue;
@@ -181,6 +183,7 @@ static void flush(client *c) {
 
 /* A client's turn, with answers that may leave, or with none. */
 static void serve(client *c) {
+    assert(c->list == &work && c->sent <= c->out.used);
     is_short = false;
     if (c->out.used == 0) {
         bool is_there = read_some(c);

@@ -946,7 +946,7 @@ def kills(tried):
     wait = "c->out.used > 0 && c->waits > durable"
     must(source.count(wait) == 1, "the control's place has changed")
     write(f"{tried.work}/early.c", source.replace(wait, "false"))
-    early = build(tried.work, "early", "-O2", source=f"{tried.work}/early.c")
+    early = build(tried.work, "early", "-O2", "-DNDEBUG", source=f"{tried.work}/early.c")
     others, other, gone, losing = kill_often(early, f"{tried.work}/early_kills", max(4, tried.kills // 10), dice, until_lost=True)
     must(gone > 0, f"a server that answers early has lost none of {other}: nothing was tested")
     control = f"one that answers early lost {gone} of {other}, by {losing} of {others} kills"
