@@ -35,12 +35,13 @@ pub record HasStored (h : Home) (x : Session) (o : Order) (y : Session) : Type 0
   pub reads : Loads h x read (balance_of o.from) (Ok balance)
   -- A transfer that is made takes no more than the account had.
   pub enough : o.amount ≤ balance
-  pub stored : Session
-  pub takes : StoresAs h read stored (balance_of o.from) (balance - o.amount) (Ok tt)
   pub other : ℕ
   pub seen : Session
-  pub reads_other : Loads h stored seen (balance_of o.to) (Ok other)
-  pub gives : StoresAs h seen y (balance_of o.to) ((other + o.amount) % 2 ^ 64) (Ok tt)
+  -- Both balances are read before either is stored.
+  pub reads_other : Loads h read seen (balance_of o.to) (Ok other)
+  pub stored : Session
+  pub takes : StoresAs h seen stored (balance_of o.from) (balance - o.amount) (Ok tt)
+  pub gives : StoresAs h stored y (balance_of o.to) ((other + o.amount) % 2 ^ 64) (Ok tt)
 
 -- The balance was less than the amount, and nothing was stored.
 pub record HasReadLess (h : Home) (x : Session) (o : Order) (y : Session) : Type 0 where

@@ -13,6 +13,7 @@ use std::alloc::{AllocError, Global};
 use std::sync::Wait;
 
 /// A thread of a heap, as a service for one connection: each answer is made before the next request is read.
+#[derive(Drop)]
 pub struct Accounts<'t, 'a, J: Joint, R: Wait> {
     /// What waits.
     pub rt: &'t R,

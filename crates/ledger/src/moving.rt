@@ -47,8 +47,9 @@ fn pay<J: Joint>(thread: &mut HeapThread<'_, J>, order: Order) -> Result<Made, S
     if left < order.amount {
         return Ok(Made::TooLittle);
     }
-    thread.store(FieldId(order.from), left - order.amount)?;
+    // Both balances are read before either is stored: a refused load leaves both as they were.
     let more = thread.load(FieldId(order.to))?;
+    thread.store(FieldId(order.from), left - order.amount)?;
     thread.store(FieldId(order.to), more.wrapping_add(order.amount))?;
     Ok(Made::Moved)
 }

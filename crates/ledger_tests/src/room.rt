@@ -1,0 +1,40 @@
+//! Accounts, and a disk for them.
+
+use block_disk::MemDisk;
+use heap_threads::{Schema, SchemaBuilder};
+use image::Layout;
+use std::alloc::Global;
+
+/// How many records a lane has room for.
+pub const CAPACITY: u32 = 4_000;
+
+/// What the first account has, numbered 0.
+pub const FIRST: u64 = 10;
+
+/// What the second account has, numbered 1.
+pub const SECOND: u64 = 20;
+
+/// Two accounts, and an object without a field, numbered 2.
+pub fn schema(alloc: Global) -> Option<Schema> {
+    let mut builder = SchemaBuilder::new(alloc);
+    let first = builder.object("first").ok()?;
+    builder.field(first, "balance of first", first, FIRST).ok()?;
+    let second = builder.object("second").ok()?;
+    builder
+        .field(second, "balance of second", second, SECOND)
+        .ok()?;
+    let _ = builder.object("third").ok()?;
+    match builder.build() {
+        Ok(schema) => Some(schema),
+        Err((builder, _)) => {
+            drop(builder);
+            None
+        }
+    }
+}
+
+/// A disk for an image of this schema, with one lane.
+pub fn disk(alloc: Global, schema: &Schema) -> Option<MemDisk> {
+    let layout = Layout::of(schema, 1, CAPACITY)?;
+    MemDisk::new(alloc, layout.size()).ok()
+}
