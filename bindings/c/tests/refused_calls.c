@@ -289,6 +289,19 @@ static void copies(void) {
     MUST(zelamiku_heap_copy(heap, "copy") == ZELAMIKU_OK && !forks && zelamiku_heap_close(heap) == ZELAMIKU_OK);
 }
 
+/* The calls of a heap without a scheduler: a file that can only be read takes none, and the next one that can be written takes all. */
+static void calls_alone(void) {
+    zelamiku_handle handle = ZELAMIKU_NONE;
+    uint64_t size, made = 0;
+    int file = open("calls", O_RDWR | O_CREAT | O_CLOEXEC, 0600), reading = open("calls", O_RDONLY | O_CLOEXEC);
+    MUST(file >= 0 && reading >= 0 && zelamiku_make_calls(NULL, file, &made) == ZELAMIKU_NOTHING);
+    MUST(zelamiku_format(&handle, OBJECTS_THERE, FIELDS, FIELDS_THERE, 2, 2000, 4096, &size) == ZELAMIKU_OK);
+    MUST(zelamiku_make_calls(&handle, reading, NULL) == ZELAMIKU_DEVICE && errno == EBADF);
+    MUST(zelamiku_make_calls(&handle, file, &made) == ZELAMIKU_OK && made > 0 && zelamiku_make_calls(&handle, file, NULL) == ZELAMIKU_OK);
+    zelamiku_free(&handle);
+    MUST(close(file) == 0 && close(reading) == 0);
+}
+
 /* A heap is made at the end of a link from the root on; and in a folder whose path leaves no room for the name beside it none is made. */
 static void paths(void) {
     char here[PATH_MAX], target[PATH_MAX + 16];
@@ -333,6 +346,7 @@ int main(int argc, char **argv) {
     MUST(all > 100);
     many_dropped();
     copies();
+    calls_alone();
     paths();
     printf("refused calls: %lu, and each was answered or done without\n", all);
     return 0;
