@@ -3,8 +3,8 @@ dictionary says, with as many sections as the report has kept, and no fewer than
 
     python3 bindings/python/tests/test_machine.py [LIVES [SEED]]
 
-A failure tells the seed. A life that kills itself does so at the same step again; when rounds are made depends on the machine. Where
-hypothesis is installed it chooses lives too, and makes those that fail smaller.
+A failure tells the seed, which the environment's SEED gives too. A life that kills itself does so at the same step again; when rounds are made
+depends on the machine. Where hypothesis is installed it chooses lives too, and makes those that fail smaller.
 """
 from __future__ import annotations
 
@@ -29,7 +29,7 @@ except ImportError:
     hypothesis = None
 
 LIVES = 40
-SEED = random.randrange(2**32)
+SEED = int(os.environ.get("SEED", random.randrange(2**32)))
 SLOTS, MANY = 4, 600
 
 
