@@ -1,5 +1,5 @@
--- Whether `format` is asked for with one path for both of its files or with other sectors, `drive` with two lengths, and `run` or `show` with an
--- option that does nothing.
+-- Whether `format` is asked for with one path for both of its files or with other sectors, `drive` with two lengths, `run` or `show` with an
+-- option that does nothing, and `dump` without telling clearly which values.
 use Rattle.std.proofs.Common.{◌≡◌, ◌≢◌, ℕ, List, [], ◌∷◌, Option, None, Some, inl, inr, refl, sym, subst, ◌∙◌, ap, arith, codes, length}
 use Rattle.clap.proofs.OnLiterals.{clap_on_literals}
 use Rattle.clap.specs.Simple.{subcommand_of}
@@ -8,7 +8,8 @@ use Rattle.clap.specs.declared.builder.value_parser.Reading.TheVariants.{AsWritt
 use Rattle.clap.specs.declared.parser.matches.ValueSource.TheVariants.{DefaultValue}
 use Rattle.command_words.specs.declared.words.Words.{Words}
 use Rattle.command_words.specs.declared.words.Words.TheVariants as words
-use Rattle.command_words.specs.Words.{AsksFor, HasBothLengths, HasIdleOptions, HasOnePath, HasOtherSectors, MayRead, NamesOneFile, SaysBothLengths, SaysIdleOptions, SaysOtherSectors, image_of, program, schema_of}
+use Rattle.command_words.specs.declared.words.Part.TheVariants as parts
+use Rattle.command_words.specs.Words.{AsksFor, HasBothLengths, HasIdleOptions, HasOnePath, HasOtherSectors, HasUnclearPart, MayRead, NamesOneFile, SaysBothLengths, SaysIdleOptions, SaysNoPart, SaysOtherSectors, image_of, program, schema_of}
 
 pub one_file : (texts : List Text) (asked : Words) → AsksFor (subcommand_of program texts) asked → HasOnePath asked → NamesOneFile texts
 one_file texts (words.Run image schema is_strict) asks same = elim same [ ]
@@ -16,7 +17,7 @@ one_file texts (words.Format image schema lanes capacity sectors is_forced) (opt
     record { options = options; found = found; same = sym asks.image_is ∙ same ∙ asks.schema_is }
 one_file texts (words.Show image last schema) asks same = elim same [ ]
 one_file texts (words.Draw image last schema) asks same = elim same [ ]
-one_file texts (words.Dump image schema) asks same = elim same [ ]
+one_file texts (words.Dump image schema part) asks same = elim same [ ]
 one_file texts (words.Get image schema) asks same = elim same [ ]
 one_file texts (words.Set image schema) asks same = elim same [ ]
 one_file texts (words.Recover image) asks same = elim same [ ]
@@ -33,7 +34,7 @@ both_lengths texts (words.Run image schema is_strict) asks both = elim both [ ]
 both_lengths texts (words.Format image schema lanes capacity sectors is_forced) asks both = elim both [ ]
 both_lengths texts (words.Show image last schema) asks both = elim both [ ]
 both_lengths texts (words.Draw image last schema) asks both = elim both [ ]
-both_lengths texts (words.Dump image schema) asks both = elim both [ ]
+both_lengths texts (words.Dump image schema part) asks both = elim both [ ]
 both_lengths texts (words.Get image schema) asks both = elim both [ ]
 both_lengths texts (words.Set image schema) asks both = elim both [ ]
 both_lengths texts (words.Recover image) asks both = elim both [ ]
@@ -50,7 +51,7 @@ other_sectors texts (words.Format image schema lanes capacity (Some bytes) is_fo
     record { options = options; found = found; bytes = bytes; reads = asks.sectors_are; other = other }
 other_sectors texts (words.Show image last schema) asks other = elim other [ ]
 other_sectors texts (words.Draw image last schema) asks other = elim other [ ]
-other_sectors texts (words.Dump image schema) asks other = elim other [ ]
+other_sectors texts (words.Dump image schema part) asks other = elim other [ ]
 other_sectors texts (words.Get image schema) asks other = elim other [ ]
 other_sectors texts (words.Set image schema) asks other = elim other [ ]
 other_sectors texts (words.Recover image) asks other = elim other [ ]
@@ -117,7 +118,7 @@ two_files texts (words.Format image schema lanes capacity sectors is_forced) (op
     two (asks.image_is ∙ ap image_of same ∙ one.same ∙ ap schema_of (sym same) ∙ sym asks.schema_is)
 two_files texts (words.Show image last schema) (options, found, asks) two one = not_show texts options found one
 two_files texts (words.Draw image last schema) (options, found, asks) two one = not_show texts options found one
-two_files texts (words.Dump image schema) (options, found, asks) two one = not_dump texts options found one
+two_files texts (words.Dump image schema part) (options, found, asks) two one = not_dump texts options found one
 two_files texts (words.Get image schema) (options, found, asks) two one = not_get texts options found one
 two_files texts (words.Set image schema) (options, found, asks) two one = not_set texts options found one
 two_files texts (words.Recover image) (options, found, path) two one = not_recover texts options found one
@@ -171,7 +172,7 @@ idle_options texts (words.Show image None (Some schema)) (options, found, asks) 
     })
 idle_options texts (words.Show image None None) asks idle = elim idle [ ]
 idle_options texts (words.Draw image last schema) asks idle = elim idle [ ]
-idle_options texts (words.Dump image schema) asks idle = elim idle [ ]
+idle_options texts (words.Dump image schema part) asks idle = elim idle [ ]
 idle_options texts (words.Get image schema) asks idle = elim idle [ ]
 idle_options texts (words.Set image schema) asks idle = elim idle [ ]
 idle_options texts (words.Recover image) asks idle = elim idle [ ]
@@ -210,3 +211,28 @@ run_says_idle texts is (inl names) =
     let same : run_rows ≡ names.options = ap rows_in (sym is ∙ names.found) in
     names.schema (ap (first_of (codes "schema")) (sym same) ∙ no_schema)
 run_says_idle texts is (inr draws) = run_show (length (word_in (subcommand_of program texts))) (ap (λ found. length (word_in found)) is) (ap (λ found. length (word_in found)) draws.found)
+
+-- values that aren't clear
+
+pub unclear_part : (texts : List Text) (asked : Words) → AsksFor (subcommand_of program texts) asked → HasUnclearPart asked → SaysNoPart texts
+unclear_part texts (words.Run image schema is_strict) asks unclear = elim unclear [ ]
+unclear_part texts (words.Format image schema lanes capacity sectors is_forced) asks unclear = elim unclear [ ]
+unclear_part texts (words.Show image last schema) asks unclear = elim unclear [ ]
+unclear_part texts (words.Draw image last schema) asks unclear = elim unclear [ ]
+unclear_part texts (words.Dump image schema parts.Heap) asks unclear = elim unclear [ ]
+unclear_part texts (words.Dump image schema parts.Cells) asks unclear = elim unclear [ ]
+unclear_part texts (words.Dump image schema parts.SlotA) asks unclear = elim unclear [ ]
+unclear_part texts (words.Dump image schema parts.SlotB) asks unclear = elim unclear [ ]
+unclear_part texts (words.Dump image schema parts.Unclear) (options, found, asks) unclear =
+    record { options = options; found = found; unclear = asks.part_is }
+unclear_part texts (words.Get image schema) asks unclear = elim unclear [ ]
+unclear_part texts (words.Set image schema) asks unclear = elim unclear [ ]
+unclear_part texts (words.Recover image) asks unclear = elim unclear [ ]
+unclear_part texts (words.Upgrade image) asks unclear = elim unclear [ ]
+unclear_part texts (words.Drive workers rounds seconds image) asks unclear = elim unclear [ ]
+
+pub none_says_no_part : (texts : List Text) → subcommand_of program texts ≡ None → SaysNoPart texts → ⊥
+none_says_no_part texts is says = none_show (length (word_in (subcommand_of program texts))) (ap (λ found. length (word_in found)) is) (ap (λ found. length (word_in found)) says.found)
+
+pub run_says_no_part : (texts : List Text) (options : List Row) → subcommand_of program texts ≡ Some (codes "run", options) → SaysNoPart texts → ⊥
+run_says_no_part texts options is says = run_show (length (word_in (subcommand_of program texts))) (ap (λ found. length (word_in found)) is) (ap (λ found. length (word_in found)) says.found)

@@ -14,6 +14,8 @@ use Rattle.clap.specs.declared.builder.value_parser.ValueParser.TheVariants.{Sig
 use Rattle.command_words.specs.declared.words.Asked.{Asked}
 use Rattle.command_words.specs.declared.words.Words.{Words}
 use Rattle.command_words.specs.declared.words.Words.TheVariants as words
+use Rattle.command_words.specs.declared.words.Part.{Part}
+use Rattle.command_words.specs.declared.words.Part.TheVariants as parts
 
 -- an option that has to be there, with a path
 abbrev pub path_option : Text → Rule
@@ -86,6 +88,10 @@ last_option = record (new_rule (codes "last")) {
 abbrev pub flag_option : Text → Rule
 flag_option name = record (new_rule name) { long = Some name; action = Some SetTrue }
 
+-- by which slot of the control values are dumped, which may be missing
+abbrev pub slot_option : Rule
+slot_option = record (new_rule (codes "slot")) { long = Some (codes "slot"); value_names = 1 }
+
 -- words that are no options, one at least
 abbrev pub names_option : Rule
 names_option = record (new_rule (codes "names")) {
@@ -110,7 +116,8 @@ show_words = with_rule (with_rule (with_rule (with_rule (new_app (codes "show"))
 
 -- the word `dump` with its options
 abbrev pub dump_words : App
-dump_words = with_rule (with_rule (new_app (codes "dump")) (path_option (codes "image"))) (file_option (codes "schema"))
+dump_words = with_rule (with_rule (with_rule (with_rule (new_app (codes "dump")) (path_option (codes "image")))
+    (file_option (codes "schema"))) (flag_option (codes "cells"))) slot_option
 
 -- the words `get` and `set` with their options, and the names behind them
 abbrev pub get_words : App
@@ -206,10 +213,34 @@ pub record AsksToDraw (options : List Row) (image : Text) (last : ℕ) (schema :
   pub schema_is : schema ≡ first_of (codes "schema") options
   pub dot : IsSet (codes "dot") options
 
--- the heap of an image is to be printed, or fields of it are to be told or set, as the options behind the word say
+-- fields of an image are to be told or set, as the options behind the word say
 pub record AsksByName (options : List Row) (image : Text) (schema : Option Text) : Type 0 where
   pub image_is : image ≡ image_of options
   pub schema_is : schema ≡ first_of (codes "schema") options
+
+-- the slot of this name is asked for, or it is none
+abbrev pub NamesSlot : (slot : Text) → Part → Type 0
+NamesSlot slot parts.SlotA = slot ≡ codes "a"
+NamesSlot slot parts.SlotB = slot ≡ codes "b"
+NamesSlot slot parts.Unclear = (slot ≢ codes "a") × (slot ≢ codes "b")
+NamesSlot slot _ = ⊥
+
+-- the flag `--cells` and the text behind `--slot`, where one is there, ask for these values
+abbrev pub IsAskedBy : (cells : Type 0) (slot : Option Text) → Part → Type 0
+IsAskedBy cells None parts.Heap = cells → ⊥
+IsAskedBy cells None parts.Cells = cells
+IsAskedBy cells None _ = ⊥
+IsAskedBy cells (Some slot) part = (cells × (part ≡ parts.Unclear)) ⊎ ((cells → ⊥) × NamesSlot slot part)
+
+-- so do the options behind the word
+abbrev pub AsksForPart : List Row → Part → Type 0
+AsksForPart options part = IsAskedBy (IsSet (codes "cells") options) (first_of (codes "slot") options) part
+
+-- values of an image are to be printed as a schema file, as the options behind the word say
+pub record AsksToDump (options : List Row) (image : Text) (schema : Option Text) (part : Part) : Type 0 where
+  pub image_is : image ≡ image_of options
+  pub schema_is : schema ≡ first_of (codes "schema") options
+  pub part_is : AsksForPart options part
 
 -- workers are to work, as the options behind the word say
 pub record AsksToDrive (options : List Row) (workers : ℕ) (rounds seconds : Option ℕ) (image : Option Text) : Type 0 where
@@ -249,8 +280,8 @@ AsksFor found (words.Show image last schema) =
 AsksFor found (words.Draw image last schema) =
     (options : List Row) × (found ≡ Some (codes "show", options))
     × AsksToDraw options image.now last (option_map (λ path. path.now) schema)
-AsksFor found (words.Dump image schema) =
-    (options : List Row) × (found ≡ Some (codes "dump", options)) × AsksByName options image.now (option_map (λ path. path.now) schema)
+AsksFor found (words.Dump image schema part) =
+    (options : List Row) × (found ≡ Some (codes "dump", options)) × AsksToDump options image.now (option_map (λ path. path.now) schema) part
 AsksFor found (words.Get image schema) =
     (options : List Row) × (found ≡ Some (codes "get", options)) × AsksByName options image.now (option_map (λ path. path.now) schema)
 AsksFor found (words.Set image schema) =
@@ -289,6 +320,11 @@ HasIdleOptions (words.Run None (Some schema) is_strict) = Unit {0}
 HasIdleOptions (words.Show image (Some last) schema) = Unit {0}
 HasIdleOptions (words.Show image None (Some schema)) = Unit {0}
 HasIdleOptions _ = ⊥
+
+-- it isn't clear which values are to be dumped
+abbrev pub HasUnclearPart : Words → Type 0
+HasUnclearPart (words.Dump image schema parts.Unclear) = Unit {0}
+HasUnclearPart _ = ⊥
 
 -- the words are those of `format`, with one path behind `--image` and `--schema`
 pub record NamesOneFile (texts : List Text) : Type 0 where
@@ -329,23 +365,31 @@ pub record DrawsNothing (texts : List Text) : Type 0 where
 abbrev pub SaysIdleOptions : List Text → Type 0
 SaysIdleOptions texts = NamesNoImage texts ⊎ DrawsNothing texts
 
--- clap takes these words, and the program doesn't: they name one file twice, say two lengths or other sectors, or name an
--- option that does nothing
+-- the words are those of `dump`, with both `--cells` and `--slot`, or with another slot than the two
+pub record SaysNoPart (texts : List Text) : Type 0 where
+  pub options : List Row
+  pub found : subcommand_of program texts ≡ Some (codes "dump", options)
+  pub unclear : AsksForPart options parts.Unclear
+
+-- clap takes these words, and the program doesn't: they name one file twice, say two lengths or other sectors, name an
+-- option that does nothing, or don't say clearly which values are to be dumped
 abbrev pub ClashesWith : List Text → Type 0
-ClashesWith texts = NamesOneFile texts ⊎ SaysBothLengths texts ⊎ SaysOtherSectors texts ⊎ SaysIdleOptions texts
+ClashesWith texts = NamesOneFile texts ⊎ SaysBothLengths texts ⊎ SaysOtherSectors texts ⊎ SaysIdleOptions texts ⊎ SaysNoPart texts
 
 -- the answer's kind is one that clap gives to such words; or only the program refuses them
 abbrev pub Refuses : List Text → Error → Type 0
 Refuses texts answer = HasKind (fault_of program texts) answer
     ⊎ ((fault_of program texts ≡ []) × ClashesWith texts × (kind_of answer ≡ ArgumentConflict))
 
--- clap takes the words, no file is named twice, no run has two lengths, no sector another size, and each option does something
+-- clap takes the words, no file is named twice, no run has two lengths, no sector another size, each option does something, and it is clear
+-- which values are dumped
 pub record IsTaken (texts : List Text) (asked : Words) : Type 0 where
   pub well_formed : fault_of program texts ≡ []
   pub two_files : NamesOneFile texts → ⊥
   pub one_length : HasBothLengths asked → ⊥
   pub sectors : HasOtherSectors asked → ⊥
   pub busy : HasIdleOptions asked → ⊥
+  pub clear : HasUnclearPart asked → ⊥
 
 -- such words are taken, and else they are refused; or memory was wanting
 abbrev pub IsAnsweredBy : List Text → Result Asked Error → Type 0

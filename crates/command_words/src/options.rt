@@ -1,7 +1,7 @@
 //! The program's options: what each takes, and its help.
 ghost use Rattle.std.specs.Prelude.{◌≡◌, false};
 ghost use Rattle.clap.specs.Walk.{rule_of};
-ghost use Rattle.command_words.specs.Words.{capacity_option, file_option, flag_option, lanes_option, last_option, names_option, path_option, rounds_option, seconds_option, sectors_option, workers_option};
+ghost use Rattle.command_words.specs.Words.{capacity_option, file_option, flag_option, lanes_option, last_option, names_option, path_option, rounds_option, seconds_option, sectors_option, slot_option, workers_option};
 
 use clap::{Arg, ArgAction, value_parser};
 use heap_model::{LANES, LEAST_CAPACITY, MOST_CAPACITY};
@@ -129,6 +129,15 @@ pub(crate) fn sectors<'a>(alloc: Global) -> Arg<'a>
             "Keeps the image in two places, for a disk that may\nlose a sector that it was writing at a power\nfailure: the bytes of a sector, 4096. In one place\nwithout this",
         )
         .value_parser(value_parser!(u32).range(512..=4096))
+}
+
+pub(crate) fn slot<'a>(alloc: Global) -> Arg<'a>
+    ensures rule { rule_of result ≡ slot_option }
+    ensures own { result.global ≡ false }
+{
+    Arg::new(alloc, "slot").long("slot").value_name("a|b").help(
+        "Prints the values that 'recover' would give by this\ncontrol slot, a or b, whatever the other one holds",
+    )
 }
 
 /// Words that are no options, one at least: what each names, and of what.

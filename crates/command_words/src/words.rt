@@ -5,10 +5,10 @@ ghost use Rattle.clap.specs.Values.{kind_of};
 ghost use Rattle.clap.specs.Walk.{Rule, all_of, first_of, one_of, rows_of, rule_of};
 ghost use Rattle.clap.specs.Matches.{found_of};
 ghost use Rattle.clap.specs.declared.error.kind.ErrorKind.TheVariants.{ArgumentConflict, OutOfMemory};
-ghost use Rattle.command_words.specs.Words.{AsksFor, HasBothLengths, HasIdleOptions, HasOnePath, HasOtherSectors, IsAnsweredBy, IsSet, LastIs, MayRead, Reads, drive_words, dump_words, format_words, get_words, names_asked, plain_format_words, program, recover_words, run_words, set_words, show_words, top as top_words, upgrade_words};
+ghost use Rattle.command_words.specs.Words.{AsksFor, AsksForPart, HasBothLengths, HasIdleOptions, HasOnePath, HasOtherSectors, HasUnclearPart, IsAnsweredBy, IsSet, LastIs, MayRead, NamesSlot, Reads, drive_words, dump_words, format_words, get_words, names_asked, plain_format_words, program, recover_words, run_words, set_words, show_words, top as top_words, upgrade_words};
 
 use crate::options::{
-    capacity, file, flag, lanes, last, names, path, rounds, seconds, sectors, workers,
+    capacity, file, flag, lanes, last, names, path, rounds, seconds, sectors, slot, workers,
 };
 use clap::error::ErrorKind;
 use clap::{Arg, ArgMatches, Command, Error};
@@ -59,12 +59,14 @@ pub enum Words<'a> {
         /// The path of the schema file that gives the names; there are numbers where there is none.
         schema: Option<&'a str>,
     },
-    /// To print the heap of an image file as a schema file.
+    /// To print the values of an image file's fields as a schema file.
     Dump {
         /// The image file's path.
         image: &'a str,
         /// The path of the schema file that gives the names; there are numbers where there is none.
         schema: Option<&'a str>,
+        /// Which values.
+        part: Part,
     },
     /// To print the values of fields of an image file.
     Get {
@@ -103,6 +105,21 @@ pub enum Words<'a> {
     },
 }
 
+/// Which values of an image are dumped.
+#[derive(Clone, Copy, Debug, PartialEq, Eq)]
+pub enum Part {
+    /// Those that recovery gives.
+    Heap,
+    /// Those of the home cells.
+    Cells,
+    /// Those that recovery gives by slot a of the control, whatever the other one holds.
+    SlotA,
+    /// Those that it gives by slot b.
+    SlotB,
+    /// Two of these, or another slot: [`read_words`] takes no words that ask for it.
+    Unclear,
+}
+
 /// What the words ask for, and for which fields.
 #[derive(Drop)]
 pub struct Asked<'a> {
@@ -121,7 +138,8 @@ fault, which standard error tells";
 // How many sections of each thread a graph has where nothing is said.
 const LAST: u32 = 50;
 
-// What is told of one path for two files, of two lengths for one run, of other sectors, and of options that do nothing.
+// What is told of one path for two files, of two lengths for one run, of other sectors, of options that do nothing, and of values that
+// aren't clear.
 const ONE_PATH: &str =
     "the image and the schema are two files, and '--image' and '--schema' name one";
 
@@ -135,6 +153,9 @@ const IDLE_SCHEMA: &str =
     "'--schema' of 'run' names what an image file holds: name the file too, by '--image'";
 
 const IDLE_DOT: &str = "'--last' and '--schema' of 'show' are for a graph: type '--dot' too";
+
+const UNCLEAR_PART: &str =
+    "'--cells' and '--slot' say which values are dumped, and there are two slots: type one of '--cells', '--slot a' and '--slot b'";
 
 // The command with this option more, where there was memory for it.
 fn with_option<'a>(
@@ -224,10 +245,17 @@ fn dump<'a>(alloc: Global) -> Result<Command<'a>, AllocError>
         "The schema file of the image, for names. Without\nthis they are o0 and f0, and so on",
     );
     let command = Command::new(alloc, "dump").about(
-        "Prints a schema file whose first values are those that 'recover'\ngives, and leaves the image file as it is: 'format' of it, with more\nlines at its end or none, makes an image with the same heap",
+        "Prints a schema file whose first values are those that 'recover'\ngives, and leaves the image file as it is: 'format' of it, with more\nlines at its end or none, makes an image with the same heap. Of a\ndamaged image --cells and --slot print what is left, which needn't\nbe the values of one moment",
+    );
+    let cells = flag(
+        alloc,
+        "cells",
+        "Prints the values of the home cells: neither control\nslot nor log is read",
     );
     let command = with_option(Ok(command), path(alloc, "image", "The image file to read"));
-    with_option(command, schema)
+    let command = with_option(command, schema);
+    let command = with_option(command, cells);
+    with_option(command, slot(alloc))
 }
 
 fn get<'a>(alloc: Global) -> Result<Command<'a>, AllocError>
@@ -360,11 +388,11 @@ fn command<'a>(alloc: Global) -> Result<Command<'a>, AllocError>
 /// kind is `OutOfMemory` where there was no memory. `format` with one path for the image and for the schema, which would
 /// be replaced, is an `ArgumentConflict`: paths are compared as they are written. `drive` with both `--rounds` and `--seconds` is one too,
 /// `format` with sectors of other than 4,096 bytes, and an option that does nothing: `--schema` of `run` without `--image`, and `--last`
-/// or `--schema` of `show` without `--dot`.
+/// or `--schema` of `show` without `--dot`. So is `dump` with both `--cells` and `--slot`, or with another slot than `a` and `b`.
 pub fn read_words<'a>(alloc: Global, words: &'a [String]) -> Result<Asked<'a>, Error>
     // The program's words are taken exactly where clap's rules take them, no file is named twice, no run has two
-    // lengths, sectors have 4,096 bytes, and each option does something. Other words are refused with the kind that
-    // those rules give.
+    // lengths, sectors have 4,096 bytes, each option does something, and it is clear which values are dumped. Other words
+    // are refused with the kind that those rules give.
     ensures exact { IsAnsweredBy (map (λ s. string_bytes s) words.entry.now) result }
     // What is asked for is what the options say.
     ensures asked { IfOk result (λ asked. AsksFor (subcommand_of program (map (λ s. string_bytes s) words.entry.now)) asked.words) }
@@ -395,6 +423,9 @@ pub fn read_words<'a>(alloc: Global, words: &'a [String]) -> Result<Asked<'a>, E
     }
     if has_idle_options(&asked) {
         return Err(conflict(alloc, idle_text(&asked))?);
+    }
+    if has_unclear_part(&asked) {
+        return Err(conflict(alloc, UNCLEAR_PART)?);
     }
     Ok(Asked {
         words: asked,
@@ -459,7 +490,20 @@ fn has_idle_options(words: &Words<'_>) -> bool
     }
 }
 
-// What is told of it.
+// The words don't say clearly which values are dumped.
+fn has_unclear_part(words: &Words<'_>) -> bool
+    ensures { IsTrue result ↔ HasUnclearPart words.now }
+{
+    match words {
+        Words::Dump {
+            part: Part::Unclear,
+            ..
+        } => true,
+        _ => false,
+    }
+}
+
+// What is told of options that do nothing.
 fn idle_text(words: &Words<'_>) -> &'static str {
     match words {
         Words::Run { .. } => IDLE_SCHEMA,
@@ -521,6 +565,7 @@ fn asked_by<'a>(matches: &ArgMatches<'a>) -> Words<'a>
         Some(("dump", found)) => Words::Dump {
             image: text_of(found, "image"),
             schema: found_text(found, "schema"),
+            part: part_of(found),
         },
         Some(("get", found)) => Words::Get {
             image: text_of(found, "image"),
@@ -606,6 +651,34 @@ fn last_of(found: &ArgMatches<'_>) -> u32
     ensures { LastIs (one_of (codes "last") (rows_of (found_of found.now))) result }
 {
     found_number(found, "last").unwrap_or(LAST)
+}
+
+// Which values are dumped.
+fn part_of(found: &ArgMatches<'_>) -> Part
+    ensures { AsksForPart (rows_of (found_of found.now)) result }
+{
+    let is_cells = is_set(found, "cells");
+    match found_text(found, "slot") {
+        Some(slot) => {
+            if is_cells {
+                Part::Unclear
+            } else {
+                part_by(slot)
+            }
+        }
+        None => { if is_cells { Part::Cells } else { Part::Heap } }
+    }
+}
+
+// The values by the slot of this name.
+fn part_by(slot: &str) -> Part
+    ensures { NamesSlot slot.now result }
+{
+    match slot {
+        "a" => Part::SlotA,
+        "b" => Part::SlotB,
+        _ => Part::Unclear,
+    }
 }
 
 // The flag was met.

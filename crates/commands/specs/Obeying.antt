@@ -9,6 +9,8 @@ use Rattle.script_lines.specs.Endings.{OfScript}
 use Rattle.scripts.specs.Runs.{Ends}
 use Rattle.inspect.specs.StudyText.{study_text}
 use Rattle.script_lines.specs.declared.error.ScriptError.{ScriptError}
+use Rattle.image.specs.declared.slot.Slot.{Slot}
+use Rattle.image.specs.declared.slot.Slot.TheVariants.{A, B}
 use Rattle.image_file.specs.declared.error.ImageFault.{ImageFault}
 use Rattle.image_file.specs.declared.error.ImageFault.TheVariants as images
 use Rattle.image_file.specs.declared.error.NamedFault.{NamedFault}
@@ -25,6 +27,9 @@ use Rattle.image_file.specs.Drawing.{DrawsBy}
 use Rattle.image_file.specs.Dumping.{DumpsBy}
 use Rattle.image_file.specs.Showing.{ShowsBy}
 use Rattle.image_file.specs.Telling.{MayBeRefusedBy, TellsLessOfVersions}
+use Rattle.salvage.specs.AtPaths.{EndsBy}
+use Rattle.salvage.specs.Cells.{DumpsCells, RefusesCells}
+use Rattle.salvage.specs.Slots.{DumpsSlot, RefusesSlot}
 use Rattle.image_scripts.specs.Assigning.{SetsAt}
 use Rattle.image_scripts.specs.Running.{RunsAt}
 use Rattle.image_scripts.specs.Strict.{EndsStrictly}
@@ -38,6 +43,8 @@ use Rattle.image_scripts.specs.declared.error.ValueFault.{ValueFault}
 use Rattle.commands.specs.declared.fault.WorkFault.{WorkFault}
 use Rattle.commands.specs.declared.fault.WorkFault.TheVariants as fault
 use Rattle.commands.specs.Driving.{DrivesWith}
+use Rattle.command_words.specs.declared.words.Part.{Part}
+use Rattle.command_words.specs.declared.words.Part.TheVariants as parts
 use Rattle.command_words.specs.declared.words.Words.{Words}
 use Rattle.command_words.specs.declared.words.Words.TheVariants as words
 
@@ -170,6 +177,24 @@ abbrev pub DumpsOf : {P : Type 0} (schema : Option P) → Result (Unit {0}) Work
 DumpsOf schema result had has written now =
     (r : Result (Unit {0}) NamedFault) × (result ≡ told_of_named r) × DumpsBy schema r had has written now
 
+-- its home cells are
+abbrev pub DumpsCellsOf : {P : Type 0} (schema : Option P) → Result (Unit {0}) WorkFault → (had has written now : Option (List ℕ)) → Type 0
+DumpsCellsOf schema result had has written now =
+    (r : Result (Unit {0}) NamedFault) × (result ≡ told_of_named r) × EndsBy DumpsCells RefusesCells schema r had has written now
+
+-- its heap by this slot of the control is
+abbrev pub DumpsSlotOf : {P : Type 0} (slot : Slot) (schema : Option P) → Result (Unit {0}) WorkFault → (had has written now : Option (List ℕ)) → Type 0
+DumpsSlotOf slot schema result had has written now =
+    (r : Result (Unit {0}) NamedFault) × (result ≡ told_of_named r) × EndsBy (DumpsSlot slot) (RefusesSlot slot) schema r had has written now
+
+-- these values of it are
+abbrev pub DumpsPartOf : {P : Type 0} (part : Part) (schema : Option P) → Result (Unit {0}) WorkFault → (had has written now : Option (List ℕ)) → Type 0
+DumpsPartOf parts.Heap schema result had has written now = DumpsOf schema result had has written now
+DumpsPartOf parts.Cells schema result had has written now = DumpsCellsOf schema result had has written now
+DumpsPartOf parts.SlotA schema result had has written now = DumpsSlotOf A schema result had has written now
+DumpsPartOf parts.SlotB schema result had has written now = DumpsSlotOf B schema result had has written now
+DumpsPartOf parts.Unclear schema result had has written now = DumpsOf schema result had has written now
+
 -- why the image at a path isn't recovered; what is there then, and what was written
 pub record IsNotRecovered (versions : Versions) (had has : Option (List ℕ)) (error : ImageFault)
     (written now : Option (List ℕ)) : Type 0 where
@@ -204,8 +229,8 @@ Obeys device (words.Show image last schema) names result had has lies read unrea
     (unread ≡ read) × TellsOf study_text result (had image.now) (has image.now) written now
 Obeys device (words.Draw image last schema) names result had has lies read unread written now =
     (unread ≡ read) × DrawsOf schema last result (had image.now) (has image.now) written now
-Obeys device (words.Dump image schema) names result had has lies read unread written now =
-    (unread ≡ read) × DumpsOf schema result (had image.now) (has image.now) written now
+Obeys device (words.Dump image schema part) names result had has lies read unread written now =
+    (unread ≡ read) × DumpsPartOf part schema result (had image.now) (has image.now) written now
 Obeys device (words.Recover image) names result had has lies read unread written now =
     (unread ≡ read) × Recovers Current result (had image.now) (has image.now) written now
 Obeys device (words.Upgrade image) names result had has lies read unread written now =

@@ -9,7 +9,7 @@ use crate::refused::{
     tell_refused_image, tell_refused_line, tell_refused_schema, tell_stopped_script,
 };
 use crate::values::{tell_other_heap, tell_transient, tell_unknown, tell_wrong_word};
-use command_words::Words;
+use command_words::{Part, Words};
 use drive::DriveError;
 use file_disk::{BackingFile, VolatileDisk};
 use image::Layout;
@@ -88,6 +88,26 @@ pub fn tell_kept<R: Files + Eprint>(rt: &R, words: &Words<'_>, was_there: bool) 
     }
 }
 
+/// Tells that what was dumped of a damaged image needn't be the values of one moment, where the words have asked for that.
+pub fn tell_salvaged<R: Eprint>(rt: &R, words: &Words<'_>) {
+    let Words::Dump { image, part, .. } = words else {
+        return;
+    };
+    let told = match part {
+        Part::Heap | Part::Unclear => return,
+        Part::Cells => {
+            "these are the values of its home cells, which needn't be those of one moment"
+        }
+        Part::SlotA => {
+            "this is the heap by its control slot a, which needn't be that of one moment"
+        }
+        Part::SlotB => {
+            "this is the heap by its control slot b, which needn't be that of one moment"
+        }
+    };
+    tell(rt, image, told);
+}
+
 /// Whether there is something at the path of the image that the words are to make.
 pub fn is_something_there<R: Files>(rt: &R, words: &Words<'_>) -> bool {
     match words {
@@ -152,6 +172,18 @@ where
 {
     match why {
         RecoverError::Fault | RecoverError::NoMemory => explain_call(rt, words, trouble),
+        RecoverError::NoControl
+        | RecoverError::BadControl
+        | RecoverError::BadRecord { .. }
+        | RecoverError::IllegalLog { .. }
+            if is_by_slot(words) => {
+            tell(
+                rt,
+                image,
+                "by that control slot it can't be recovered; try the other one, or '--cells'",
+            );
+            tell_head(rt, image);
+        }
         RecoverError::BadHeader
         | RecoverError::NoControl
         | RecoverError::BadControl
@@ -161,6 +193,17 @@ where
             tell_head(rt, image);
         }
         _ => tell_refused_image(rt, image, why),
+    }
+}
+
+// The words ask for the heap by one slot of the control.
+fn is_by_slot(words: &Words<'_>) -> bool {
+    match words {
+        Words::Dump {
+            part: Part::SlotA | Part::SlotB,
+            ..
+        } => true,
+        _ => false,
     }
 }
 

@@ -23,7 +23,7 @@ mod told_images;
 mod values;
 
 pub use driving::drive;
-pub use explaining::{explain, is_left_by_reader, is_something_there, tell_kept};
+pub use explaining::{explain, is_left_by_reader, is_something_there, tell_kept, tell_salvaged};
 pub use fault::WorkFault;
 pub use files::drive_at;
 pub use kept_text::KeptText;

@@ -1,14 +1,16 @@
 //! What the program's words do.
 ghost use Rattle.std.specs.Prelude.{◌≡◌};
 ghost use Rattle.commands.specs.Beside.{PlaysBeside, Spares};
-ghost use Rattle.commands.specs.Obeying.{Obeys, PlaysAt, PlaysInMemory, sectors_asked, told_of_format, told_of_image, told_of_named, told_of_run, told_of_script, told_of_set, told_of_strict, told_of_values};
+ghost use Rattle.image_file.specs.Beside.{LeavesBeside};
+ghost use Rattle.commands.specs.Obeying.{DumpsPartOf, Obeys, PlaysAt, PlaysInMemory, sectors_asked, told_of_format, told_of_image, told_of_named, told_of_run, told_of_script, told_of_set, told_of_strict, told_of_values};
 
 use crate::driving::drive;
 use crate::fault::WorkFault;
 use crate::progress::{Progress, rounds_for};
 use block_disk::Disk;
-use command_words::Words;
+use command_words::{Part, Words};
 use file_disk::BackingFile;
+use image::Slot;
 use image_file::{
     FormatError, ImageFault, Images, NamedFault, NewImage, Trouble, draw_named_at, dump_at,
     format_at, recover_at, show_at,
@@ -17,6 +19,7 @@ use image_scripts::{
     RunFault, SetFault, StrictFault, ValueFault, get_at, run_at, run_strictly, set_at,
 };
 use recover::Versions;
+use salvage::{dump_cells_at, dump_slot_at};
 use script_lines::ScriptError;
 use scripts::run_script;
 use sector_disk::SectorSize;
@@ -96,9 +99,11 @@ where
             last,
             schema,
         } => on_named(draw_named_at(rt, images, alloc, trouble, image, schema, last, writer)),
-        Words::Dump { image, schema } => on_named(dump_at(
-            rt, images, alloc, trouble, image, schema, writer,
-        )),
+        Words::Dump {
+            image,
+            schema,
+            part,
+        } => dump(rt, images, trouble, image, schema, part, writer),
         Words::Recover { image } => {
             on_image(recover_at(images, alloc, Versions::Current, image, writer))
         }
@@ -127,6 +132,56 @@ fn size_of(sectors: Option<u32>) -> Option<SectorSize>
     match sectors {
         Some(_) => Some(SectorSize::Bytes4096),
         None => None,
+    }
+}
+
+// Dumps these values of the image at this path. Words that aren't clear ask for what `dump` alone does.
+fn dump<D, P, F, R, W>(
+    rt: &R,
+    images: &mut P,
+    trouble: &Trouble,
+    image: &str,
+    schema: Option<&str>,
+    part: Part,
+    writer: &mut W,
+) -> Result<(), WorkFault>
+where
+    D: Disk + Drop,
+    P: Images<Medium = D>,
+    F: Read + Drop,
+    R: Files<File = F> + AllocGlobal,
+    W: Write,
+    ensures ends { DumpsPartOf part schema.entry result (P.holds images.old image.now)
+        (P.holds images.new image.now) (W.contents writer.old) (W.contents writer.new) }
+    ensures beside { LeavesBeside image.now (P.holds images.old) (P.holds images.new) (P.lies images.old)
+        (P.lies images.new) }
+{
+    let alloc = rt.alloc();
+    match part {
+        Part::Heap | Part::Unclear => {
+            on_named(dump_at(rt, images, alloc, trouble, image, schema, writer))
+        }
+        Part::Cells => on_named(dump_cells_at(rt, images, alloc, trouble, image, schema, writer)),
+        Part::SlotA => on_named(dump_slot_at(
+            rt,
+            images,
+            alloc,
+            trouble,
+            image,
+            Slot::A,
+            schema,
+            writer,
+        )),
+        Part::SlotB => on_named(dump_slot_at(
+            rt,
+            images,
+            alloc,
+            trouble,
+            image,
+            Slot::B,
+            schema,
+            writer,
+        )),
     }
 }
 

@@ -33,10 +33,10 @@ fn refused_text(why: &RecoverError) -> &'static str {
             "it has fewer bytes than its header says: it was cut short; restore it from a copy"
         }
         RecoverError::NoControl => {
-            "the gates of both control slots are closed: it is damaged; restore it from a copy"
+            "the gates of both control slots are closed: it is damaged; restore it from a copy, or see what 'heapctl dump --cells' tells"
         }
         RecoverError::BadControl => {
-            "no control slot counts: it is damaged; restore it from a copy"
+            "no control slot counts: it is damaged; restore it from a copy, or see what 'heapctl dump --slot' and '--cells' tell"
         }
         RecoverError::OldVersion => {
             "it is of version 1; 'heapctl upgrade' makes it one of version 2, in place, and keeps its heap"
@@ -45,10 +45,10 @@ fn refused_text(why: &RecoverError) -> &'static str {
             "its control's sequence is at its last number; 'heapctl dump' it, and 'heapctl format' another of that schema file"
         }
         RecoverError::BadRecord { .. } => {
-            "a record of that thread, at that place of its log, can't be read: it is damaged; restore it from a copy"
+            "a record of that thread, at that place of its log, can't be read: it is damaged; restore it from a copy, or see what 'heapctl dump --slot' and '--cells' tell"
         }
         RecoverError::IllegalLog { .. } => {
-            "no threads can have left that thread's log, from that place on: it is damaged; restore it from a copy"
+            "no threads can have left that thread's log, from that place on: it is damaged; restore it from a copy, or see what 'heapctl dump --slot' and '--cells' tell"
         }
     }
 }

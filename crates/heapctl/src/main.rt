@@ -14,7 +14,7 @@ use clap::error::ErrorKind;
 use command_words::{Asked, Words, read_words};
 use commands::{
     FAULT, KeptText, ToldImages, WRONG_INPUT, WorkFault, explain, is_left_by_reader,
-    is_something_there, obey, status_of_fault, tell_kept,
+    is_something_there, obey, status_of_fault, tell_kept, tell_salvaged,
 };
 use file_disk::BackingFile;
 use image_file::{FileImages, Place, Trouble, Watched};
@@ -70,7 +70,10 @@ where
     // Who tells of a fault may look at the image, which is claimed until here.
     drop(images);
     match &ended {
-        Ok(()) => tell_kept(rt, &words, was_there),
+        Ok(()) => {
+            tell_kept(rt, &words, was_there);
+            tell_salvaged(rt, &words);
+        }
         Err(fault) => {
             if !is_left_by_reader(&trouble) {
                 let _ = eprintln!(rt; "heapctl: {fault}");

@@ -5,7 +5,7 @@ use Rattle.clap.specs.Kinds.{HasKind}
 use Rattle.clap.specs.Simple.{App, is_simple, subcommand_of, subcommand_rows_of}
 use Rattle.clap.specs.Takes.{takes}
 use Rattle.command_words.specs.Words.{AsksFor, names_asked, program}
-use Rattle.command_words.proofs.PathLemmas.{both_lengths, idle_options, not_none, none_says_both, none_says_idle, none_says_other, not_run, one_file, other_sectors, run_rows, run_says_both, run_says_idle, run_says_other, two_files}
+use Rattle.command_words.proofs.PathLemmas.{both_lengths, idle_options, not_none, none_says_both, none_says_idle, none_says_no_part, none_says_other, not_run, one_file, other_sectors, run_rows, run_says_both, run_says_idle, run_says_no_part, run_says_other, two_files, unclear_part}
 use Rattle.command_words.proofs.words.read_words.Goals as goal
 
 is_plain : is_simple_and_free program ≡ true
@@ -121,7 +121,7 @@ returns-then-has_idle_options-clause-exact c =
     let met = (c.in-Ok.ensures.matches (ap is_simple is ∙ is_plainly_read)).1 ∙ ap (λ (a : App). subcommand_of a (map (λ s. string_bytes s) c.args.words.now)) is in
     let asks = subst (λ found. AsksFor found c.asked_by-asked.result) met c.asked_by-asked.ensures in
     let none = ap (λ (a : App). fault_of a (map (λ s. string_bytes s) c.args.words.now)) (sym is) ∙ c.in-Ok.ensures.kinds (ap is_simple_and_free is ∙ is_plain) in
-    inr (none, inr (inr (inr (idle_options (map (λ s. string_bytes s) c.args.words.now) c.asked_by-asked.result asks (c.has_idle_options.ensures.0 c.if-has_idle_options.true)))), c.in_ok-conflict-4.ensures)
+    inr (none, inr (inr (inr (inl (idle_options (map (λ s. string_bytes s) c.args.words.now) c.asked_by-asked.result asks (c.has_idle_options.ensures.0 c.if-has_idle_options.true))))), c.in_ok-conflict-4.ensures)
 
 pub returns-then-has_idle_options-clause-none : goal.returns-then-has_idle_options-clause-none
 returns-then-has_idle_options-clause-none c = λ name words_are.
@@ -139,6 +139,30 @@ returns-then-has_idle_options-clause-run c = λ name words_are.
     absurd (run_says_idle (map (λ s. string_bytes s) c.args.words.now) (ap (subcommand_of program) words_are ∙ meets_run name)
     (idle_options (map (λ s. string_bytes s) c.args.words.now) c.asked_by-asked.result asks (c.has_idle_options.ensures.0 c.if-has_idle_options.true)))
 
+pub returns-then-has_unclear_part-clause-exact : goal.returns-then-has_unclear_part-clause-exact
+returns-then-has_unclear_part-clause-exact c =
+    let is = c.in_ok-command.ensures in
+    let met = (c.in-Ok.ensures.matches (ap is_simple is ∙ is_plainly_read)).1 ∙ ap (λ (a : App). subcommand_of a (map (λ s. string_bytes s) c.args.words.now)) is in
+    let asks = subst (λ found. AsksFor found c.asked_by-asked.result) met c.asked_by-asked.ensures in
+    let none = ap (λ (a : App). fault_of a (map (λ s. string_bytes s) c.args.words.now)) (sym is) ∙ c.in-Ok.ensures.kinds (ap is_simple_and_free is ∙ is_plain) in
+    inr (none, inr (inr (inr (inr (unclear_part (map (λ s. string_bytes s) c.args.words.now) c.asked_by-asked.result asks (c.has_unclear_part.ensures.0 c.if-has_unclear_part.true))))), c.in_ok-conflict-5.ensures)
+
+pub returns-then-has_unclear_part-clause-none : goal.returns-then-has_unclear_part-clause-none
+returns-then-has_unclear_part-clause-none c = λ name words_are.
+    let is = c.in_ok-command.ensures in
+    let met = (c.in-Ok.ensures.matches (ap is_simple is ∙ is_plainly_read)).1 ∙ ap (λ (a : App). subcommand_of a (map (λ s. string_bytes s) c.args.words.now)) is in
+    let asks = subst (λ found. AsksFor found c.asked_by-asked.result) met c.asked_by-asked.ensures in
+    absurd (none_says_no_part (map (λ s. string_bytes s) c.args.words.now) (ap (subcommand_of program) words_are ∙ meets_none name)
+    (unclear_part (map (λ s. string_bytes s) c.args.words.now) c.asked_by-asked.result asks (c.has_unclear_part.ensures.0 c.if-has_unclear_part.true)))
+
+pub returns-then-has_unclear_part-clause-run : goal.returns-then-has_unclear_part-clause-run
+returns-then-has_unclear_part-clause-run c = λ name words_are.
+    let is = c.in_ok-command.ensures in
+    let met = (c.in-Ok.ensures.matches (ap is_simple is ∙ is_plainly_read)).1 ∙ ap (λ (a : App). subcommand_of a (map (λ s. string_bytes s) c.args.words.now)) is in
+    let asks = subst (λ found. AsksFor found c.asked_by-asked.result) met c.asked_by-asked.ensures in
+    absurd (run_says_no_part (map (λ s. string_bytes s) c.args.words.now) run_rows (ap (subcommand_of program) words_are ∙ meets_run name)
+    (unclear_part (map (λ s. string_bytes s) c.args.words.now) c.asked_by-asked.result asks (c.has_unclear_part.ensures.0 c.if-has_unclear_part.true)))
+
 pub returns-clause-exact : goal.returns-clause-exact
 returns-clause-exact c =
     let is = c.in_ok-command.ensures in
@@ -151,6 +175,7 @@ returns-clause-exact c =
       one_length = λ lengths. let both : true ≡ false = sym (c.has_both_lengths.ensures.1 lengths) ∙ c.if-has_both_lengths.false in absurd cc;
       sectors = λ other. let both : true ≡ false = sym (c.has_other_sectors.ensures.1 other) ∙ c.if-has_other_sectors.false in absurd cc;
       busy = λ idle. let both : true ≡ false = sym (c.has_idle_options.ensures.1 idle) ∙ c.if-has_idle_options.false in absurd cc;
+      clear = λ unclear. let both : true ≡ false = sym (c.has_unclear_part.ensures.1 unclear) ∙ c.if-has_unclear_part.false in absurd cc;
     }
 
 pub returns-clause-asked : goal.returns-clause-asked

@@ -70,15 +70,12 @@ returns-in-Draw-clause-ends o c =
 pub returns-in-Dump-clause-ends : goal.returns-in-Dump-clause-ends
 returns-in-Dump-clause-ends o c =
     let had = o.P.Images.holds c.args.images.now in
-    let has = o.P.Images.holds c.dump_at.new.images in
-    let lies = o.P.Images.lies c.dump_at.new.images in
+    let has = o.P.Images.holds c.dump.new.images in
+    let lies = o.P.Images.lies c.dump.new.images in
     let read = o.S.Read.remaining c.args.reader.now in
     let written = o.W.Write.contents c.args.writer.now in
-    let now = o.W.Write.contents c.dump_at.new.writer in
-    subst (λ (w : Words). Obeys o.D.Disk.device w c.args.names.now c.on_named-in-Dump.result had has lies read read written now) (sym c.in-Dump.is) (
-      refl,
-      (c.dump_at.result, c.on_named-in-Dump.ensures, c.dump_at.ensures.ends),
-    )
+    let now = o.W.Write.contents c.dump.new.writer in
+    subst (λ (w : Words). Obeys o.D.Disk.device w c.args.names.now c.dump.result had has lies read read written now) (sym c.in-Dump.is) (refl, c.dump.ensures.ends)
 
 pub returns-in-Recover-clause-ends : goal.returns-in-Recover-clause-ends
 returns-in-Recover-clause-ends o c =
@@ -169,7 +166,7 @@ returns-in-Draw-clause-beside o c =
 
 pub returns-in-Dump-clause-beside : goal.returns-in-Dump-clause-beside
 returns-in-Dump-clause-beside o c =
-    subst (λ (w : Words). Spares w c.on_named-in-Dump.result (o.P.Images.holds c.args.images.now) (o.P.Images.holds c.dump_at.new.images) (o.P.Images.lies c.args.images.now) (o.P.Images.lies c.dump_at.new.images)) (sym c.in-Dump.is) c.dump_at.ensures.beside
+    subst (λ (w : Words). Spares w c.dump.result (o.P.Images.holds c.args.images.now) (o.P.Images.holds c.dump.new.images) (o.P.Images.lies c.args.images.now) (o.P.Images.lies c.dump.new.images)) (sym c.in-Dump.is) c.dump.ensures.beside
 
 pub returns-in-Recover-clause-beside : goal.returns-in-Recover-clause-beside
 returns-in-Recover-clause-beside o c =

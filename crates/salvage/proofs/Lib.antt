@@ -1,0 +1,4 @@
+mod FitLemmas
+mod CellLemmas
+mod SlotLemmas
+mod NoteLemmas
