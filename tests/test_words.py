@@ -467,6 +467,8 @@ EACH = [
     "show --image i",
     "show --image i --dot --schema s",
     "dump --image i",
+    "dump --image i --cells",
+    "dump --image i --slot a",
     "get --image i f0",
     "set --image i f0=1",
     "recover --image i",
