@@ -127,7 +127,7 @@ pub const CLOSED: u32 = 39;
 /// The image has version 1, which only an upgrade opens.
 pub const OLD_VERSION: u32 = 40;
 
-// 41 to 43 are of zelamiku_threads.h.
+// 41 to 43 are the host's own (bindings/statuses.csv).
 /// A lane's ring can't have room for as many records as C asks for.
 pub const RING: u32 = 44;
 
