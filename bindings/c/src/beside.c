@@ -115,10 +115,14 @@ static void end_draft(draft *it) {
     errno = error;
 }
 
-/* Opens and locks the file that is beside the path, or a new one. `is_new` says which. */
-static zelamiku_status open_beside(draft *it, mode_t mode, bool *is_new) {
+/* Opens and locks the file that is beside the path, or a new one. `is_new` says which. `has_gone`: there was one, and it went meanwhile. */
+static zelamiku_status open_beside(draft *it, mode_t mode, bool *is_new, bool *has_gone) {
     *is_new = open_listed(&it->file, it->beside, O_RDWR | O_CREAT | O_EXCL | O_NOFOLLOW, mode);
-    if (!*is_new && (errno != EEXIST || !open_listed(&it->file, it->beside, O_RDWR | O_NOFOLLOW, 0))) return ZELAMIKU_DEVICE;
+    if (!*is_new) {
+        bool was_there = errno == EEXIST, is_open = was_there && open_listed(&it->file, it->beside, O_RDWR | O_NOFOLLOW, 0);
+        *has_gone = was_there && !is_open && errno == ENOENT;
+        if (!is_open) return ZELAMIKU_DEVICE;
+    }
     zelamiku_status status = lock_alone(it->file);
     if (status == ZELAMIKU_OK) return ZELAMIKU_OK;
     int error = errno;
@@ -132,9 +136,9 @@ static zelamiku_status open_beside(draft *it, mode_t mode, bool *is_new) {
  * another one took between the opening and the lock is let go. */
 static zelamiku_status make_beside(draft *it, mode_t mode) {
     for (int tries = 0; tries < 5; tries++) {
-        bool is_new = false;
-        zelamiku_status status = open_beside(it, mode, &is_new);
-        if (status == ZELAMIKU_DEVICE && errno == ENOENT && tries == 0) continue; /* it went meanwhile, or there is no folder */
+        bool is_new = false, has_gone = false;
+        zelamiku_status status = open_beside(it, mode, &is_new, &has_gone);
+        if (has_gone) continue;
         if (status != ZELAMIKU_OK) return status;
         bool is_there = leads_to(it->beside, it->file);
         if (is_there && is_new) return ZELAMIKU_OK;
