@@ -1,1 +1,4 @@
-pub mod Answering
+pub mod Telling
+pub mod Calling
+pub mod Both
+pub mod Responding

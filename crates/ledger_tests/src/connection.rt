@@ -40,14 +40,15 @@ fn served<S: Service>(peer: Peer, service: &mut S, request: &[u8]) -> Option<Vec
     Some(written)
 }
 
-/// Whether the answer has this status, no body, and no field but its length.
-pub fn is_answer(alloc: Global, answer: &[u8], status: &str) -> bool {
-    match written(alloc, status) {
+/// Whether the answer has this status, no field but its length, and this text.
+pub fn is_answer(alloc: Global, answer: &[u8], status: &str, text: &str) -> bool {
+    match written(alloc, status, text) {
         Ok(expected) => answer == expected.as_bytes(),
         Err(_) => false,
     }
 }
 
-fn written(alloc: Global, status: &str) -> Result<String, AllocError> {
-    format!(in alloc; "HTTP/1.1 {status}\r\ncontent-length: 0\r\n\r\n")
+fn written(alloc: Global, status: &str, text: &str) -> Result<String, AllocError> {
+    let length = text.len();
+    format!(in alloc; "HTTP/1.1 {status}\r\ncontent-length: {length}\r\n\r\n{text}")
 }

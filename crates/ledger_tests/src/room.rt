@@ -11,10 +11,10 @@ pub const CAPACITY: u32 = 4_000;
 /// What the first account has, numbered 0.
 pub const FIRST: u64 = 10;
 
-/// What the second account has, numbered 1.
-pub const SECOND: u64 = 20;
+/// What the second account has, numbered 1: 5 more pass 64 bits.
+pub const SECOND: u64 = u64::MAX - 4;
 
-/// Two accounts, and an object without a field, numbered 2.
+/// Two accounts; an object whose field is under the monitor of another one, numbered 2; and one without a field, numbered 3.
 pub fn schema(alloc: Global) -> Option<Schema> {
     let mut builder = SchemaBuilder::new(alloc);
     let first = builder.object("first").ok()?;
@@ -23,7 +23,9 @@ pub fn schema(alloc: Global) -> Option<Schema> {
     builder
         .field(second, "balance of second", second, SECOND)
         .ok()?;
-    let _ = builder.object("third").ok()?;
+    let third = builder.object("third").ok()?;
+    builder.field(third, "balance of third", second, 0).ok()?;
+    let _ = builder.object("fourth").ok()?;
     match builder.build() {
         Ok(schema) => Some(schema),
         Err((builder, _)) => {
