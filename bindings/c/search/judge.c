@@ -400,6 +400,7 @@ static void judge_sleeper(judge *it, uint32_t lane, bool has_rounds) {
     switch (own->call) {
     case ENTERS:
         if (others_have || (may_lack_room(it, own) && waits_for_rounds)) return;
+        if (own->records > 900 && has_rounds) return; /* it naps still, and a round has made room meanwhile */
         search_fail("lane %u sleeps, though object %u is free", lane, own->object);
     case WAITS:
         if (others_have || (it->notified[own->object] >> lane & 1) == 0) return;

@@ -1,6 +1,7 @@
 //! How many records a round applies, and how many a lane's ring has room for.
 
 use crate::work::{ROWS, work};
+use heap_model::{FieldId, Lane, ObjectId};
 use hosted_heap::{HostedHeap, HostedSession, format, format_with};
 use lane_rings::RingRecords;
 use std::alloc::Global;
@@ -72,6 +73,70 @@ fn sections_with(alloc: Global, records: usize) -> Option<u64> {
         }
         Err(_) => None,
     }
+}
+
+// Makes three sections of the object of this number, of three records each.
+fn work_at(session: &mut HostedSession, number: u32) {
+    for value in 0..3 {
+        let _ = session.try_enter(ObjectId(number));
+        let _ = session.store(FieldId(number), value);
+        let _ = session.exit(ObjectId(number));
+    }
+}
+
+// How many sections of two lanes are acknowledged, once the host has made all calls.
+fn acknowledged(heap: &mut HostedHeap) -> (Option<u64>, Option<u64>) {
+    for _ in 0..10_000 {
+        heap.fetch();
+        if !heap.done() {
+            break;
+        }
+    }
+    (
+        heap.acknowledged(Lane(0)).ok(),
+        heap.acknowledged(Lane(1)).ok(),
+    )
+}
+
+// The same after a round of six records at most, where each of two lanes has sent nine.
+fn round_of_six(
+    heap: &mut HostedHeap,
+    first: &mut HostedSession,
+    second: &mut HostedSession,
+) -> (Option<u64>, Option<u64>) {
+    work_at(first, 0);
+    work_at(second, 1);
+    let _ = heap.round(Some(6));
+    acknowledged(heap)
+}
+
+fn shared_round(heap: &mut HostedHeap) -> Option<(Option<u64>, Option<u64>)> {
+    match (heap.session(), heap.session()) {
+        (Some(mut first), Some(mut second)) => {
+            let found = round_of_six(heap, &mut first, &mut second);
+            drop(second);
+            drop(first);
+            Some(found)
+        }
+        _ => None,
+    }
+}
+
+fn shared(alloc: Global) -> Option<(Option<u64>, Option<u64>)> {
+    match format(alloc, 2, &ROWS, 2, 2_000) {
+        Ok(mut heap) => {
+            let found = shared_round(&mut heap);
+            drop(heap);
+            found
+        }
+        Err(_) => None,
+    }
+}
+
+// Each lane has an equal part of the bound: one section of each, and not two of the first.
+#[test]
+fn lanes_share_the_bound_of_a_round(rt: HostRuntime) {
+    assert!(rt; shared(rt.alloc()) == Some((Some(1), Some(1))));
 }
 
 // Three sections have nine records.
