@@ -1,5 +1,5 @@
 -- The image over a round of two syncs (this project's own): its cells needn't have the kept values yet, where records in its lanes do.
-use Rattle.std.specs.Prelude.{ℕ, ◌≡◌, ◌-◌, ◌<◌, ◌≤◌, ◌⊎◌, true, List, ◌++◌, length}
+use Rattle.std.specs.Prelude.{ℕ, ◌≡◌, ◌<◌, ◌≤◌, ◌⊎◌, true, List, [], ◌++◌, length}
 use Rattle.heap_model.specs.declared.record.Record.{Record}
 use Rattle.heap_model.specs.Base.{records_since}
 use Rattle.heap_model.specs.Cuts.{IsClosed, IsWhole}
@@ -53,24 +53,35 @@ pub record ShowsHeap (l : Layout) (s : Setting) (records : List (ℕ × Record))
 abbrev pub kept_by : Setting → (log : List (ℕ × Record)) → (cut : ℕ → ℕ) → ℕ → ℕ
 kept_by s log cut f = kept_value s.first cut f log
 
--- the helper's lane is the image's last one
-abbrev pub helper_lane : Layout → ℕ
-helper_lane l = l.lanes - 1
-
--- the live records over a round of two syncs: the helper's sections over the kept heap, and then what of the threads' isn't kept
-abbrev pub round_records : Layout → Setting → (log : List (ℕ × Record)) → (cut : ℕ → ℕ) → List HelperSection → List (ℕ × Record)
-round_records l s log cut sections = records_since cut log ++ helper_log (helper_lane l) (kept_by s log cut) sections
+-- the live records over a round of two syncs: the helper's sections over the kept heap, in the lane behind the threads' t ones, and then what of
+-- the threads' isn't kept
+abbrev pub round_records : (t : ℕ) → Setting → (log : List (ℕ × Record)) → (cut : ℕ → ℕ) → List HelperSection → List (ℕ × Record)
+round_records t s log cut sections = records_since cut log ++ helper_log t (kept_by s log cut) sections
 
 -- The image shows this cut of the threads' log by a round of two syncs: the heap that the cut keeps, these sections of the helper's, and
--- the cut's count for each thread's lane.
-pub record ShowsRound (l : Layout) (s : Setting) (log : List (ℕ × Record)) (cut : ℕ → ℕ) (sections : List HelperSection) (image : List ℕ) : Type 0 where
-  pub heap : ShowsHeap l (from_heap s (kept_by s log cut)) (round_records l s log cut sections) image
-  pub kept : (lane : ℕ) → lane < helper_lane l → (row_of heap.control.rows lane).kept ≡ cut lane
+-- the cut's count for each lane. It counts nothing of the helper's.
+pub record ShowsRound (l : Layout) (t : ℕ) (s : Setting) (log : List (ℕ × Record)) (cut : ℕ → ℕ) (sections : List HelperSection) (image : List ℕ) : Type 0 where
+  pub heap : ShowsHeap l (from_heap s (kept_by s log cut)) (round_records t s log cut sections) image
+  pub kept : (lane : ℕ) → lane < l.lanes → (row_of heap.control.rows lane).kept ≡ cut lane
 
--- the cut of a legal log is whole and closed, the log is of the threads' lanes, and the helper's sections may come before what isn't kept
-pub record IsRoundOf (l : Layout) (s : Setting) (log : List (ℕ × Record)) (cut : ℕ → ℕ) (sections : List HelperSection) : Type 0 where
+-- The cut of a legal log is whole and closed, the log is of the threads' t lanes, and the helper's sections may come before what isn't kept.
+-- An image with no lane behind the threads' has no such sections.
+pub record IsRoundOf (l : Layout) (t : ℕ) (s : Setting) (log : List (ℕ × Record)) (cut : ℕ → ℕ) (sections : List HelperSection) : Type 0 where
   pub legal : IsLegal s log
   pub whole : IsWhole (actions log) cut
   pub closed : IsClosed (actions log) cut
-  pub lanes : IsOfLanes (helper_lane l) log
+  pub lanes : IsOfLanes t log
+  pub within : t ≤ l.lanes
+  pub helper : (sections ≡ []) ⊎ (t < l.lanes)
   pub preceding : ArePreceding s (records_since cut log) sections
+
+-- The image shows a whole closed cut, this one or a later one, of a beginning of this log, by a round of two syncs.
+pub record ShowsCutOf (l : Layout) (t : ℕ) (s : Setting) (log : List (ℕ × Record)) (cut : ℕ → ℕ) (image : List ℕ) : Type 0 where
+  pub later : List (ℕ × Record)
+  pub shown : List (ℕ × Record)
+  pub parts : log ≡ later ++ shown
+  pub kept : ℕ → ℕ
+  pub more : (lane : ℕ) → cut lane ≤ kept lane
+  pub sections : List HelperSection
+  pub round : IsRoundOf l t s shown kept sections
+  pub shows : ShowsRound l t s shown kept sections image

@@ -26,7 +26,7 @@ use Rattle.store_image.specs.declared.committed.Committed.{Committed}
 use Rattle.store_image.proofs.Places.{ended_undo, live_size}
 use Rattle.store_image.proofs.Stands.{empty, none_logged}
 use Rattle.helper_sections.specs.Going.{from_heap}
-use Rattle.helper_sections.specs.Image.{HasHeap, helper_lane, kept_by}
+use Rattle.helper_sections.specs.Image.{HasHeap, kept_by}
 use Rattle.helper_sections.proofs.Padding.{if_same}
 use Rattle.round_making.specs.Rounds.{IsRoundOn}
 
@@ -57,7 +57,7 @@ module _ (cut : ℕ → ℕ) (o f : ℕ) where
         elim (is_counted cut m (actions older)) as (λ b. has_store f (if b then records_since cut older else (m, r) ∷ records_since cut older) ≡ true) [ true ↦ rest | false ↦ store_more f (m, r) (records_since cut older) rest ]
   ]
 
-module _ (l : Layout) (s : Setting) (p : Past) (c : Committed) (d : Device) (consistent : IsConsistent l s p c d) (trimmed : IsTrimmed p) (lanes : IsOfLanes (helper_lane l) p.logged) where
+module _ (l : Layout) (t : ℕ) (s : Setting) (p : Past) (c : Committed) (d : Device) (consistent : IsConsistent l s p c d) (trimmed : IsTrimmed p) (lanes : IsOfLanes t p.logged) (within : t ≤ l.lanes) where
   legal : IsLegal s p.logged
   legal = legal_before s p.fresh p.logged consistent.past.legal
 
@@ -98,13 +98,13 @@ module _ (l : Layout) (s : Setting) (p : Past) (c : Committed) (d : Device) (con
     ];
   }
 
-  pub joins : IsRoundOn l s p.logged p.cut [] c d
+  pub joins : IsRoundOn l t s p.logged p.cut [] c d
   joins = record {
-    round = record { legal = legal; whole = consistent.past.whole; closed = consistent.past.closed; lanes = lanes; preceding = tt };
+    round = record { legal = legal; whole = consistent.past.whole; closed = consistent.past.closed; lanes = lanes; within = within; helper = inl refl; preceding = tt };
     tells = record {
-      start = λ k low. starts k (omega (arith, low));
-      logged = λ k low. consistent.tells.logged k (omega (arith, low));
-      kept = λ k low. consistent.tells.kept k (omega (arith, low));
+      start = λ k low. starts k (omega (arith, low, within));
+      logged = λ k low. consistent.tells.logged k (omega (arith, low, within));
+      kept = λ k low. consistent.tells.kept k low;
     };
     heap = record {
       limits = consistent.limits;

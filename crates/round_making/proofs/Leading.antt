@@ -1,5 +1,5 @@
 -- A round that acknowledges a cut leads from the heap of the old cut to that of the new one.
-use Rattle.std.proofs.Common.{ℕ, ◌≡◌, ◌+◌, ◌-◌, ◌<◌, ◌≤◌, ◌⊎◌, ◌==◌, if◌then◌else◌, List, [], ◌++◌, length, map, reverse, take, drop, refl, sym, ap, ◌∙◌, subst, inl, inr, arith, length-append}
+use Rattle.std.proofs.Common.{ℕ, ◌≡◌, ◌≢◌, ◌+◌, ◌-◌, ◌<◌, ◌≤◌, ◌⊎◌, ◌==◌, if◌then◌else◌, List, [], ◌++◌, length, map, reverse, take, drop, refl, sym, ap, ◌∙◌, subst, inl, inr, arith, length-append}
 use Rattle.std.specs.Prelude.{max, slice_index}
 use Rattle.std.proofs.lemmas.Bool.{cases_eq, cases_lt}
 use Rattle.std.proofs.lemmas.List.{append-nil, drop_all, drop-append-le, drop-drop, length-drop, length-reverse, length-take-le, map-append, reverse-append, take-append-drop}
@@ -9,12 +9,14 @@ use Rattle.heap_model.specs.declared.cut.Cut.{Cut}
 use Rattle.heap_model.specs.declared.record.Record.{Record}
 use Rattle.heap_model.specs.declared.record.UndoRecord.{UndoRecord}
 use Rattle.heap_model.specs.Base.{records_since, records_until}
-use Rattle.heap_model.specs.Cuts.{counts_of}
+use Rattle.heap_model.specs.Cuts.{counts_of, IsWhole}
 use Rattle.heap_model.specs.Log.{lane, IsOfLanes}
 use Rattle.heap_model.specs.Record.{undo_of}
+use Rattle.heap_model.specs.Sections.{action, actions, ended}
 use Rattle.heap_model.specs.Setting.{Setting}
-use Rattle.cut_laws.proofs.Lanes.{lane_append}
+use Rattle.cut_laws.proofs.Lanes.{lane_actions, lane_append}
 use Rattle.cut_laws.proofs.Unlogged.{first_kept}
+use Rattle.history_laws.proofs.OfLanes.{none_past}
 use Rattle.history_laws.proofs.Reorder.{split_lane}
 use Rattle.block_disk.specs.Device.{Device}
 use Rattle.block_disk.proofs.Images.{image_now}
@@ -33,7 +35,7 @@ use Rattle.store_image.proofs.Places.{base_place, cut_place, ended_undo, records
 use Rattle.store_image.proofs.Rows.{are_rows, rest_is, row_is}
 use Rattle.helper_sections.specs.Going.{from_heap}
 use Rattle.helper_sections.specs.HelperSections.{HelperSection, helper_log}
-use Rattle.helper_sections.specs.Image.{ShowsRound, helper_lane, kept_by, round_records}
+use Rattle.helper_sections.specs.Image.{ShowsRound, kept_by, round_records}
 use Rattle.helper_sections.proofs.Padding.{if_same, if_apart}
 use Rattle.helper_sections.proofs.Preceding.{helper_elsewhere, since_elsewhere}
 use Rattle.round_image.specs.Promises.{ShowsEitherHeap}
@@ -62,44 +64,50 @@ drop_seam {A} n xs ys = elim (cases_lt (length xs) n) [
       drop-append-le n xs ys within ∙ ap (λ (k : ℕ). drop n xs ++ drop k ys) (sym none)
 ]
 
-module _ (l : Layout) (s : Setting) (log : List (ℕ × Record)) (cut : ℕ → ℕ) (sections : List HelperSection) where
+-- a whole cut counts nothing of lanes that have no records
+uncounted : (t k : ℕ) (log : List (ℕ × Record)) (cut : ℕ → ℕ) → IsOfLanes t log → IsWhole (actions log) cut → t ≤ k → cut k ≡ 0
+uncounted t k log cut lanes whole past = omega (arith, whole k, ap ended (lane_actions k log ∙ ap (map action) (none_past t k log lanes past)))
+
+module _ (t : ℕ) (s : Setting) (log : List (ℕ × Record)) (cut : ℕ → ℕ) (sections : List HelperSection) where
   -- of the live records a thread's lane has those beyond the cut
-  thread_logs : (k : ℕ) → k < helper_lane l → undo_logs (round_records l s log cut sections) k ≡ undo_logs (records_since cut log) k
+  thread_logs : (k : ℕ) → k < t → undo_logs (round_records t s log cut sections) k ≡ undo_logs (records_since cut log) k
   thread_logs k low = ap (map undo_of) (
-      lane_append k (records_since cut log) (helper_log (helper_lane l) (kept_by s log cut) sections)
-      ∙ ap (λ (xs : List Record). lane k (records_since cut log) ++ xs) (helper_elsewhere (helper_lane l) (kept_by s log cut) k (λ e. omega (arith, e, low)) sections)
+      lane_append k (records_since cut log) (helper_log t (kept_by s log cut) sections)
+      ∙ ap (λ (xs : List Record). lane k (records_since cut log) ++ xs) (helper_elsewhere t (kept_by s log cut) k (λ e. omega (arith, e, low)) sections)
       ∙ append-nil (lane k (records_since cut log)))
 
   -- the helper's has its sections
-  helper_logs : IsOfLanes (helper_lane l) log → undo_logs (round_records l s log cut sections) (helper_lane l) ≡ undo_logs (helper_log (helper_lane l) (kept_by s log cut) sections) (helper_lane l)
+  helper_logs : IsOfLanes t log → undo_logs (round_records t s log cut sections) t ≡ undo_logs (helper_log t (kept_by s log cut) sections) t
   helper_logs lanes = ap (map undo_of) (
-      lane_append (helper_lane l) (records_since cut log) (helper_log (helper_lane l) (kept_by s log cut) sections)
-      ∙ ap (λ (xs : List Record). xs ++ lane (helper_lane l) (helper_log (helper_lane l) (kept_by s log cut) sections)) (since_elsewhere (helper_lane l) (helper_lane l) log cut lanes (omega arith)))
+      lane_append t (records_since cut log) (helper_log t (kept_by s log cut) sections)
+      ∙ ap (λ (xs : List Record). xs ++ lane t (helper_log t (kept_by s log cut) sections)) (since_elsewhere t t log cut lanes (omega arith)))
+
+  -- a lane behind the threads' has none where it isn't the helper's
+  none_behind : (k : ℕ) → (sections ≡ []) ⊎ (t ≢ k) → lane k (helper_log t (kept_by s log cut) sections) ≡ []
+  none_behind k (inl none) = ap (λ (xs : List HelperSection). lane k (helper_log t (kept_by s log cut) xs)) none
+  none_behind k (inr apart) = helper_elsewhere t (kept_by s log cut) k apart sections
 
   -- no other lane has any
-  no_logs : IsOfLanes (helper_lane l) log → (k : ℕ) → helper_lane l < k → undo_logs (round_records l s log cut sections) k ≡ []
-  no_logs lanes k past = ap (map undo_of) (
-      lane_append k (records_since cut log) (helper_log (helper_lane l) (kept_by s log cut) sections)
-      ∙ ap (λ (xs : List Record). xs ++ lane k (helper_log (helper_lane l) (kept_by s log cut) sections)) (since_elsewhere (helper_lane l) k log cut lanes (omega (arith, past)))
-      ∙ helper_elsewhere (helper_lane l) (kept_by s log cut) k (λ e. omega (arith, e, past)) sections)
+  no_logs : IsOfLanes t log → (k : ℕ) → t ≤ k → (sections ≡ []) ⊎ (t ≢ k) → undo_logs (round_records t s log cut sections) k ≡ []
+  no_logs lanes k past none = ap (map undo_of) (
+      lane_append k (records_since cut log) (helper_log t (kept_by s log cut) sections)
+      ∙ ap (λ (xs : List Record). xs ++ lane k (helper_log t (kept_by s log cut) sections)) (since_elsewhere t k log cut lanes past)
+      ∙ none_behind k none)
 
-module _ (l : Layout) (s : Setting) (log : List (ℕ × Record)) (cut : ℕ → ℕ) (sections : List HelperSection) (newer : List (ℕ × Record)) (later : List HelperSection)
-    (c : Committed) (d : Device) (next : Cut) (places : List ℕ) (cells : List HomeValue) (fresh : ℕ → List UndoRecord) (helper : List UndoRecord) (given : ℕ)
-    (may : MayMake l s log cut sections newer later c d next places cells fresh helper given) where
+module _ (l : Layout) (t : ℕ) (s : Setting) (log : List (ℕ × Record)) (cut : ℕ → ℕ) (sections : List HelperSection) (newer : List (ℕ × Record)) (later : List HelperSection)
+    (c : Committed) (d : Device) (next : Cut) (places : List ℕ) (cells : List HomeValue) (fresh : ℕ → List UndoRecord) (helper : List UndoRecord)
+    (may : MayMake l t s log cut sections newer later c d next places cells fresh helper) where
   abbrev all : List (ℕ × Record)
   all = newer ++ log
 
   abbrev heap : ℕ → ℕ
   heap = kept_by s all (counts_of next)
 
-  abbrev H : ℕ
-  H = helper_lane l
-
   abbrev old : List (ℕ × Record)
-  old = round_records l s log cut sections
+  old = round_records t s log cut sections
 
   abbrev new : List (ℕ × Record)
-  new = round_records l s all (counts_of next) later
+  new = round_records t s all (counts_of next) later
 
   pub limits : IsLayout l
   limits = may.on.heap.limits
@@ -112,9 +120,9 @@ module _ (l : Layout) (s : Setting) (log : List (ℕ × Record)) (cut : ℕ → 
 
   -- what is written of the lanes' new records, where so many of each lane are skipped
   abbrev pub written : (skipped : List ℕ) → ℕ → List UndoRecord
-  written skipped k = if k == H then helper else drop (slice_index skipped k) (fresh k)
+  written skipped k = if k == t then helper else drop (slice_index skipped k) (fresh k)
 
-  module _ (k : ℕ) (low : k < H) where
+  module _ (k : ℕ) (low : k < t) where
     abbrev A : List UndoRecord
     A = reverse (undo_logs log k)
 
@@ -153,13 +161,13 @@ module _ (l : Layout) (s : Setting) (log : List (ℕ × Record)) (cut : ℕ → 
     were : reverse (undo_logs old k) ≡ take (n - (row_of c.rows k).start) (drop (row_of c.rows k).start A) ++ drop n A
     were =
         let at : (row_of c.rows k).start + (n - (row_of c.rows k).start) ≡ n = omega (arith, up) in
-        ap (λ (xs : List UndoRecord). reverse xs) (thread_logs l s log cut sections k low) ∙ since_behind cut k log ∙ ap (λ (i : ℕ). drop i A) (sym (may.on.tells.start k low))
+        ap (λ (xs : List UndoRecord). reverse xs) (thread_logs t s log cut sections k low) ∙ since_behind cut k log ∙ ap (λ (i : ℕ). drop i A) (sym (may.on.tells.start k low))
         ∙ sym (take-append-drop (n - (row_of c.rows k).start) (drop (row_of c.rows k).start A))
         ∙ ap (λ (xs : List UndoRecord). take (n - (row_of c.rows k).start) (drop (row_of c.rows k).start A) ++ xs) (drop-drop (n - (row_of c.rows k).start) (row_of c.rows k).start A ∙ ap (λ (i : ℕ). drop i A) at)
 
     are : reverse (undo_logs new k) ≡ drop n A ++ drop (n - (row_of c.rows k).logged) (fresh k)
     are =
-        ap (λ (xs : List UndoRecord). reverse xs) (thread_logs l s all (counts_of next) later k low) ∙ since_behind (counts_of next) k all ∙ (λ i. drop (sym (may.behind k low) i) (all_back i))
+        ap (λ (xs : List UndoRecord). reverse xs) (thread_logs t s all (counts_of next) later k low) ∙ since_behind (counts_of next) k all ∙ (λ i. drop (sym (may.behind k low) i) (all_back i))
         ∙ drop_seam n A (fresh k) ∙ ap (λ (m : ℕ). drop n A ++ drop (n - m) (fresh k)) A_long
 
     stay_begins : (drop n A ≡ []) ⊎ (n ≡ (row_of c.rows k).start + length (take (n - (row_of c.rows k).start) (drop (row_of c.rows k).start A)))
@@ -169,21 +177,21 @@ module _ (l : Layout) (s : Setting) (log : List (ℕ × Record)) (cut : ℕ → 
     ]
 
   module _ (skipped : List ℕ) (from rows : List LaneRow)
-      (skips : (k : ℕ) → k < H → slice_index skipped k ≡ slice_index places k - (row_of c.rows k).logged)
-      (from_lanes : (k : ℕ) → k < H → row_of from k ≡ record (row_of c.rows k) { logged = max (row_of c.rows k).logged (slice_index places k) })
-      (from_rest : (k : ℕ) → H ≤ k → row_of from k ≡ row_of c.rows k)
-      (next_lanes : (k : ℕ) → k < H → row_of rows k ≡ record { start = slice_index places k; settled = slice_index places k; logged = (row_of c.rows k).logged + length (fresh k); kept = counts_of next k })
-      (next_helper : row_of rows H ≡ record { start = (row_of c.rows H).logged; settled = (row_of c.rows H).logged; logged = (row_of c.rows H).logged + length helper; kept = (row_of c.rows H).kept + given })
-      (next_rest : (k : ℕ) → H < k → row_of rows k ≡ row_of c.rows k)
+      (skips : (k : ℕ) → k < t → slice_index skipped k ≡ slice_index places k - (row_of c.rows k).logged)
+      (from_lanes : (k : ℕ) → k < t → row_of from k ≡ record (row_of c.rows k) { logged = max (row_of c.rows k).logged (slice_index places k) })
+      (from_rest : (k : ℕ) → t ≤ k → row_of from k ≡ row_of c.rows k)
+      (next_lanes : (k : ℕ) → k < t → row_of rows k ≡ record { start = slice_index places k; settled = slice_index places k; logged = (row_of c.rows k).logged + length (fresh k); kept = counts_of next k })
+      (next_helper : t < l.lanes → row_of rows t ≡ record (row_of c.rows t) { start = (row_of c.rows t).logged; settled = (row_of c.rows t).logged; logged = (row_of c.rows t).logged + length helper })
+      (next_rest : (k : ℕ) → l.lanes ≤ k → row_of rows k ≡ row_of c.rows k)
       (next_size : length rows ≡ length c.rows) where
     -- a thread's lane
-    thread_goes : (k : ℕ) → k < H → GoesOnIn l (row_of c.rows k) (undo_logs old k) (row_of from k) (drop (slice_index places k - (row_of c.rows k).logged) (fresh k)) (row_of rows k) (undo_logs new k)
+    thread_goes : (k : ℕ) → k < t → GoesOnIn l (row_of c.rows k) (undo_logs old k) (row_of from k) (drop (slice_index places k - (row_of c.rows k).logged) (fresh k)) (row_of rows k) (undo_logs new k)
     thread_goes k low =
         let o : LaneRow = row_of c.rows k in
         let f : LaneRow = row_of from k in
         let r : LaneRow = row_of rows k in
         let p : ℕ = slice_index places k in
-        let is : IsRow l.capacity o = old_row k (omega (arith, low)) in
+        let is : IsRow l.capacity o = old_row k (omega (arith, low, may.on.round.within)) in
         let fits : FitsLane l o (fresh k) = may.fits k low in
         let tail : ℕ = p - o.logged in
         let f_start : f.start ≡ o.start = ap (λ (x : LaneRow). x.start) (from_lanes k low) in
@@ -220,47 +228,50 @@ module _ (l : Layout) (s : Setting) (log : List (ℕ × Record)) (cut : ℕ → 
         }
 
     -- the helper's
-    helper_goes : GoesOnIn l (row_of c.rows H) (undo_logs old H) (row_of from H) helper (row_of rows H) (undo_logs new H)
-    helper_goes =
-        let o : LaneRow = row_of c.rows H in
-        let same : row_of from H ≡ o = from_rest H (omega arith) in
-        let r_start : (row_of rows H).start ≡ o.logged = ap (λ (x : LaneRow). x.start) next_helper in
-        let r_logged : (row_of rows H).logged ≡ o.logged + length helper = ap (λ (x : LaneRow). x.logged) next_helper in
-        let f_logged : (row_of from H).logged ≡ o.logged = ap (λ (x : LaneRow). x.logged) same in
+    helper_goes : t < l.lanes → GoesOnIn l (row_of c.rows t) (undo_logs old t) (row_of from t) helper (row_of rows t) (undo_logs new t)
+    helper_goes there =
+        let o : LaneRow = row_of c.rows t in
+        let same : row_of from t ≡ o = from_rest t (omega arith) in
+        let r_start : (row_of rows t).start ≡ o.logged = ap (λ (x : LaneRow). x.start) (next_helper there) in
+        let r_logged : (row_of rows t).logged ≡ o.logged + length helper = ap (λ (x : LaneRow). x.logged) (next_helper there) in
+        let f_logged : (row_of from t).logged ≡ o.logged = ap (λ (x : LaneRow). x.logged) same in
         record {
-          given = reverse (undo_logs old H);
+          given = reverse (undo_logs old t);
           stay = [];
-          were = sym (append-nil (reverse (undo_logs old H)));
-          are = ap (λ (xs : List UndoRecord). reverse xs) (helper_logs l s all (counts_of next) later may.lanes) ∙ sym may.helper_are;
+          were = sym (append-nil (reverse (undo_logs old t)));
+          are = ap (λ (xs : List UndoRecord). reverse xs) (helper_logs t s all (counts_of next) later may.lanes) ∙ sym may.helper_are;
           begins = inl refl;
           behind = omega (arith, f_logged, r_start);
           ends = omega (arith, f_logged, r_logged);
-          row = subst (IsRow l.capacity) (sym same) (old_row H (omega (arith, limits.lanes.0)));
-          fits = subst (λ (x : LaneRow). FitsLane l x helper) (sym same) may.helper_fits;
+          row = subst (IsRow l.capacity) (sym same) (old_row t there);
+          fits = subst (λ (x : LaneRow). FitsLane l x helper) (sym same) (may.helper_fits there);
           start = omega (arith, ap (λ (x : LaneRow). x.start) same);
           past = omega (arith, f_logged);
         }
 
     lane_goes : (k : ℕ) → k < l.lanes → GoesOnIn l (row_of c.rows k) (undo_logs old k) (row_of from k) (written skipped k) (row_of rows k) (undo_logs new k)
-    lane_goes k low = elim (cases_eq k H) [
-      | inl e ↦ subst (λ (xs : List UndoRecord). GoesOnIn l (row_of c.rows k) (undo_logs old k) (row_of from k) xs (row_of rows k) (undo_logs new k)) (sym (if_same k H helper (drop (slice_index skipped k) (fresh k)) e))
-          (subst (λ (j : ℕ). GoesOnIn l (row_of c.rows j) (undo_logs old j) (row_of from j) helper (row_of rows j) (undo_logs new j)) (sym e) helper_goes)
-      | inr ne ↦ subst (λ (xs : List UndoRecord). GoesOnIn l (row_of c.rows k) (undo_logs old k) (row_of from k) xs (row_of rows k) (undo_logs new k)) (sym (if_apart k H helper (drop (slice_index skipped k) (fresh k)) ne))
-          (let below : k < H = omega (arith, low, ne) in
+    lane_goes k low = elim (cases_eq k t) [
+      | inl e ↦ subst (λ (xs : List UndoRecord). GoesOnIn l (row_of c.rows k) (undo_logs old k) (row_of from k) xs (row_of rows k) (undo_logs new k)) (sym (if_same k t helper (drop (slice_index skipped k) (fresh k)) e))
+          (subst (λ (j : ℕ). GoesOnIn l (row_of c.rows j) (undo_logs old j) (row_of from j) helper (row_of rows j) (undo_logs new j)) (sym e) (helper_goes (omega (arith, low, e))))
+      | inr ne ↦ subst (λ (xs : List UndoRecord). GoesOnIn l (row_of c.rows k) (undo_logs old k) (row_of from k) xs (row_of rows k) (undo_logs new k)) (sym (if_apart k t helper (drop (slice_index skipped k) (fresh k)) ne))
+          (let below : k < t = omega (arith, low, ne, may.all_lanes) in
           subst (λ (i : ℕ). GoesOnIn l (row_of c.rows k) (undo_logs old k) (row_of from k) (drop i (fresh k)) (row_of rows k) (undo_logs new k)) (sym (skips k below)) (thread_goes k below))
     ]
 
     next_row : (k : ℕ) → k < l.lanes → IsRow l.capacity (row_of rows k)
-    next_row k low = elim (cases_eq k H) [
-      | inl e ↦ subst (λ (j : ℕ). IsRow l.capacity (row_of rows j)) (sym e) (subst (IsRow l.capacity) (sym next_helper) (record {
-        settled = omega arith;
-        logged = omega arith;
-        limit = may.helper_fits.limit;
-        kept = may.helper_kept;
-        fits = omega (arith, may.helper_fits.room);
-      }))
+    next_row k low = elim (cases_eq k t) [
+      | inl e ↦
+          let there : t < l.lanes = omega (arith, low, e) in
+          let o : IsRow l.capacity (row_of c.rows t) = old_row t there in
+          subst (λ (j : ℕ). IsRow l.capacity (row_of rows j)) (sym e) (subst (IsRow l.capacity) (sym (next_helper there)) (record {
+            settled = omega arith;
+            logged = omega arith;
+            limit = (may.helper_fits there).limit;
+            kept = omega (arith, o.kept, o.logged);
+            fits = omega (arith, (may.helper_fits there).room);
+          }))
       | inr ne ↦
-          let below : k < H = omega (arith, low, ne) in
+          let below : k < t = omega (arith, low, ne, may.all_lanes) in
           subst (IsRow l.capacity) (sym (next_lanes k below)) (record {
             settled = omega arith;
             logged = within k below;
@@ -278,31 +289,42 @@ module _ (l : Layout) (s : Setting) (log : List (ℕ × Record)) (cut : ℕ → 
       covered = may.covered;
       homes = may.homes;
       lanes = lane_goes;
-      others = λ k past. no_logs l s all (counts_of next) later may.lanes k (omega (arith, past, limits.lanes.0));
-      rows_fit = are_rows l rows (next_size ∙ old_rows.size) next_row (λ k past. next_rest k (omega (arith, past, limits.lanes.0)) ∙ rest_is l c.rows old_rows k past);
-      unsettled = λ k low. elim (cases_eq k H) [
-        | inl e ↦ subst (λ (j : ℕ). (row_of rows j).settled ≡ (row_of rows j).start) (sym e) (ap (λ (x : LaneRow). x.settled) next_helper ∙ sym (ap (λ (x : LaneRow). x.start) next_helper))
-        | inr ne ↦ let below : k < H = omega (arith, low, ne) in ap (λ (x : LaneRow). x.settled) (next_lanes k below) ∙ sym (ap (λ (x : LaneRow). x.start) (next_lanes k below))
+      others = λ k past. no_logs t s all (counts_of next) later may.lanes k (omega (arith, past, may.on.round.within)) (elim may.helper_lane [ inl none ↦ inl none | inr there ↦ inr (λ e. omega (arith, e, past, there)) ]);
+      rows_fit = are_rows l rows (next_size ∙ old_rows.size) next_row (λ k past. next_rest k past ∙ rest_is l c.rows old_rows k past);
+      unsettled = λ k low. elim (cases_eq k t) [
+        | inl e ↦ let there : t < l.lanes = omega (arith, low, e) in subst (λ (j : ℕ). (row_of rows j).settled ≡ (row_of rows j).start) (sym e) (ap (λ (x : LaneRow). x.settled) (next_helper there) ∙ sym (ap (λ (x : LaneRow). x.start) (next_helper there)))
+        | inr ne ↦ let below : k < t = omega (arith, low, ne, may.all_lanes) in ap (λ (x : LaneRow). x.settled) (next_lanes k below) ∙ sym (ap (λ (x : LaneRow). x.start) (next_lanes k below))
       ];
     }
 
-    tells_next : TellsRound l all (counts_of next) rows
+    -- a new row counts the cut's sections, and the helper's none
+    kept_next : (k : ℕ) → k < l.lanes → (row_of rows k).kept ≡ counts_of next k
+    kept_next k low = elim (cases_eq k t) [
+      | inr ne ↦ let below : k < t = omega (arith, low, ne, may.all_lanes) in ap (λ (x : LaneRow). x.kept) (next_lanes k below)
+      | inl e ↦
+          let there : t < l.lanes = omega (arith, low, e) in
+          let none : cut t ≡ 0 = uncounted t t log cut may.on.round.lanes may.on.round.whole (omega arith) in
+          let still : counts_of next t ≡ 0 = uncounted t t all (counts_of next) may.lanes may.whole (omega arith) in
+          subst (λ (j : ℕ). (row_of rows j).kept ≡ counts_of next j) (sym e) (ap (λ (x : LaneRow). x.kept) (next_helper there) ∙ may.on.tells.kept t there ∙ none ∙ sym still)
+    ]
+
+    tells_next : TellsRound l t all (counts_of next) rows
     tells_next = record {
       start = λ k low. ap (λ (x : LaneRow). x.start) (next_lanes k low) ∙ may.behind k low;
       logged = λ k low. ap (λ (x : LaneRow). x.logged) (next_lanes k low) ∙ sym (all_long k low);
-      kept = λ k low. ap (λ (x : LaneRow). x.kept) (next_lanes k low);
+      kept = kept_next;
     }
 
-    pub round_on : (now : Committed) (e : Device) → now.rows ≡ rows → IsHeapOn l (from_heap s heap) new now e → IsRoundOn l s all (counts_of next) later now e
+    pub round_on : (now : Committed) (e : Device) → now.rows ≡ rows → IsHeapOn l (from_heap s heap) new now e → IsRoundOn l t s all (counts_of next) later now e
     round_on now e is on = record {
-      round = record { legal = may.legal; whole = may.whole; closed = may.closed; lanes = may.lanes; preceding = may.preceding };
-      tells = subst (TellsRound l all (counts_of next)) (sym is) tells_next;
+      round = record { legal = may.legal; whole = may.whole; closed = may.closed; lanes = may.lanes; within = may.on.round.within; helper = may.helper_lane; preceding = may.preceding };
+      tells = subst (TellsRound l t all (counts_of next)) (sym is) tells_next;
       heap = on;
     }
 
     -- what an image shows of the heaps it shows of the cuts
     abbrev pub Either : List ℕ → Type 0
-    Either image = ShowsRound l s log cut sections image ⊎ ShowsRound l s all (counts_of next) later image
+    Either image = ShowsRound l t s log cut sections image ⊎ ShowsRound l t s all (counts_of next) later image
 
     pub either_round : (image : List ℕ) → ShowsEitherHeap l (from_heap s (kept_by s log cut)) old c.rows heap new rows image → Either image
     either_round image (inl shown) = inl (record { heap = shown.heap; kept = λ k low. ap (λ (rs : List LaneRow). (row_of rs k).kept) shown.rows_are ∙ may.on.tells.kept k low })

@@ -1,5 +1,5 @@
 -- Rounds of two syncs may follow those of a store (this project's own).
-use Rattle.std.specs.Prelude.{[]}
+use Rattle.std.specs.Prelude.{ℕ, ◌≤◌, []}
 use Rattle.heap_model.specs.Log.{IsOfLanes}
 use Rattle.heap_model.specs.Setting.{Setting}
 use Rattle.block_disk.specs.Device.{Device}
@@ -7,10 +7,9 @@ use Rattle.image.specs.declared.layout.Layout.{Layout}
 use Rattle.store_past.specs.Past.{IsTrimmed, Past}
 use Rattle.store_image.specs.Consistent.{IsConsistent}
 use Rattle.store_image.specs.declared.committed.Committed.{Committed}
-use Rattle.helper_sections.specs.Image.{helper_lane}
 use Rattle.round_making.specs.Rounds.{IsRoundOn}
 
 -- A store's device is as a round of two syncs wants it, with no section of the helper's, once all that is acknowledged was trimmed, where
--- the last lane is no thread's.
+-- all records are of the first t lanes.
 abbrev pub JoinLaw : Type 0
-JoinLaw = (l : Layout) (s : Setting) (p : Past) (c : Committed) (d : Device) → IsConsistent l s p c d → IsTrimmed p → IsOfLanes (helper_lane l) p.logged → IsRoundOn l s p.logged p.cut [] c d
+JoinLaw = (l : Layout) (t : ℕ) (s : Setting) (p : Past) (c : Committed) (d : Device) → IsConsistent l s p c d → IsTrimmed p → IsOfLanes t p.logged → t ≤ l.lanes → IsRoundOn l t s p.logged p.cut [] c d

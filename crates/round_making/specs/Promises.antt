@@ -16,20 +16,20 @@ use Rattle.helper_sections.specs.Image.{ShowsRound}
 use Rattle.round_image.specs.declared.cells.HomeValue.{HomeValue}
 use Rattle.round_making.specs.Rounds.{IsRoundOn, MayMake}
 
-module _ (l : Layout) (next : Cut) (places : List ℕ) (cells : List HomeValue) (fresh : ℕ → List UndoRecord) (helper : List UndoRecord) (given : ℕ) (c : Committed) (d : Device) where
+module _ (l : Layout) (t : ℕ) (next : Cut) (places : List ℕ) (cells : List HomeValue) (fresh : ℕ → List UndoRecord) (helper : List UndoRecord) (c : Committed) (d : Device) where
   -- the cut of all that was applied is acknowledged
   abbrev pub Makes : {T : Type 0} → Committed → Device → Result T StoreError → Type 0
   Makes c' d' result = (s : Setting) (log : List (ℕ × Record)) (cut : ℕ → ℕ) (sections : List HelperSection) (newer : List (ℕ × Record)) (later : List HelperSection) →
-      MayMake l s log cut sections newer later c d next places cells fresh helper given → OnOk result (IsRoundOn l s (newer ++ log) (counts_of next) later c' d')
+      MayMake l t s log cut sections newer later c d next places cells fresh helper → OnOk result (IsRoundOn l t s (newer ++ log) (counts_of next) later c' d')
 
   -- at each moment a crash leaves an image that shows the old cut or the new one
   abbrev pub MakeShows : Device → Type 0
   MakeShows d' = (s : Setting) (log : List (ℕ × Record)) (cut : ℕ → ℕ) (sections : List HelperSection) (newer : List (ℕ × Record)) (later : List HelperSection) →
-      MayMake l s log cut sections newer later c d next places cells fresh helper given →
-      LeavesOnly d d' (λ image. ShowsRound l s log cut sections image ⊎ ShowsRound l s (newer ++ log) (counts_of next) later image)
+      MayMake l t s log cut sections newer later c d next places cells fresh helper →
+      LeavesOnly d d' (λ image. ShowsRound l t s log cut sections image ⊎ ShowsRound l t s (newer ++ log) (counts_of next) later image)
 
   -- after the call a crash leaves such an image
   abbrev pub MakeKeeps : Device → Type 0
   MakeKeeps d' = (s : Setting) (log : List (ℕ × Record)) (cut : ℕ → ℕ) (sections : List HelperSection) (newer : List (ℕ × Record)) (later : List HelperSection) →
-      MayMake l s log cut sections newer later c d next places cells fresh helper given →
-      Always d' (λ image. ShowsRound l s log cut sections image ⊎ ShowsRound l s (newer ++ log) (counts_of next) later image)
+      MayMake l t s log cut sections newer later c d next places cells fresh helper →
+      Always d' (λ image. ShowsRound l t s log cut sections image ⊎ ShowsRound l t s (newer ++ log) (counts_of next) later image)

@@ -22,8 +22,8 @@ use store_past::{NewRecords, StoreError};
 
 /// Takes the threads' newer records on, and acknowledges this cut of all that was applied; `places` are behind the cut's sections.
 /// It writes these cells, the records of the helper's sections, and of the threads' newer records those beyond the cut; makes them
-/// durable together with the body of the next control; and turns its gate: two syncs. `given` sections of the helper's, those of the
-/// last round, are given up.
+/// durable together with the body of the next control; and turns its gate: two syncs. The sections of the last round's in the helper's
+/// lane are given up. The first `threads` lanes are the threads', and the one behind them is the helper's; without one, `helper` is empty.
 ///
 /// Refusals, in this order:
 /// - `Worn`: the control's sequence is at its last value, 2^64 - 1. The device isn't called;
@@ -32,18 +32,18 @@ pub fn make_round<D: Disk, F: NewRecords>(
     disk: &mut D,
     layout: &Layout,
     committed: &mut Committed,
+    threads: u8,
     next: &Cut,
     places: &[u64; 32],
     cells: &[HomeValue],
     fresh: &F,
     helper: &[UndoRecord],
-    given: u64,
 ) -> Result<(), StoreError>
     requires lanes { layout.now.lanes ≤ F.lanes fresh.now }
     requires makes { (s : Setting) × (log : List (ℕ × Record)) × (cut : ℕ → ℕ) × (sections : List HelperSection) × (newer : List (ℕ × Record)) × (later : List HelperSection)
-        × MayMake layout.now s log cut sections newer later committed.old (D.device disk.old) next.now places.now cells.now (F.fresh fresh.now) helper.now given }
+        × MayMake layout.now threads s log cut sections newer later committed.old (D.device disk.old) next.now places.now cells.now (F.fresh fresh.now) helper.now }
     // After a round of two syncs the cut of all that was applied is acknowledged.
-    ensures ok { Makes layout.now next.now places.now cells.now (F.fresh fresh.now) helper.now given committed.old
+    ensures ok { Makes layout.now threads next.now places.now cells.now (F.fresh fresh.now) helper.now committed.old
         (D.device disk.old) committed.new (D.device disk.new) result }
     // A round is refused as `Worn` exactly where the control's sequence is at its last value.
     ensures worn { IsErrOf result Worn ↔ (committed.old.sequence ≡ 2 ^ 64 - 1) }
@@ -52,27 +52,26 @@ pub fn make_round<D: Disk, F: NewRecords>(
     ensures err { OnErr result (committed.new ≡ committed.old) }
     ensures sequence { committed.new.sequence ≤ committed.old.sequence + 1 }
     // At each moment of a round of two syncs a crash leaves an image that shows the cut acknowledged before or the new one.
-    ensures any_moment { MakeShows layout.now next.now places.now cells.now (F.fresh fresh.now) helper.now given committed.old
+    ensures any_moment { MakeShows layout.now threads next.now places.now cells.now (F.fresh fresh.now) helper.now committed.old
         (D.device disk.old) (D.device disk.new) }
     ensures any_sequence { LeavesOnly (D.device disk.old) (D.device disk.new)
         (ShowsUpTo layout.now (committed.old.sequence + 1)) }
     ensures within { LeavesBut (step_ranges layout.now) (D.device disk.old) (D.device disk.new) }
     // However a round of two syncs ends, a crash leaves an image that shows the cut acknowledged before or the new one.
-    ensures crash { MakeKeeps layout.now next.now places.now cells.now (F.fresh fresh.now) helper.now given committed.old
+    ensures crash { MakeKeeps layout.now threads next.now places.now cells.now (F.fresh fresh.now) helper.now committed.old
         (D.device disk.old) (D.device disk.new) }
     ensures cause { HasCauseSince (D.device disk.old) (D.device disk.new) Fault result }
 {
-    let threads = layout.lanes - 1;
     let skipped = skips(threads, &committed.rows, places);
     let from = from_rows(threads, &committed.rows, places);
     let rows = next_rows(
         threads,
+        layout.lanes,
         &committed.rows,
         fresh,
         next,
         places,
         helper.len() as u64,
-        given,
     );
     let records = RoundRecords {
         threads: fresh,

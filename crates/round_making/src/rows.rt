@@ -36,22 +36,23 @@ pub(crate) fn from_rows(threads: u8, rows: &[LaneRow; 32], places: &[u64; 32]) -
     from
 }
 
-/// The rows of the next control: a thread's lane begins behind the cut's sections, and the helper's behind those of the last round.
+/// The rows of the next control: a thread's lane begins behind the cut's sections, and the helper's, if there is one, behind those of
+/// the last round. `lanes` is how many lanes there are.
 pub(crate) fn next_rows<F: NewRecords>(
     threads: u8,
+    lanes: u8,
     rows: &[LaneRow; 32],
     fresh: &F,
     next: &Cut,
     places: &[u64; 32],
     helper: u64,
-    given: u64,
 ) -> [LaneRow; 32]
-    requires few { threads < 32 }
+    requires few { lanes ≤ 32 }
+    requires within { threads ≤ lanes }
     requires lanes { threads ≤ F.lanes fresh.now }
     requires limit { (lane : ℕ) → lane < threads
         → (row_of rows.now lane).logged + length (F.fresh fresh.now lane) ≤ 2 ^ 63 }
-    requires helper_limit { (row_of rows.now threads).logged + helper ≤ 2 ^ 63 }
-    requires kept { (row_of rows.now threads).kept + given ≤ (row_of rows.now threads).logged }
+    requires helper_limit { threads < lanes → (row_of rows.now threads).logged + helper ≤ 2 ^ 63 }
     ensures lanes { (lane : ℕ) → lane < threads → row_of result lane
         ≡ record {
           start = slice_index places.now lane;
@@ -59,24 +60,25 @@ pub(crate) fn next_rows<F: NewRecords>(
           logged = (row_of rows.now lane).logged + length (F.fresh fresh.now lane);
           kept = slice_index next.now.counts lane;
         } }
-    ensures helper { row_of result threads
-        ≡ record {
+    ensures helper { threads < lanes → row_of result threads
+        ≡ record (row_of rows.now threads) {
           start = (row_of rows.now threads).logged;
           settled = (row_of rows.now threads).logged;
           logged = (row_of rows.now threads).logged + helper;
-          kept = (row_of rows.now threads).kept + given;
         } }
-    ensures rest { (lane : ℕ) → threads < lane → row_of result lane ≡ row_of rows.now lane }
+    ensures rest { (lane : ℕ) → lanes ≤ lane → row_of result lane ≡ row_of rows.now lane }
     ensures size { length result ≡ length rows.now }
 {
     let mut following = thread_rows(threads, rows, fresh, next, places);
-    let row = rows[usize::from(threads)];
-    following[usize::from(threads)] = LaneRow {
-        start: row.logged,
-        settled: row.logged,
-        logged: row.logged + helper,
-        kept: row.kept + given,
-    };
+    if threads < lanes {
+        let row = rows[usize::from(threads)];
+        following[usize::from(threads)] = LaneRow {
+            start: row.logged,
+            settled: row.logged,
+            logged: row.logged + helper,
+            ..row
+        };
+    }
     following
 }
 

@@ -132,7 +132,7 @@ module _ (l : Layout) (s : Setting) (records : List (ℕ × Record)) (image : Li
   young : IsOfOldVersion image → ⊥
   young old = not_old Current image l (guards l s records image going shown) shown.slot shown.control (has_control l s records image going shown) (λ _ version. omega (arith, version, shown.current)) old
 
-  pub gives : StudiedLaw → Gives l s.first (λ lane. (row_of shown.control.rows lane).kept) l.lanes image
+  pub gives : StudiedLaw → Gives l s.first (λ lane. (row_of shown.control.rows lane).kept) image
   gives refused_none = record {
     accepted = record {
       study = study;

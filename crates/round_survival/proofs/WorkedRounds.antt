@@ -34,12 +34,14 @@ closed a b counted (Took o n took freed apart) = absurd (none_taken a o n took c
 legal : IsLegal worked_setting worked_log
 legal = (((((tt, (refl, refl, omega arith), tt, omega arith), (refl, refl), tt, (omega arith, refl)), (refl, refl), tt, omega arith), (refl, refl, omega arith), tt, omega arith), (refl, refl), tt, (omega arith, refl))
 
-round : IsRoundOf worked_layout worked_setting worked_log worked_cut (worked_section 0 ∷ [])
+round : IsRoundOf worked_layout 2 worked_setting worked_log worked_cut (worked_section 0 ∷ [])
 round = record {
   legal = legal;
   whole = whole;
   closed = closed;
   lanes = (omega arith, (omega arith, (omega arith, (omega arith, (omega arith, tt)))));
+  within = omega arith;
+  helper = inr (omega arith);
   preceding = (record { object = omega arith; fields = (omega arith, refl, refl, tt); number = omega arith; before = refl }, tt, tt);
 }
 

@@ -37,7 +37,7 @@ worked_section n = record { guard = first_object; number = n; fields = first_fie
 
 -- There is such a round, and it keeps what the first thread stored; at no other number may the helper's section stand.
 pub record WorkedRound : Type 0 where
-  pub round : IsRoundOf worked_layout worked_setting worked_log worked_cut (worked_section 0 ∷ [])
+  pub round : IsRoundOf worked_layout 2 worked_setting worked_log worked_cut (worked_section 0 ∷ [])
   pub first : kept_by worked_setting worked_log worked_cut 0 ≡ 5
   pub second : kept_by worked_setting worked_log worked_cut 1 ≡ 20
   pub number : (n : ℕ) → ArePreceding worked_setting (records_since worked_cut worked_log) (worked_section n ∷ []) → n ≡ 0

@@ -27,7 +27,7 @@ pub fn two_syncs_again_law()
     // holds of it with the acknowledged cut.
     ensures { RoundAgainLaw }
 {
-    recovery_law();
+    two_syncs_law();
 }
 
 /// What a crash leaves of rounds of two syncs (`round_making`), and what recovery gives of it.
