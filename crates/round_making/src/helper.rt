@@ -23,6 +23,8 @@ pub fn push_section(
         → records.new.items ≡ records.old.items ++ records_of heap (section_of guard first cells.now) }
     // A section of the helper's takes its guard at the number just before the first live record that takes it.
     ensures before { IsJustBefore first (number_before first) }
+    ensures len { vec_len records.new ≡ vec_len records.old + length cells.now + 2 }
+    ensures capacity { vec_capacity records.new ≡ vec_capacity records.old }
 {
     let number = before(first);
     records.push_reserved(UndoRecord::Acq {

@@ -1,0 +1,5 @@
+pub mod Numbers
+pub mod Runs
+pub mod Stores
+pub mod Rising
+pub mod Made
