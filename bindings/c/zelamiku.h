@@ -59,7 +59,7 @@ extern "C" {
 #define ZELAMIKU_MOST_HELD 16        /* monitors, by one session at once */
 #define ZELAMIKU_MOST_LOCKS 65536    /* of one monitor, by one session at once */
 #define ZELAMIKU_MOST_THIN_LOCKS 256 /* of a monitor that isn't among those of ZELAMIKU_MOST_FAT */
-#define ZELAMIKU_MOST_FAT 1024       /* monitors that were ever waited for, or locked more often than that, in one opening */
+#define ZELAMIKU_MOST_FAT 1024       /* objects on which wait was ever called, or that were locked more often, in one opening */
 #define ZELAMIKU_MOST_BYTES 4096     /* of a write */
 #define ZELAMIKU_MOST_SLOTS 16383    /* of a pool */
 

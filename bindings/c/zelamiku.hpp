@@ -1,5 +1,16 @@
 /* Zelamiku for C++17, over zelamiku.h; examples/cpp/counters.cpp is a program. What this lacks is called in C, by what number() answers.
  *
+ *     struct Accounts : zelamiku::Plan {
+ *         zelamiku::Object alice = object();
+ *         zelamiku::Field<std::int64_t> balance = field<std::int64_t>(alice, 100);
+ *     } const accounts;
+ *     zelamiku::Heap heap("accounts.heap", accounts);                            // made, or recovered
+ *     zelamiku::Session session(heap);                                           // one for each thread
+ *     session.synchronized(accounts.alice, [&] {                                 // a section
+ *         session.store(accounts.balance, session.load(accounts.balance) - 10);
+ *     });
+ *     session.durable();                                                         // returns when no crash can lose it
+ *
  * A call that fails throws an Error, and has done nothing. Destructors throw nothing. What was moved from answers NOTHING.
  * An exception that leaves a guard, or the work of `synchronized`, takes the whole section back (zelamiku_thread_revert) before the monitor
  * is given back. Caught under an outer guard, it leaves a section that can't store, wait or end well any more: each throws NOTHING. The

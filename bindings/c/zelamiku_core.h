@@ -203,8 +203,8 @@ ZELAMIKU_MUST_USE zelamiku_status zelamiku_close(zelamiku_handle *heap);
 
 /* Lets go of what a handle holds, which is as at the beginning then. A heap stops, as if the process had: what was acknowledged stays.
  * A session that is freed never ends, so its heap can't be closed any more (RUNNING). What it holds stays held: others that want those
- * monitors are answered HELD for as long as the heap is open. No section that depends on its last one is ever acknowledged, so that in
- * the end their sessions are BEHIND. zelamiku_look tells the lane that holds an object. If that lane's thread is gone, free the handles
+ * monitors are answered HELD for as long as the heap is open. Sections that depend on its last one are never acknowledged, and
+ * their sessions end up BEHIND. zelamiku_look tells the lane that holds an object. If that lane's thread is gone, free the handles
  * and open the heap again. The section that was cut off is dropped then, with those that depend on it. A thread that may be ended by
  * force, or end by itself in a section, costs its heap an opening. */
 void zelamiku_free(zelamiku_handle *handle);

@@ -1,4 +1,4 @@
-"""Objects of 64-bit fields in a file, for threads. Change them under locks; a crash shows each critical section whole or not at all.
+"""Objects of 64-bit fields in a file, for threads. Change them under locks; after a crash you find all of a critical section or nothing.
 
 ::
 

@@ -168,7 +168,7 @@ class Abandoned(Stopped):
 
 
 class Forked(Stopped):
-    """The heap is that of the process that has forked this one, where it goes on."""
+    """The heap belongs to the parent process, and goes on there."""
 
 
 class Kind(NamedTuple):

@@ -1,5 +1,5 @@
-//! A failure-atomic object heap for threads that synchronize by monitors. After a crash or a power failure each critical section is there
-//! whole or not at all, and never without the sections that it depends on.
+//! Shared 64-bit variables in a file, which threads change under locks. After a crash or a power failure you find all of a critical section's
+//! changes or none. If a section that is kept had seen another one's changes, these are kept too.
 //!
 //! A [`Heap`] is opened in a file, which is made or recovered and locked. Each thread has a [`Session`], and sleeps where it waits. All of it
 //! stands in [`service`] too, under the same names.
