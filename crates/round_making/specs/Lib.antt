@@ -4,3 +4,5 @@ pub mod Promises
 pub mod Joining
 pub mod Helper
 pub mod Beyond
+pub mod Turns
+pub mod Showing
