@@ -39,6 +39,13 @@ pub record Parts (D : Type 0) : Type 0 where
   pub disk : D
   pub known : Known
 
+-- The list of what cells lack has a field at most once, and the lists have room for each field of the image, or for each record of a lane.
+pub record HasRoom (l : Layout) (listed pending cells helper : ℕ) : Type 0 where
+  pub listed : listed ≤ l.fields
+  pub pending : l.fields ≤ pending
+  pub cells : l.fields ≤ cells
+  pub helper : l.capacity ≤ helper
+
 -- All lanes of the image are the threads' but for one at most, the last: that is the helper's. The store knows how many records each lane's
 -- area holds.
 pub record FitsLayout (x : Known) : Type 0 where

@@ -44,14 +44,15 @@ pub struct RoundStore<D: Disk> {
 impl<D: Disk> Model for RoundStore<D> {
     ghost use Rattle.heap_model.specs.Setting.{Setting};
     ghost use Rattle.store_past.specs.Past.{Past};
-    ghost use Rattle.round_store.specs.Store.{HasPast, Parts};
+    ghost use Rattle.std.specs.Prelude.{length, vec_capacity};
+    ghost use Rattle.round_store.specs.Store.{HasPast, HasRoom, Parts};
 
     ghost Value = { Parts D };
 
     ghost view = { λ x. record { disk = x.disk; known = record { layout = x.layout; threads = x.threads; committed = x.committed; memory = x.applied; sections = x.sections; rounds = x.rounds; guards = x.guards.items; pending = x.pending.items; has_failed = x.has_failed } } };
 
-    // (room of the three lists: the fields of the image, or the records of the helper's lane)
-    ghost invariant = { λ x. (s : Setting) × (p : Past) × HasPast (record { layout = x.layout; threads = x.threads; committed = x.committed; memory = x.applied; sections = x.sections; rounds = x.rounds; guards = x.guards.items; pending = x.pending.items; has_failed = x.has_failed }) s p (D.device x.disk) };
+    ghost invariant = { λ x. HasRoom x.layout (length x.pending.items) (vec_capacity x.pending) (vec_capacity x.cells) (vec_capacity x.helper)
+      × ((s : Setting) × (p : Past) × HasPast (record { layout = x.layout; threads = x.threads; committed = x.committed; memory = x.applied; sections = x.sections; rounds = x.rounds; guards = x.guards.items; pending = x.pending.items; has_failed = x.has_failed }) s p (D.device x.disk)) };
 }
 
 impl<D: Disk> RoundStore<D> {
