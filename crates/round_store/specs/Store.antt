@@ -1,5 +1,5 @@
 -- A store for rounds of two syncs: what it knows beside its device, and when it has a past (this project's own).
-use Rattle.std.specs.Prelude.{ℕ, ◌≡◌, ◌<◌, ◌≤◌, ◌+◌, ◌^◌, Bool, true, false, All, Contains, List, length, slice_index_or}
+use Rattle.std.specs.Prelude.{ℕ, ◌≡◌, ◌<◌, ◌≤◌, ◌+◌, ◌-◌, ◌^◌, Bool, true, false, All, Contains, List, length, slice_index_or}
 use Rattle.heap_model.specs.declared.ids.ObjectId.{ObjectId}
 use Rattle.heap_model.specs.Setting.{Setting}
 use Rattle.block_disk.specs.Device.{Device}
@@ -40,11 +40,11 @@ pub record Parts (D : Type 0) : Type 0 where
   pub known : Known
 
 -- The list of what cells lack has a field at most once, and the lists have room for each field of the image, or for each record of a lane.
-pub record HasRoom (l : Layout) (listed pending cells helper : ℕ) : Type 0 where
-  pub listed : listed ≤ l.fields
-  pub pending : l.fields ≤ pending
-  pub cells : l.fields ≤ cells
-  pub helper : l.capacity ≤ helper
+pub record HasRoom (l : Layout) (many pending_room cells_room helper_room : ℕ) : Type 0 where
+  pub listed : many ≤ l.fields
+  pub pending : l.fields ≤ pending_room
+  pub cells : l.fields ≤ cells_room
+  pub helper : l.capacity ≤ helper_room
 
 -- All lanes of the image are the threads' but for one at most, the last: that is the helper's. The store knows how many records each lane's
 -- area holds.
@@ -57,6 +57,8 @@ pub record FitsLayout (x : Known) : Type 0 where
   pub capacity : x.memory.capacity ≡ x.layout.capacity
   pub logged_lanes : x.sections.lanes ≡ x.threads
   pub logged_capacity : x.sections.capacity ≡ x.layout.capacity
+  pub rounds_lanes : x.rounds.lanes ≡ x.threads
+  pub rounds_capacity : x.rounds.capacity ≡ x.layout.capacity
 
 -- The setting has the objects and fields of the image with their guards, and its release numbers fit a record.
 pub record FitsImage (x : Known) (s : Setting) : Type 0 where
