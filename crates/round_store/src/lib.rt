@@ -6,9 +6,12 @@
 //! acknowledged cut of what was applied, or the one that the round acknowledges. [`RoundStore::flush`] brings the kept values home.
 #![tactic(auto)]
 
+mod beginning;
+mod laws;
 mod meeting;
 mod rounds;
 mod store;
 mod turning;
 
+pub use laws::{apply_run_law, flush_run_law, round_run_law, run_on_law};
 pub use store::RoundStore;

@@ -3,9 +3,10 @@ ghost use Rattle.std.specs.Prelude.{◌≡◌, ◌<◌, ◌≤◌, ◌+◌, ◌-
 ghost use Rattle.round_store.specs.Steps.{Applies, IsHome};
 ghost use Rattle.round_store.specs.Stops.{BeginsWith, HasAcknowledged, HasFirstValue, HasTrimmed, HasValue, RestsAcknowledged, ShowsAtStop};
 
+use crate::beginning::new_memory;
 use block_disk::Disk;
-use heap_model::{FieldId, Lane, ObjectId, Record, UndoRecord};
-use image::{Layout, Recovered};
+use heap_model::{FieldId, Lane, LaneRecord, ObjectId, Record, UndoRecord};
+use image::{Layout, Recovered, RecoveredParts};
 use round_image::HomeValue;
 use round_memory::RoundMemory;
 use std::alloc::{AllocError, Global};
@@ -82,6 +83,36 @@ impl<D: Disk> RoundStore<D> {
         ensures sequence { IfOk result (λ x. x.known.committed.sequence ≡ recovered.sequence) }
         // After want of memory the device is given back as it was.
         ensures refused { IfErr result (λ back. back.0 ≡ recovered) }
+    {
+        let RecoveredParts {
+            disk,
+            layout,
+            guards,
+            slot,
+            sequence,
+            heap,
+        } = recovered.into_parts();
+        match new_memory(alloc, &layout, threads, &guards, &heap, last) {
+            Ok((memories, lists)) => Ok(RoundStore {
+                disk,
+                layout,
+                threads,
+                committed: Committed::empty(slot, sequence),
+                applied: memories.applied,
+                sections: memories.sections,
+                rounds: memories.rounds,
+                guards: lists.guards,
+                pending: lists.pending,
+                cells: lists.cells,
+                helper: lists.helper,
+                has_failed: false,
+            }),
+            Err(error) => Err((
+                Recovered::of(disk, layout, guards, slot, sequence, heap),
+                error,
+            )),
+        }
+    }
 
     /// Applies the lane's next record, in memory alone and in constant time.
     ///
@@ -96,6 +127,8 @@ impl<D: Disk> RoundStore<D> {
             return Err(StoreError::Failed);
         }
         self.applied.apply(lane, next)?;
+        // (each lane stays within its area: the two below have room)
+        let _fresh = self.applied.fresh();
         self.sections.push(lane, next);
         self.rounds.extend(&[LaneRecord { lane, record: next }]);
         Ok(())
