@@ -1,5 +1,5 @@
 -- What a store has after a record was applied.
-use Rattle.std.proofs.Common.{ℕ, ◌≡◌, ◌+◌, ◌<◌, ◌≤◌, ◌^◌, false, true, List, [], ◌∷◌, ◌++◌, Result, Ok, Err, OnOk, OnErr, MatchResult, length, refl, sym, ap, ◌∙◌, subst, arith}
+use Rattle.std.proofs.Common.{ℕ, ◌≡◌, ◌+◌, ◌<◌, ◌≤◌, ◌^◌, ◌≢◌, false, true, List, [], ◌∷◌, ◌++◌, Result, Ok, Err, OnOk, OnErr, MatchResult, length, refl, sym, ap, ◌∙◌, subst, arith}
 use Rattle.std.specs.Prelude.{All}
 use Rattle.std.proofs.lemmas.List.Elements.{All-nil, All-cons}
 use Rattle.heap_model.specs.declared.record.LaneRecord.{LaneRecord}
@@ -20,7 +20,7 @@ use Rattle.store_memory.specs.Sections.{Logged, MayBeLogged, TellsSections, star
 use Rattle.durable.proofs.Behind.{behind_undo}
 use Rattle.durable.proofs.Pasts.{past_apply}
 use Rattle.round_memory.specs.Rounds.{KeepsFound, KnowsRounds, MayLog, Rounds}
-use Rattle.round_store.specs.Steps.{RefusesApply}
+use Rattle.round_store.specs.Steps.{Applies, IsPastOf, RefusesApply}
 use Rattle.round_store.specs.Store.{HasPast, Known, Parts}
 use Rattle.round_store.proofs.Shown.{shows_more}
 
@@ -49,8 +49,11 @@ apply_answers x s p k r (Err e) serves answers = refuses x s p k r e serves answ
 abbrev pub with_next : Past → (lane : ℕ) → Record → Past
 with_next p k r = record (after_log p) { fresh = (k, r) ∷ [] }
 
-module _ (x : Known) (s : Setting) (p : Past) (d : Device) (has : HasPast x s p d) (k : ℕ) (r : Record) (m : Memory) (low : k < x.threads)
+module _ (x : Known) (s : Setting) (p : Past) (d : Device) (has : HasPast x s p d) (k : ℕ) (r : Record) (m : Memory) (there : k < length x.memory.lanes)
     (remembers : Remembers s m (after_apply p k r)) (keeps : KeepsLayout x.memory m) (within : AreWithin m) where
+  low : k < x.threads
+  low = omega (arith, there, has.layout.lanes)
+
   -- a lane of the threads' is one of the memory's
   lane_low : (j : ℕ) → j < x.threads → j < length m.lanes
   lane_low j below = omega (arith, below, has.layout.lanes, keeps.lanes)
@@ -114,3 +117,30 @@ module _ (x : Known) (s : Setting) (p : Past) (d : Device) (has : HasPast x s p 
           record { helped = was.helped; on = was.on; values = was.values; covered = was.covered; complete = was.complete };
       images = λ image left. shows_more x.layout x.threads s ((k, r) ∷ []) (applied p) ((k, r) ∷ applied p) p.cut p.cut image refl (λ j. omega arith) (has.images image left);
     }
+
+-- what is true of the fields that a store has
+pub applies_from : {D : Type 0} {device : D → Device} {z x y : Parts D} {lane : ℕ} {next : Record} {answer : Result (Unit {0}) StoreError} → z ≡ x → Applies device z y lane next answer → Applies device x y lane next answer
+applies_from {D} {device} {z} {x} {y} {lane} {next} {answer} is applies = subst (λ (w : Parts D). Applies device w y lane next answer) is applies
+
+-- a store that has failed refuses
+pub apply_failed : {D : Type 0} (device : D → Device) (x : Parts D) (lane : ℕ) (next : Record) → x.known.has_failed ≡ true → Applies device x x lane next (Err Failed)
+apply_failed device x lane next off = record { answer = λ s p has. off; ok = λ s p has. tt; running = tt; no_fault = λ is. cc; err = refl; disk = refl; sequence = refl; layout = refl; threads = refl }
+
+-- a record is never refused for a fault
+pub never_fault : (x : Known) (s : Setting) (p : Past) (k : ℕ) (r : Record) (e : StoreError) → Answers s x.memory p k r (Err e) → e ≢ Fault
+never_fault x s p k r e answers is = subst (λ f. Answers s x.memory p k r (Err f)) is answers
+
+-- a record that isn't taken changes nothing
+pub apply_refused : {D : Type 0} (device : D → Device) (x y : Parts D) (lane : ℕ) (next : Record) (e : StoreError) (s : Setting) (p : Past) → IsPastOf device x s p → x.known.has_failed ≡ false → y ≡ x →
+    ((s : Setting) (p : Past) → Remembers s x.known.memory p → Answers s x.known.memory p lane next (Err e)) → Applies device x y lane next (Err e)
+apply_refused {D} device x y lane next e s p was serves same answers = record {
+  answer = λ s p has. refuses x.known s p lane next e serves (answers s p has.remembers);
+  ok = λ s p has. tt;
+  running = tt;
+  no_fault = never_fault x.known s p lane next e (answers s p was.remembers);
+  err = same;
+  disk = ap (λ (z : Parts D). z.disk) same;
+  sequence = ap (λ (z : Parts D). z.known.committed.sequence) same;
+  layout = ap (λ (z : Parts D). z.known.layout) same;
+  threads = ap (λ (z : Parts D). z.known.threads) same;
+}
