@@ -18,7 +18,7 @@ use Rattle.store_memory.specs.Memory.{Memory}
 use Rattle.store_memory.specs.Remembers.{Remembers}
 use Rattle.store_memory.specs.Sections.{Logged, TellsSections}
 use Rattle.durable.specs.Begin.{HasRows, IsSettingOf}
-use Rattle.durable.proofs.Adopting.{rows_recovered, setting_is, setting_of}
+use Rattle.durable.proofs.Adopting.{rows_recovered, same_setting, setting_is, setting_of}
 use Rattle.durable.proofs.Begun.{begins, empty_committed}
 use Rattle.helper_sections.specs.Image.{kept_by}
 use Rattle.round_image.specs.Turning.{IsValueIn, fields_of}
@@ -111,3 +111,25 @@ module _ {l : Layout} {t : ℕ} {d : Device} {rows : List GuardRow} {slot : Slot
   adopts_one =
       let s = setting_of l rows heap last in
       (s, adopts s (setting_is l rows heap last has_rows))
+
+-- A recovered device with the layout k and memory for it, whose rows and heap were handed on.
+pub new_of : (l : Layout) (t : ℕ) (d : Device) (rows : List GuardRow) (slot : Slot) (sequence : ℕ) (heap : List ℕ) (last : ℕ) (c : Committed) (m : Memory) (g : Logged) (n : Rounds) (guards : List ObjectId) (pending : List HomeValue) →
+    (k : Layout) (given : List GuardRow) (values : List ℕ) → l ≡ k → given ≡ rows → values ≡ heap → IsRecovered d l rows slot sequence heap → last ≤ 1099511627775 → 1 ≤ t → t ≤ k.lanes → k.lanes ≤ t + 1 → c ≡ empty_committed slot sequence →
+    ((s : Setting) → IsSettingOf l given values last s → Remembers s m no_past) → TellsSections g (λ k. 0) [] → ((s : Setting) → IsSettingOf l given values last s → KnowsRounds s n no_past) → AreFor l t m g n → AreGuardsOf given guards → pending ≡ [] →
+    IsNew l t d rows slot sequence heap last c m g n guards pending
+new_of l t d rows slot sequence heap last c m g n guards pending k given values layout same_rows same_heap is fits some within most empty remembers tells knows sized guarded none =
+    let lanes : l.lanes ≡ k.lanes = ap (λ (j : Layout). j.lanes) layout in
+    record {
+      is = is;
+      fits = fits;
+      some = some;
+      within = omega (arith, within, lanes);
+      most = omega (arith, most, lanes);
+      empty = empty;
+      remembers = λ s set. remembers s (same_setting l l rows given heap values last s refl (sym same_rows) (sym same_heap) set);
+      tells = tells;
+      knows = λ s set. knows s (same_setting l l rows given heap values last s refl (sym same_rows) (sym same_heap) set);
+      sized = sized;
+      guarded = subst (λ (rs : List GuardRow). AreGuardsOf rs guards) same_rows guarded;
+      none = none;
+    }

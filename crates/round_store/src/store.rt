@@ -126,12 +126,16 @@ impl<D: Disk> RoundStore<D> {
         if self.has_failed {
             return Err(StoreError::Failed);
         }
-        self.applied.apply(lane, next)?;
-        // (each lane stays within its area: the two below have room)
-        let _fresh = self.applied.fresh();
-        self.sections.push(lane, next);
-        self.rounds.extend(&[LaneRecord { lane, record: next }]);
-        Ok(())
+        match self.applied.apply(lane, next) {
+            Ok(()) => {
+                // Each lane stays within its area, so that both below have room.
+                let _fresh = self.applied.fresh();
+                self.sections.push(lane, next);
+                self.rounds.extend(&[LaneRecord { lane, record: next }]);
+                Ok(())
+            }
+            Err(reason) => Err(reason),
+        }
     }
 
     /// How many sections of the lane are acknowledged.
