@@ -1,0 +1,4 @@
+pub mod Shown
+pub mod Running
+pub mod Applying
+pub mod Adopting
