@@ -17,6 +17,10 @@ use Rattle.round_store.specs.Steps.{Applies, Flushes, IsPastOf, MakesRound, Writ
 use Rattle.round_store.specs.Store.{Known, Parts}
 use Rattle.round_store.proofs.Shown.{shows_more}
 
+-- a run of no calls
+pub run_none : (l : Layout) (threads : ℕ) (s : Setting) (p : Past) (d : Device) → HasRun l threads s p d p d
+run_none l threads s p d = record { newer = []; same = refl; cut = λ lane. omega arith; shown = begin d (ShowsCutOf l threads s (applied p) p.cut) }
+
 -- one run behind another
 pub run_on : (l : Layout) (threads : ℕ) (s : Setting) (p q r : Past) (a b c : Device) → HasRun l threads s p a q b → HasRun l threads s q b r c → HasRun l threads s p a r c
 run_on l t s p q r a b c was on = record {

@@ -27,6 +27,10 @@ pub record TakesSequences (most : ℕ) (old : Known) (before : Device) (new : Kn
   pub known : new.committed.sequence ≤ old.committed.sequence + most
   pub shown : LeavesOnly before now (ShowsUpTo old.layout (old.committed.sequence + most))
 
+-- Where no call is made, there is a run that changes nothing.
+abbrev pub RunNoneLaw : Type 0
+RunNoneLaw = (l : Layout) (threads : ℕ) (s : Setting) (p : Past) (d : Device) → HasRun l threads s p d p d
+
 -- Runs one behind the other are one run.
 abbrev pub RunOnLaw : Type 0
 RunOnLaw = (l : Layout) (threads : ℕ) (s : Setting) (p q r : Past) (a b c : Device) → HasRun l threads s p a q b → HasRun l threads s q b r c → HasRun l threads s p a r c

@@ -2,7 +2,7 @@
 ghost use Rattle.std.specs.Prelude.{ℕ, Result};
 ghost use Rattle.heap_model.specs.declared.record.Record.{Record};
 ghost use Rattle.store_past.specs.declared.error.StoreError.{StoreError};
-ghost use Rattle.round_store.specs.Runs.{ApplyRuns, FlushRuns, RoundRuns, RunOnLaw};
+ghost use Rattle.round_store.specs.Runs.{ApplyRuns, FlushRuns, RoundRuns, RunNoneLaw, RunOnLaw};
 ghost use Rattle.round_store.specs.Steps.{Applies, Flushes, MakesRound};
 ghost use Rattle.round_store.specs.Store.{Parts};
 
@@ -10,8 +10,10 @@ use block_disk::Disk;
 
 /// Calls made one after another leave a device as one run.
 pub fn run_on_law()
+    // Where no call is made, there is a run that changes nothing.
+    ensures none { RunNoneLaw }
     // Two runs, one behind the other, are one run.
-    ensures { RunOnLaw }
+    ensures on { RunOnLaw }
 {}
 
 /// A round is a run.

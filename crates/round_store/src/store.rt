@@ -53,7 +53,7 @@ impl<D: Disk> Model for RoundStore<D> {
     ghost view = { λ x. record { disk = x.disk; known = record { layout = x.layout; threads = x.threads; committed = x.committed; memory = x.applied; sections = x.sections; rounds = x.rounds; guards = x.guards.items; pending = x.pending.items; has_failed = x.has_failed } } };
 
     ghost invariant = { λ x. HasRoom x.layout (length x.pending.items) (vec_capacity x.pending) (vec_capacity x.cells) (vec_capacity x.helper)
-      × ((s : Setting) × (p : Past) × HasPast (record { layout = x.layout; threads = x.threads; committed = x.committed; memory = x.applied; sections = x.sections; rounds = x.rounds; guards = x.guards.items; pending = x.pending.items; has_failed = x.has_failed }) s p (D.device x.disk)) };
+        × ((s : Setting) × (p : Past) × HasPast (record { layout = x.layout; threads = x.threads; committed = x.committed; memory = x.applied; sections = x.sections; rounds = x.rounds; guards = x.guards.items; pending = x.pending.items; has_failed = x.has_failed }) s p (D.device x.disk)) };
 }
 
 impl<D: Disk> RoundStore<D> {

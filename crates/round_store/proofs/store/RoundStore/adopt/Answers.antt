@@ -15,8 +15,7 @@ invariant_of-result g c =
     let r = c.into_parts-disk.result in
     let one = adopts_one (new_of r.layout c.args.threads (g.D.Disk.device r.disk) r.guards.items r.slot r.sequence r.heap.items c.args.last c.empty.result c.in-Ok.memories.applied c.in-Ok.memories.sections c.in-Ok.memories.rounds
     c.in-Ok.lists.guards.items c.in-Ok.lists.pending.items c.args.recovered.layout c.deref.result.now c.deref-2.result.now c.into_parts-disk.ensures.layout c.deref.ensures.value c.deref-2.ensures.value c.into_parts-disk.ensures.recovered
-    c.requires.last c.requires.some c.requires.within c.requires.most c.empty.ensures c.in-Ok.ensures.applied c.in-Ok.ensures.sections c.in-Ok.ensures.rounds c.in-Ok.ensures.fits c.in-Ok.ensures.guards c.in-Ok.ensures.none) in
-    (
+    c.requires.last c.requires.some c.requires.within c.requires.most c.empty.ensures c.in-Ok.ensures.applied c.in-Ok.ensures.sections c.in-Ok.ensures.rounds c.in-Ok.ensures.fits c.in-Ok.ensures.guards c.in-Ok.ensures.none) in (
       record {
         listed = omega (arith, ap (λ (cells : List HomeValue). length cells) c.in-Ok.ensures.none);
         pending = c.in-Ok.ensures.room.pending;

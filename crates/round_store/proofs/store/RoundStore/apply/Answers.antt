@@ -17,8 +17,7 @@ push-requires g c =
 
 pub extend-requires-clause-may : goal.extend-requires-clause-may
 extend-requires-clause-may g c =
-    let was = c.self.invariant.1 in
-    (
+    let was = c.self.invariant.1 in (
       was.0,
       with_next was.1 c.args.lane.0 c.args.next,
       may_extend _ was.0 was.1 _ was.2 c.args.lane.0 c.args.next c.apply.new.self (c.in-Ok.ensures.answer was.0 was.1 was.2.remembers).0 (c.in-Ok.ensures.ok was.0 was.1 was.2.remembers) c.apply.ensures.kept c.fresh-fresh.ensures.within,
@@ -29,17 +28,16 @@ pub invariant_of-self : goal.invariant_of-self
 invariant_of-self g c =
     let was = c.self.invariant.1 in
     let there = (c.in-Ok.ensures.answer was.0 was.1 was.2.remembers).0 in
-    let remembers = c.in-Ok.ensures.ok was.0 was.1 was.2.remembers in
-    (
+    let remembers = c.in-Ok.ensures.ok was.0 was.1 was.2.remembers in (
       c.self.invariant.0,
       (
         was.0,
         after_apply was.1 c.args.lane.0 c.args.next,
         applied_has _ was.0 was.1 _ was.2 c.args.lane.0 c.args.next c.apply.new.self there remembers c.apply.ensures.kept c.fresh-fresh.ensures.within c.push.new.self c.extend.new.self
-        (c.push.ensures.tells was.0 was.1.cut (applied was.1) (may_push _ was.0 was.1 _ was.2 c.args.lane.0 c.args.next c.apply.new.self there remembers c.apply.ensures.kept c.fresh-fresh.ensures.within))
-        c.push.ensures.lanes c.push.ensures.capacity
-        (c.extend.ensures.knows was.0 (with_next was.1 c.args.lane.0 c.args.next) (may_extend _ was.0 was.1 _ was.2 c.args.lane.0 c.args.next c.apply.new.self there remembers c.apply.ensures.kept c.fresh-fresh.ensures.within) refl)
-        c.extend.ensures.found,
+            (c.push.ensures.tells was.0 was.1.cut (applied was.1) (may_push _ was.0 was.1 _ was.2 c.args.lane.0 c.args.next c.apply.new.self there remembers c.apply.ensures.kept c.fresh-fresh.ensures.within))
+            c.push.ensures.lanes c.push.ensures.capacity
+            (c.extend.ensures.knows was.0 (with_next was.1 c.args.lane.0 c.args.next) (may_extend _ was.0 was.1 _ was.2 c.args.lane.0 c.args.next c.apply.new.self there remembers c.apply.ensures.kept c.fresh-fresh.ensures.within) refl)
+            c.extend.ensures.found,
       ),
     )
 
