@@ -10,9 +10,10 @@ use Rattle.store_image.specs.Sequences.{ShowsUpTo}
 use Rattle.store_past.specs.Past.{Past, applied}
 use Rattle.store_past.specs.declared.error.StoreError.{StoreError}
 use Rattle.store_past.specs.declared.error.StoreError.TheVariants.{Failed, Fault}
-use Rattle.durable.specs.Runs.{HasRun, IsLeftBy, TakesSequences}
-use Rattle.durable.specs.Store as stores
-use Rattle.durable.specs.Store.{Known, HasPast}
+use Rattle.round_store.specs.Runs.{HasRun, TakesSequences}
+use Rattle.round_store.specs.Stops.{ShowsCut}
+use Rattle.round_store.specs.Store as stores
+use Rattle.round_store.specs.Store.{Known, HasPast}
 use Rattle.monitor.specs.Seats.{Final, Helping, Home}
 use Rattle.monitor.specs.Views.{GoesOn}
 use Rattle.monitor.specs.Words.{setting_of}
@@ -72,9 +73,9 @@ module _ {D : Type 0} (device : D → Device) where
   abbrev pub Drains : (x y : Parts D) → Result ℕ StoreError → Type 0
   Drains x y answer = DrainsUpTo None x y answer
 
-  -- What a helper that serves this past makes of it. Records are applied; then store calls make durable what was applied,
-  -- acknowledge its stable cut and trim that. Whatever a crash leaves meanwhile shows what some of these calls make of the past, so that
-  -- recovery takes it, with the stable cut only where a settling was running. `Done` is what holds of the helper after Ok.
+  -- What a helper that serves this past makes of it. Records are applied; then a round of the store makes durable what was applied,
+  -- acknowledges its stable cut and trims that. Whatever a crash leaves meanwhile shows a whole closed cut of a beginning of what was
+  -- applied, with all that was acknowledged. `Done` is what holds of the helper after Ok.
   pub record Works (Done : Type 0) (s : Setting) (p : Past) (x y : Parts D) (answer : Result ℕ StoreError) : Type 0 where
     -- The records that it has applied, the newest first.
     pub newer : List (ℕ × Record)
@@ -90,8 +91,9 @@ module _ {D : Type 0} (device : D → Device) where
     pub cut : (l : ℕ) → p.cut l ≤ now.cut l
     -- What was trimmed stays trimmed.
     pub places : (l : ℕ) → trimmed_of p l ≤ trimmed_of now l
-    -- Store calls make the past afterwards of the past before; what a crash leaves meanwhile shows what some of them make of it.
-    pub ran : HasRun y.store.known.layout s p (device x.store.disk) now (device y.store.disk) y.store.known.has_failed
+    -- A run of the store leads from the past before to the past afterwards. Whatever a crash leaves meanwhile shows a whole closed cut of
+    -- a beginning of what was applied, with all that was acknowledged before.
+    pub ran : HasRun y.store.known.layout y.store.known.layout.lanes s p (device x.store.disk) now (device y.store.disk)
     -- The helper serves the past afterwards.
     pub serves : IsServing device y s now
     -- It commits the control twice at most.
@@ -100,8 +102,8 @@ module _ {D : Type 0} (device : D → Device) where
     pub settled : OnOk answer Done
     -- After Ok, all that was applied is durable, and its stable cut is acknowledged and trimmed.
     pub durable : OnOk answer (IsDurable y.store.known s now)
-    -- After Ok, whatever a crash leaves, a store of the past afterwards leaves.
-    pub left : OnOk answer (Always (device y.store.disk) (IsLeftBy y.store.known.layout s now))
+    -- After Ok, whatever a crash leaves shows just the acknowledged cut of the past afterwards.
+    pub left : OnOk answer (Always (device y.store.disk) (ShowsCut y.store.known.layout y.store.known.layout.lanes s now.logged now.cut))
     -- If all was settled and nothing new came, the device isn't called, and nothing is refused.
     pub quiet : x.is_settled ≡ true → newer ≡ [] → (answer ≡ Ok 0) × (device y.store.disk ≡ device x.store.disk)
     -- A store that has failed stays as it is, and so does its device; nothing is applied.
@@ -183,7 +185,8 @@ module _ {D : Type 0} (device : D → Device) where
     pub untouched : IfErr answer (λ back. IsOfSessions back.1 → back.0 ≡ x.store.disk)
     -- The device of a store that had failed comes back as it was.
     pub still : x.store.known.has_failed ≡ true → disk_of answer ≡ x.store.disk
-    -- Whatever a crash leaves while closing shows what some store calls make of the past, whatever stops the closing.
+    -- Whatever a crash leaves while closing shows a whole closed cut of a beginning of what was applied, with all that was acknowledged,
+    -- whatever stops the closing.
     pub stood : Stood x.store.known.layout (setting_of h.plan) p ended (device x.store.disk) (device (disk_of answer))
     -- Over a closing that answers Ok the count of the device's failures doesn't fall.
     pub later : IfOk answer (λ disk. (device x.store.disk).failures ≤ (device disk).failures)

@@ -4,8 +4,8 @@ use Rattle.heap_model.specs.declared.record.Record.{Record}
 use Rattle.heap_model.specs.Sections.{actions}
 use Rattle.heap_model.specs.Cuts.{IsWhole, IsClosed}
 use Rattle.block_disk.specs.Device.{Device}
-use Rattle.durable.specs.Store as stores
-use Rattle.durable.specs.Store.{HasPast}
+use Rattle.round_store.specs.Store as stores
+use Rattle.round_store.specs.Store.{HasPast}
 use Rattle.heap_model.specs.Setting.{Setting}
 use Rattle.monitor.specs.declared.view.Post.TheVariants.{Stable}
 use Rattle.monitor.specs.Posts.{WasPublished, post_number}

@@ -4,8 +4,8 @@ use Rattle.heap_model.specs.declared.event.Event.{Event}
 use Rattle.heap_model.specs.History.{state_after}
 use Rattle.heap_model.specs.Setting.{Setting}
 use Rattle.block_disk.specs.Device.{Device}
-use Rattle.durable.specs.Store as stores
-use Rattle.durable.specs.Store.{HasPast}
+use Rattle.round_store.specs.Store as stores
+use Rattle.round_store.specs.Store.{HasPast}
 use Rattle.monitor.specs.declared.view.Plan.{Plan}
 use Rattle.monitor.specs.declared.view.Post.TheVariants.{Stable, Trimmed}
 use Rattle.monitor.specs.declared.view.Part as raw

@@ -4,7 +4,7 @@ use Rattle.lane_rings.specs.Rings.{Receiving}
 use Rattle.heap_model.specs.declared.record.Record.{Record}
 use Rattle.heap_model.specs.Setting.{Setting}
 use Rattle.block_disk.specs.Device.{Device}
-use Rattle.durable.specs.Store as stores
+use Rattle.round_store.specs.Store as stores
 use Rattle.store_past.specs.Past.{Past, IsTrimmed}
 use Rattle.monitor.specs.Seats.{Helping}
 use Rattle.lane_rings.specs.declared.ring_records.TheConstants.{MOST_RING_RECORDS}

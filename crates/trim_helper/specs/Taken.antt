@@ -6,9 +6,9 @@ use Rattle.heap_model.specs.Setting.{Setting}
 use Rattle.block_disk.specs.Device.{Device}
 use Rattle.undo_log.specs.Dropped.{undo_logs, records_in}
 use Rattle.store_past.specs.Past.{Past, applied}
-use Rattle.durable.specs.Calls.{RefusesApply}
-use Rattle.durable.specs.Store as stores
-use Rattle.durable.specs.Store.{Known, HasPast}
+use Rattle.round_store.specs.Steps.{RefusesApply}
+use Rattle.round_store.specs.Store as stores
+use Rattle.round_store.specs.Store.{Known, HasPast}
 use Rattle.store_past.specs.declared.error.StoreError.{StoreError}
 use Rattle.store_past.specs.declared.error.StoreError.TheVariants.{Failed}
 use Rattle.trim_helper.specs.Rings.{received_of, known_of, held_back, waiting_in, stream}
@@ -43,9 +43,11 @@ abbrev pub IsLaneStuck : Known → List Receiving → List (Option Record) → S
 IsLaneStuck x rings waiting s p l = MatchOption (waiting_in waiting l) (known_of rings l ≡ []) (λ r. IsRefused x s p l r)
 
 module _ {D : Type 0} (device : D → Device) where
-  -- The records applied of a lane are those that its consumer took, in order, but for at most one that waits to be next.
+  -- The records applied of a lane are those that its consumer took, in order, but for at most one that waits to be next. All lanes of
+  -- the image are the threads'.
   pub record HasTaken (x : Taking D) (s : Setting) (p : Past) : Type 0 where
     pub has : HasPast x.store.known s p (device x.store.disk)
+    pub threads : x.store.known.threads ≡ x.store.known.layout.lanes
     -- The records applied of a lane are those taken from its ring, in order, but for at most one that waits.
     pub taken : (l : ℕ) → received_of x.rings l ≡ stream l (applied p) ++ held_back (waiting_in x.waiting l)
 

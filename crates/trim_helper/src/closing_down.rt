@@ -16,10 +16,10 @@ use crate::ended::Ended;
 use crate::helper::Helper;
 use crate::meeting::meet;
 use crate::published::close;
-use crate::settling::settle_applied;
+use crate::settling::settle_and_trim;
 use block_disk::Disk;
 use cut_laws::{stable_law, unlogged_law};
-use durable::Store;
+use round_store::RoundStore;
 use heap_model::{Lane, Record};
 use history_laws::{all_kept_law, log_law, next_law, order_law, own_log_law};
 use lane_rings::{MOST_RING_RECORDS, Receiver};
@@ -85,13 +85,14 @@ fn check_ended(ended: &[Ended], lanes: u8) -> Result<(), CloseError>
 fn finish<D: Disk>(
     shared: Shared,
     ended: Vec<Ended>,
-    store: &mut Store<D>,
+    store: &mut RoundStore<D>,
     rings: &mut [Receiver],
     waiting: &mut [Option<Record>],
     mut seat: HelperSeat,
 ) -> Result<Finals, CloseError>
     requires helper { IsHelper shared seat }
     requires lanes { shared.plan.lanes ≡ store.old.known.layout.lanes }
+    requires threads { store.old.known.threads ≡ store.old.known.layout.lanes }
     requires rings { length rings.old ≡ store.old.known.layout.lanes }
     requires few { length rings.old ≤ 32 }
     requires room { most_room rings.old ≤ MOST_RING_RECORDS }
@@ -117,7 +118,7 @@ fn finish<D: Disk>(
         drop(shared);
         return Err(close_error(reason));
     }
-    if let Err(reason) = settle_applied(store) {
+    if let Err(reason) = settle_and_trim(store) {
         drop(seat);
         drop(shared);
         return Err(close_error(reason));

@@ -1,6 +1,6 @@
 //! The helper.
 ghost use Rattle.std.specs.Prelude.{◌≡◌, ◌<◌, ◌≤◌, ◌-◌, ◌^◌, [], ℕ, true, false, vec_len, None, MatchOption, OnOk};
-ghost use Rattle.durable.specs.Store.{HasPast};
+ghost use Rattle.round_store.specs.Store.{HasPast};
 ghost use Rattle.heap_model.specs.Setting.{Setting};
 ghost use Rattle.monitor.specs.Views.{GoesOn};
 ghost use Rattle.store_past.specs.Past.{Past, no_past};
@@ -19,7 +19,8 @@ use crate::hearing::catch_up;
 use crate::published::publish_all;
 use crate::settling::settle_and_trim;
 use block_disk::Disk;
-use durable::{Store, StoreError};
+use round_store::RoundStore;
+use store_past::StoreError;
 use heap_model::{LANES, Lane, Record};
 use lane_rings::{MOST_RING_RECORDS, Receiver};
 use monitor::{HelperSeat, Shared};
@@ -32,7 +33,7 @@ use std::marker::Model;
 /// see it as its `Parts`.
 #[derive(Drop)]
 pub struct Helper<D: Disk> {
-    pub(crate) store: Store<D>,
+    pub(crate) store: RoundStore<D>,
     /// The rings' ends, by lane.
     pub(crate) rings: Vec<Receiver>,
     /// The record of each lane that was taken and waits to be next.
@@ -53,16 +54,17 @@ impl<D: Disk> Model for Helper<D> {
 }
 
 impl<D: Disk> Helper<D> {
-    /// The helper of a store that runs and was told nothing, with the ends of the rings, lane i's as the i-th, from which nothing was
+    /// The helper of a store that runs and was told nothing, all lanes of whose image are the threads', with the ends of the rings, lane i's as the i-th, from which nothing was
     /// taken, and with the helper's seat, of the heap whose lanes' rings they are, which has published nothing. All is settled: the first
     /// round makes no device call unless something came.
-    pub fn new(store: Store<D>, rings: Vec<Receiver>, seat: HelperSeat) -> Helper<D>
+    pub fn new(store: RoundStore<D>, rings: Vec<Receiver>, seat: HelperSeat) -> Helper<D>
         requires lanes { vec_len rings ≡ store.known.layout.lanes }
         requires rooms { most_room rings.items ≤ MOST_RING_RECORDS }
         requires untaken { (l : ℕ) → received_of rings.items l ≡ [] }
         requires sees { SeesFrom seat 0 rings.items }
         requires untold { (s : Setting) × HasPast store.known s no_past (D.device store.disk) }
         requires silent { seat.view.notes ≡ [] }
+        requires threads { store.known.threads ≡ store.known.layout.lanes }
         requires running { store.known.has_failed ≡ false }
         ensures serves { (s : Setting) → HasPast store.known s no_past (D.device store.disk) → IsServing D.device result s no_past }
         ensures parts { (result.store ≡ store) × (result.rings ≡ rings.items) × (result.seat ≡ seat) }
@@ -122,7 +124,7 @@ impl<D: Disk> Helper<D> {
         catch_up(shared, &mut self.rings, &mut self.seat);
     }
 
-    /// The first half of a round. It drains the rings, hears what they tell of the one history, logs what was applied, writes it home,
+    /// The first half of a round. It drains the rings, hears what they tell of the one history, makes durable what was applied,
     /// acknowledges its stable cut and forgets what is acknowledged, so that each lane has its area but for the records that aren't
     /// acknowledged. It publishes nothing. It answers how many records it applied. With nothing applied since the last round that
     /// answered Ok, or since the opening, it makes no device call, and isn't refused.
@@ -132,8 +134,8 @@ impl<D: Disk> Helper<D> {
     pub fn settle(&mut self, shared: &Shared) -> Result<u64, StoreError>
         requires seat { IsHelper shared.now self.old.seat }
         requires lanes { shared.now.plan.lanes ≡ self.old.store.known.layout.lanes }
-        // Settling makes durable what was applied, acknowledges its stable cut and trims that, by store calls that are
-        // named. Unless the store had failed, no record that waits or is known to be in a ring could be applied then.
+        // Settling makes durable what was applied, acknowledges its stable cut and trims that, by a run of the
+        // store. Unless the store had failed, no record that waits or is known to be in a ring could be applied then.
         ensures settles { (s : Setting) (p : Past) → IsServing D.device self.old s p → SettlesUpTo D.device None s p self.old self.new result }
         // After Ok, what is acknowledged may be published.
         ensures ready { OnOk result (MayBePublished D.device self.new) }
@@ -244,7 +246,7 @@ impl<D: Disk> Helper<D> {
     }
 
     /// Its store, as it is. What waits and what is in the rings is dropped.
-    pub fn into_store(self) -> Store<D>
+    pub fn into_store(self) -> RoundStore<D>
         ensures { result ≡ self.store }
     {
         let Helper { store, .. } = self;

@@ -1,6 +1,6 @@
 //! A heap that was recovered, opened for threads.
 ghost use Rattle.std.specs.Prelude.{◌≡◌, ◌<◌, ◌^◌, IfErr, IfOk, All, false, map};
-ghost use Rattle.durable.specs.Store.{HasPast};
+ghost use Rattle.round_store.specs.Store.{HasPast};
 ghost use Rattle.monitor.specs.Seats.{IsSeatOf, fresh_views, helper_at};
 ghost use Rattle.monitor.specs.Words.{setting_of};
 ghost use Rattle.store_past.specs.Past.{no_past};
@@ -8,7 +8,7 @@ ghost use Rattle.trim_helper.specs.Helping.{IsHelper};
 ghost use Rattle.trim_helper.specs.Opening.{FitsSchema, plan_of};
 
 use block_disk::Disk;
-use durable::Store;
+use round_store::RoundStore;
 use guards::Schema;
 use image::Recovered;
 use monitor::{HelperSeat, Seat, Shared};
@@ -22,7 +22,7 @@ pub struct Opened<D: Disk> {
     /// The seat of each lane, lane i's as the i-th.
     pub seats: Vec<Seat>,
     /// The store of the device, which was told nothing.
-    pub store: Store<D>,
+    pub store: RoundStore<D>,
     /// The helper's seat, which has published nothing.
     pub seat: HelperSeat,
 }
@@ -48,6 +48,8 @@ pub fn open_heap<D: Disk>(
     // The store of a new heap hasn't failed.
     ensures running { IfOk result (λ o. o.store.known.has_failed ≡ false) }
     ensures layout { IfOk result (λ o. o.store.known.layout ≡ recovered.layout) }
+    // All lanes of a new heap's image are the threads'.
+    ensures threads { IfOk result (λ o. o.store.known.threads ≡ o.store.known.layout.lanes) }
     ensures disk { IfOk result (λ o. o.store.disk ≡ recovered.disk) }
     ensures refused { IfErr result (λ back. back.0 ≡ recovered) }
 {
@@ -56,7 +58,7 @@ pub fn open_heap<D: Disk>(
         Ok(made) => made,
         Err(error) => return Err((recovered, error)),
     };
-    match Store::adopt(alloc, recovered, last) {
+    match RoundStore::adopt(alloc, recovered, lanes, last) {
         Ok(store) => Ok(Opened {
             shared,
             seats,

@@ -8,14 +8,15 @@ ghost use Rattle.trim_helper.specs.Helping.{HasPublished, HavePublished, HaveRea
 ghost use Rattle.trim_helper.specs.Seen.{SameSight};
 
 use block_disk::Disk;
-use durable::Store;
+use round_store::RoundStore;
 use heap_model::Lane;
 use monitor::{Finals, HelperSeat, Seat, Shared};
 
 /// Publishes by lane what is acknowledged and trimmed.
-pub fn publish_all<D: Disk>(store: &Store<D>, shared: &Shared, seat: &mut HelperSeat)
+pub fn publish_all<D: Disk>(store: &RoundStore<D>, shared: &Shared, seat: &mut HelperSeat)
     requires seat { IsHelper shared.now seat.old }
     requires lanes { shared.now.plan.lanes ≡ store.now.known.layout.lanes }
+    requires threads { store.now.known.threads ≡ store.now.known.layout.lanes }
     requires rises { MayPublish D.device store.now seat.old }
     ensures published { HasPublished D.device store.now seat.new }
     ensures counts { AddsCounts D.device store.now seat.old seat.new }
