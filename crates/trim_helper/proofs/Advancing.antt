@@ -9,9 +9,10 @@ use Rattle.heap_model.specs.declared.record.Record.{Record}
 use Rattle.heap_model.specs.Setting.{Setting}
 use Rattle.block_disk.specs.Device.{Device}
 use Rattle.store_past.specs.Past.{Past, applied, after_apply}
-use Rattle.durable.specs.Calls.{RefusesApply}
-use Rattle.durable.specs.Store as stores
-use Rattle.durable.specs.Store.{HasPast}
+use Rattle.image.specs.declared.layout.Layout.{Layout}
+use Rattle.round_store.specs.Steps.{RefusesApply}
+use Rattle.round_store.specs.Store as stores
+use Rattle.round_store.specs.Store.{HasPast}
 use Rattle.store_past.specs.declared.error.StoreError.{StoreError}
 use Rattle.store_past.specs.declared.error.StoreError.TheVariants.{Failed}
 use Rattle.trim_helper.specs.Rings.{received_of, known_of, held_back, waiting_in, stream}
@@ -45,6 +46,7 @@ module _ {D : Type 0} (device : D → Device) where
   pub moved_has : (x y : Taking D) (lane : ℕ) (s : Setting) (p : Past) → Moves lane [] x.rings x.waiting y.rings y.waiting → y.store ≡ x.store → HasTaken device x s p → HasTaken device y s p
   moved_has x y lane s p moves same was = record {
     has = subst (λ (z : stores.Parts D). HasPast z.known s p (device z.disk)) (sym same) was.has;
+    threads = subst (λ (z : stores.Parts D). z.known.threads ≡ z.known.layout.lanes) (sym same) was.threads;
     taken = λ l. elim (eqb_tells lane l) [
       | inl e ↦ subst (λ k. received_of y.rings k ≡ stream k (applied p) ++ held_back (waiting_in y.waiting k)) e.1
           (moves.taken (stream lane (applied p)) (was.taken lane) ∙ ap (λ (xs : List Record). xs ++ held_back (waiting_in y.waiting lane)) (append-nil (stream lane (applied p))))
@@ -53,10 +55,11 @@ module _ {D : Type 0} (device : D → Device) where
   }
 
   -- one was applied
-  pub applied_has : (x y : Taking D) (lane : ℕ) (r : Record) (s : Setting) (p : Past) → Moves lane (r ∷ []) x.rings x.waiting y.rings y.waiting → HasTaken device x s p →
+  pub applied_has : (x y : Taking D) (lane : ℕ) (r : Record) (s : Setting) (p : Past) → Moves lane (r ∷ []) x.rings x.waiting y.rings y.waiting → y.store.known.threads ≡ y.store.known.layout.lanes → HasTaken device x s p →
       HasPast y.store.known s (after_apply p lane r) (device y.store.disk) → HasTaken device y s (after_apply p lane r)
-  applied_has x y lane r s p moves was has = record {
+  applied_has x y lane r s p moves threads was has = record {
     has = has;
+    threads = threads;
     taken = λ l. elim (eqb_tells lane l) [
       | inl e ↦ subst (λ k. received_of y.rings k ≡ stream k ((lane, r) ∷ applied p) ++ held_back (waiting_in y.waiting k)) e.1
           (moves.taken (stream lane (applied p)) (was.taken lane) ∙ ap (λ (xs : List Record). xs ++ held_back (waiting_in y.waiting lane)) (sym (stream_own lane r (applied p))))
@@ -81,10 +84,10 @@ module _ {D : Type 0} (device : D → Device) where
   }
 
   pub advances_one : (x y : Taking D) (lane : ℕ) (r : Record) → Moves lane (r ∷ []) x.rings x.waiting y.rings y.waiting →
-      ((s : Setting) (p : Past) → HasPast x.store.known s p (device x.store.disk) → HasPast y.store.known s (after_apply p lane r) (device y.store.disk)) → y.store.known.layout ≡ x.store.known.layout →
+      ((s : Setting) (p : Past) → HasPast x.store.known s p (device x.store.disk) → HasPast y.store.known s (after_apply p lane r) (device y.store.disk)) → y.store.known.layout ≡ x.store.known.layout → y.store.known.threads ≡ x.store.known.threads →
       y.store.known.has_failed ≡ x.store.known.has_failed → y.store.known.committed.sequence ≡ x.store.known.committed.sequence → y.store.disk ≡ x.store.disk → x.store.known.has_failed ≡ false → Advances device x y 1
-  advances_one x y lane r moves makes layout running sequence same runs = record {
-    made = λ s p has. ((lane, r) ∷ [], refl, applied_has x y lane r s p moves has (makes s p has.has));
+  advances_one x y lane r moves makes layout threads running sequence same runs = record {
+    made = λ s p has. ((lane, r) ∷ [], refl, applied_has x y lane r s p moves (threads ∙ has.threads ∙ sym (ap (λ (l : Layout). l.lanes) layout)) has (makes s p has.has));
     whole = whole_all x.rings y.rings x.waiting y.waiting lane (r ∷ []) moves;
     left = moves.left;
     same = moves.same;

@@ -4,7 +4,7 @@ use Rattle.lane_rings.specs.Rings.{Receiving}
 use Rattle.heap_model.specs.declared.record.Record.{Record}
 use Rattle.heap_model.specs.Setting.{Setting}
 use Rattle.block_disk.specs.Device.{Device}
-use Rattle.durable.specs.Store.{Known, HasPast}
+use Rattle.round_store.specs.Store.{Known, HasPast}
 use Rattle.monitor.specs.Seats.{Helping}
 use Rattle.store_past.specs.Past.{Past, applied}
 use Rattle.trim_helper.specs.Counts.{WasCount}
@@ -20,6 +20,7 @@ serves_still device x y s p same serving =
     record {
       taken = record {
         has = subst (λ (d : Device). HasPast y.store.known s p d) (sym same.device_is) (subst (λ (k : Known). HasPast k s p (device x.store.disk)) (sym same.known) serving.taken.has);
+        threads = subst (λ (k : Known). k.threads ≡ k.layout.lanes) (sym same.known) serving.taken.threads;
         taken = λ l. ap (λ (r : List Receiving). received_of r l) same.rings ∙ serving.taken.taken l
             ∙ ap (λ (w : List (Option Record)). stream l (applied p) ++ held_back (waiting_in w l)) (sym same.waiting);
       };

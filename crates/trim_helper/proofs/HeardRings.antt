@@ -15,7 +15,7 @@ use Rattle.monitor.specs.Views.{GoesOn}
 use Rattle.monitor.specs.Words.{setting_of}
 use Rattle.store_past.specs.Past.{Past, applied}
 use Rattle.store_past.specs.declared.error.StoreError.{StoreError}
-use Rattle.durable.specs.Store as stores
+use Rattle.round_store.specs.Store as stores
 use Rattle.trim_helper.specs.Calls.{AreStuck, HasGoneOn, SettlesUpTo}
 use Rattle.trim_helper.specs.Heard.{HasSeen, Hears, SeenLaw}
 use Rattle.trim_helper.specs.Hearing.{IsNoted, KeepsRecords}

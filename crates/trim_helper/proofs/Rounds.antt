@@ -15,11 +15,9 @@ use Rattle.monitor.specs.Views.{noted}
 use Rattle.store_past.specs.Past.{Past, IsPast, applied, no_past}
 use Rattle.store_past.specs.declared.error.StoreError.{StoreError}
 use Rattle.store_past.specs.declared.error.StoreError.TheVariants.{Failed, BadLane, BadId, Worn, NotNext, TooLong, LogFull, Unwritten, Fault, Unfinished}
-use Rattle.durable.specs.Runs.{HasRun, IsLeftBy, TakesSequences}
-use Rattle.durable.specs.Store as stores
-use Rattle.durable.specs.Store.{Known, HasPast}
-use Rattle.durable.proofs.Sequences.{takes_more, takes_none, takes_then}
-use Rattle.durable.proofs.Running.{left_always, ran_applied, ran_less, ran_none, ran_then}
+use Rattle.round_store.specs.Runs.{HasRun, TakesSequences}
+use Rattle.round_store.specs.Store as stores
+use Rattle.round_store.specs.Store.{Known, HasPast}
 use Rattle.trim_helper.specs.Calls.{AreStuck, DrainsUpTo, HasGoneOn, IsBelow, IsWithin, Publishes, RoundsUpTo, SettlesUpTo}
 use Rattle.trim_helper.specs.Counts.{WasCount}
 use Rattle.trim_helper.specs.Draining.{DrainsRings}
@@ -35,7 +33,9 @@ use Rattle.trim_helper.specs.Closed.{AreSent, Stood}
 use Rattle.trim_helper.specs.declared.ended.Ended.{Ended}
 use Rattle.trim_helper.specs.Endings.{HoldNone, IsComplete}
 use Rattle.trim_helper.proofs.Counting.{stand_added, stand_more, stand_none, stand_same}
-use Rattle.trim_helper.proofs.Homes.{err_same}
+use Rattle.trim_helper.proofs.Rounding.{applied_ran, applied_then, err_same, ran_moved, still_ran}
+use Rattle.trim_helper.proofs.Sequences.{takes_more, takes_none, takes_then}
+use Rattle.trim_helper.proofs.Standing.{left_by}
 use Rattle.trim_helper.specs.Seen.{SeesFrom}
 use Rattle.trim_helper.proofs.Noting.{noted_same}
 use Rattle.trim_helper.proofs.Reordered.{stable_none}
@@ -57,20 +57,6 @@ pub none_of : {A : Type 0} → (xs : List A) → length xs ≡ 0 → xs ≡ []
 none_of [] e = refl
 none_of (x ∷ xs) e = absurd (omega arith)
 
--- so many records were applied, and the device wasn't called
-pub applied_ran : (l : Layout) (s : Setting) (p : Past) (d e : Device) (newer : List (ℕ × Record)) (failed : Bool) → e ≡ d → IsPast s (applied_more newer p) → HasRun l s p d (applied_more newer p) e failed
-applied_ran l s p d e newer failed same is = subst (λ (f : Device). HasRun l s p d (applied_more newer p) f failed) (sym same) (ran_applied l s p d newer failed is.legal)
-
--- and then other calls were made
-pub applied_then : (l m : Layout) (s : Setting) (p q : Past) (d e f : Device) (newer : List (ℕ × Record)) (failed : Bool) → e ≡ d → IsPast s (applied_more newer p) → m ≡ l → HasRun m s (applied_more newer p) e q f failed → HasRun m s p d q f failed
-applied_then l m s p q d e f newer failed same is layout on =
-    let before = applied_ran l s p d e newer false same is in
-    ran_then l m s p (applied_more newer p) q d e f false failed layout before (before.whole refl) on
-
--- and the store goes on
-pub settled_then : (l m : Layout) (s : Setting) (p q : Past) (d e f : Device) (newer : List (ℕ × Record)) (failed : Bool) → failed ≡ false → e ≡ d → IsPast s (applied_more newer p) → m ≡ l → HasRun m s (applied_more newer p) e q f failed → HasRun m s p d q f false
-settled_then l m s p q d e f newer failed runs same is layout on = subst (λ (b : Bool). HasRun m s p d q f b) runs (applied_then l m s p q d e f newer failed same is layout on)
-
 -- of each lane, what its rings have is what was applied of it, and more
 abbrev pub Follows : List Receiving → List (ℕ × Record) → Type 0
 Follows rings log = (l : ℕ) → (later : List Record) × (received_of rings l ++ known_of rings l ≡ stream l log ++ later)
@@ -79,8 +65,7 @@ Follows rings log = (l : ℕ) → (later : List Record) × (received_of rings l 
 abbrev pub parts_from : {D : Type 0} → stores.Parts D → List Receiving → List (Option Record) → Bool → Helping → Parts D
 parts_from store rings waiting is_settled seat = record { store = store; rings = rings; waiting = waiting; is_settled = is_settled; seat = seat }
 
--- So many records were applied after those of the past, and the helper goes on: what was acknowledged and what was trimmed stay so. Whatever
--- a crash left since then shows what some of the store calls that were made, or that a fault cut off, make of the past.
+-- So many records were applied after those of the past, and the helper goes on: what was acknowledged and what was trimmed stay so.
 pub record Served {D : Type 0} (device : D → Device) (before : Device) (y : Parts D) (s : Setting) (p : Past) (n : ℕ) : Type 0 where
   pub newer : List (ℕ × Record)
   pub long : length newer ≡ n
@@ -89,7 +74,7 @@ pub record Served {D : Type 0} (device : D → Device) (before : Device) (y : Pa
   pub cut : (l : ℕ) → p.cut l ≤ now.cut l
   pub places : (l : ℕ) → trimmed_of p l ≤ trimmed_of now l
   pub serves : IsServing device y s now
-  pub ran : HasRun y.store.known.layout s p before now (device y.store.disk) y.store.known.has_failed
+  pub ran : HasRun y.store.known.layout y.store.known.layout.lanes s p before now (device y.store.disk)
 
 module _ {D : Type 0} (device : D → Device) where
   -- a drain that keeps the seat
@@ -114,22 +99,23 @@ module _ {D : Type 0} (device : D → Device) where
           published = λ is l lt. subst (λ k. (count_published k l ≡ p.cut l) × (place_published k l ≡ trimmed_of p l)) (sym seat) (was.published (quiet is).0 l (omega arith));
           stand = λ l n lt count. stand_more x.seat x.store.known.layout.lanes s p now.0 now.2.has.past.legal was.stand l n (omega arith) (subst (λ k. WasCount k l n) seat count);
         };
-        ran = applied_ran y.store.known.layout s p (device x.store.disk) (device y.store.disk) now.0 y.store.known.has_failed drained.uncalled now.2.has.past;
+        ran = applied_ran y.store.known.layout y.store.known.layout.lanes s p (device x.store.disk) (device y.store.disk) now.0 drained.uncalled;
       }
 
   -- the store goes on with the same records
-  pub same_taken : (x : Taking D) (w : stores.Parts D) (s : Setting) (p : Past) → HasTaken device x s p → (h : HasSame (device x.store.disk) w.known (device w.disk) s p) → HasTaken device (record x { store = w }) s h.now
-  same_taken x w s p was h = record {
+  pub same_taken : (x : Taking D) (w : stores.Parts D) (s : Setting) (p : Past) → w.known.threads ≡ w.known.layout.lanes → HasTaken device x s p → (h : HasSame (device x.store.disk) w.known (device w.disk) s p) → HasTaken device (record x { store = w }) s h.now
+  same_taken x w s p threads was h = record {
     has = h.has;
+    threads = threads;
     taken = λ l. was.taken l ∙ ap (λ (xs : List (ℕ × Record)). stream l xs ++ held_back (waiting_in x.waiting l)) (sym h.same);
   }
 
-  pub same_serves : (z : Parts D) (w : stores.Parts D) (s : Setting) (p : Past) → z.is_settled ≡ false → w.known.layout ≡ z.store.known.layout → IsServing device z s p → (h : HasSame (device z.store.disk) w.known (device w.disk) s p) →
+  pub same_serves : (z : Parts D) (w : stores.Parts D) (s : Setting) (p : Past) → z.is_settled ≡ false → w.known.layout ≡ z.store.known.layout → w.known.threads ≡ w.known.layout.lanes → IsServing device z s p → (h : HasSame (device z.store.disk) w.known (device w.disk) s p) →
       IsServing device (record z { store = w }) s h.now
-  same_serves z w s p unsettled layout was h =
+  same_serves z w s p unsettled layout threads was h =
       let lanes : w.known.layout.lanes ≡ z.store.known.layout.lanes = ap (λ l. l.lanes) layout in
       record {
-        taken = same_taken (taking_of z) w s p was.taken h;
+        taken = same_taken (taking_of z) w s p threads was.taken h;
         counts = λ l lt. omega (arith, was.counts l (omega arith), h.cut l);
         places = λ l lt. omega (arith, was.places l (omega arith), h.places l);
         running = λ is. absurd (let no : false ≡ true = sym unsettled ∙ is in cc);
@@ -188,35 +174,36 @@ module _ {D : Type 0} (device : D → Device) where
 
   -- what was applied, and then settled as far as that went
   pub stood_round : (x y : Taking D) (n : ℕ) (w : stores.Parts D) (s : Setting) (p : Past) (ended : List Ended) → Advances device x y n → HasTaken device x s p → ((log : List (ℕ × Record)) → Follows y.rings log → AreSent ended log) →
-      w.known.layout ≡ y.store.known.layout → ((s : Setting) (p : Past) → HasPast y.store.known s p (device y.store.disk) → HasSame (device y.store.disk) w.known (device w.disk) s p) →
+      w.known.layout ≡ y.store.known.layout → w.known.threads ≡ y.store.known.threads → ((s : Setting) (p : Past) → HasPast y.store.known s p (device y.store.disk) → HasSame (device y.store.disk) w.known (device w.disk) s p) →
       Stood x.store.known.layout s p ended (device x.store.disk) (device w.disk)
-  stood_round x y n w s p ended on taken meets layout same =
+  stood_round x y n w s p ended on taken meets layout threads same =
       let now = on.made s p taken in
       let h = same s (applied_more now.0 p) now.2.has in
-      let ran : HasRun w.known.layout s p (device x.store.disk) h.now (device w.disk) true =
-      applied_then y.store.known.layout w.known.layout s p h.now (device x.store.disk) (device y.store.disk) (device w.disk) now.0 true on.uncalled now.2.has.past layout
-      (ran_less w.known.layout s (applied_more now.0 p) h.now (device y.store.disk) (device w.disk) w.known.has_failed h.ran) in
+      let ran : HasRun w.known.layout w.known.threads s p (device x.store.disk) h.now (device w.disk) =
+      applied_then w.known.layout w.known.threads s p h.now (device x.store.disk) (device y.store.disk) (device w.disk) now.0 on.uncalled h.ran in
+      let same_layout : w.known.layout ≡ x.store.known.layout = layout ∙ on.layout in
+      let lanes : w.known.threads ≡ x.store.known.layout.lanes = threads ∙ now.2.threads ∙ ap (λ (l : Layout). l.lanes) on.layout in
       record {
         newer = now.0;
         legal = subst (IsLegal s) (append_assoc now.0 p.fresh p.logged) now.2.has.past.legal;
         sent = λ none complete. meets (now.0 ++ applied p) (subst (λ (log : List (ℕ × Record)). Follows y.rings log) (append_assoc now.0 p.fresh p.logged) (taken_follows y s (applied_more now.0 p) now.2));
         then = h.now;
         same = h.same ∙ append_assoc now.0 p.fresh p.logged;
-        ran = subst (λ (l : Layout). HasRun l s p (device x.store.disk) h.now (device w.disk) true) (layout ∙ on.layout) ran;
+        ran = ran_moved w.known.layout x.store.known.layout w.known.threads x.store.known.layout.lanes s p h.now (device x.store.disk) (device w.disk) (sym same_layout) (sym lanes) ran;
       }
 
   -- nothing was taken yet, nor told: all is settled
-  pub serves_new : (x : Parts D) (s : Setting) → x.store.known.has_failed ≡ false → ((l : ℕ) → waiting_in x.waiting l ≡ None) → HasPast x.store.known s no_past (device x.store.disk) → ((l : ℕ) → received_of x.rings l ≡ []) →
+  pub serves_new : (x : Parts D) (s : Setting) → x.store.known.threads ≡ x.store.known.layout.lanes → x.store.known.has_failed ≡ false → ((l : ℕ) → waiting_in x.waiting l ≡ None) → HasPast x.store.known s no_past (device x.store.disk) → ((l : ℕ) → received_of x.rings l ≡ []) →
       x.seat.view.notes ≡ [] → IsServing device x s no_past
-  serves_new x s running none has taken silent =
+  serves_new x s threads running none has taken silent =
       let counts : (l : ℕ) → count_published x.seat l ≡ 0 = λ l. ap (λ (ns : List Note). noted l ns) silent in
       let places : (l : ℕ) → place_published x.seat l ≡ 0 = λ l. ap (λ (ns : List Note). noted (32 + l) ns) silent in
       record {
-        taken = record { has = has; taken = λ l. taken l ∙ sym (ap held_back (none l)) };
+        taken = record { has = has; threads = threads; taken = λ l. taken l ∙ sym (ap held_back (none l)) };
         counts = λ l lt. omega (arith, counts l);
         places = λ l lt. omega (arith, places l);
         running = λ is. running;
-        settled = λ is. record { logged = refl; clean = λ f lt. refl; stable = stable_none };
+        settled = λ is. record { logged = refl; stable = stable_none };
         trimmed = λ is l. refl;
         published = λ is l lt. (counts l, places l);
         stand = stand_none x.seat x.store.known.layout.lanes no_past silent;
@@ -253,17 +240,13 @@ stood_still l s p ended d e legal sent same = record {
   sent = sent;
   then = p;
   same = refl;
-  ran = subst (λ (f : Device). HasRun l s p d p f true) (sym same) (ran_none l s p d true);
+  ran = still_ran l l.lanes s p d e same;
 }
 
 pub nobody_waits : (n l : ℕ) → waiting_in (replicate n None) l ≡ None
 nobody_waits zero l = refl
 nobody_waits (suc n) zero = refl
 nobody_waits (suc n) (suc l) = nobody_waits n l
-
--- once the store runs, whatever a crash leaves, a store of its past leaves
-pub left_by : (x : Known) (d : Device) (s : Setting) (p : Past) → HasPast x s p d → x.has_failed ≡ false → Always d (IsLeftBy x.layout s p)
-left_by x d s p has runs = left_always x.layout s p x.committed d (has.agrees runs)
 
 refused_moved : (x x' y : Known) (e : StoreError) → x'.has_failed ≡ x.has_failed → RefusesRound x' y e → RefusesRound x y e
 refused_moved x x' y Failed same h = (sym same ∙ h.0, h.1)
@@ -371,7 +354,7 @@ module _ {D : Type 0} (device : D → Device) (s : Setting) (p : Past) (x : Part
             takes = takes_more 0 2 _ _ _ _ (omega arith) drained_takes;
             settled = tt;
             durable = record { running = runs; settled = drained.serves.settled settled; trimmed = drained.serves.trimmed settled };
-            left = left_by z.store.known (device z.store.disk) s drained.now drained.serves.taken.has runs;
+            left = left_by z.store.known (device z.store.disk) s drained.now drained.serves.taken.threads drained.serves.taken.has runs;
             quiet = λ is empty. (ap Ok was_so.1, drains.rings.ok.uncalled);
             still = λ off. absurd (let no : false ≡ true = sym (serving.running was_so.0) ∙ off in cc);
             failed = λ off. absurd (let no : false ≡ true = sym (serving.running was_so.0) ∙ off in cc);
@@ -385,9 +368,14 @@ module _ {D : Type 0} (device : D → Device) (s : Setting) (p : Past) (x : Part
         }
 
     -- what was drained is made durable, where something is to be
-    module _ (w : stores.Parts D) (unsettled : z.is_settled ≡ false) (layout : w.known.layout ≡ z.store.known.layout) where
-      ran_to : (q : Past) → HasRun w.known.layout s drained.now (device z.store.disk) q (device w.disk) w.known.has_failed → HasRun w.known.layout s p (device x.store.disk) q (device w.disk) w.known.has_failed
-      ran_to q on = applied_then _ _ s p q _ _ _ drained.newer _ drains.rings.ok.uncalled drained.serves.taken.has.past layout on
+    module _ (w : stores.Parts D) (unsettled : z.is_settled ≡ false) (layout : w.known.layout ≡ z.store.known.layout) (threads : w.known.threads ≡ z.store.known.threads) where
+      all_lanes : w.known.threads ≡ w.known.layout.lanes
+      all_lanes = threads ∙ drained.serves.taken.threads ∙ sym (ap (λ (l : Layout). l.lanes) layout)
+
+      ran_to : (q : Past) → HasRun w.known.layout w.known.threads s drained.now (device z.store.disk) q (device w.disk) → HasRun w.known.layout w.known.layout.lanes s p (device x.store.disk) q (device w.disk)
+      ran_to q on =
+          let ran = applied_then w.known.layout w.known.threads s p q (device x.store.disk) (device z.store.disk) (device w.disk) drained.newer drains.rings.ok.uncalled on in
+          ran_moved w.known.layout w.known.layout w.known.threads w.known.layout.lanes s p q (device x.store.disk) (device w.disk) refl (sym all_lanes) ran
 
       takes_on : TakesSequences 2 z.store.known (device z.store.disk) w.known (device w.disk) → TakesSequences 2 x.store.known (device x.store.disk) w.known (device w.disk)
       takes_on takes = takes_then 0 2 x.store.known z.store.known w.known (device x.store.disk) (device z.store.disk) (device w.disk) drains.rings.ok.layout drained_takes takes
@@ -411,7 +399,7 @@ module _ {D : Type 0} (device : D → Device) (s : Setting) (p : Past) (x : Part
               cut = λ l. omega (arith, drained.cut l, h.cut l);
               places = λ l. omega (arith, drained.places l, h.places l);
               ran = ran_to h.now h.ran;
-              serves = same_serves device z w s drained.now unsettled layout drained.serves h;
+              serves = same_serves device z w s drained.now unsettled layout all_lanes drained.serves h;
               takes = takes_on takes;
               settled = tt;
               durable = tt;
@@ -445,11 +433,11 @@ module _ {D : Type 0} (device : D → Device) (s : Setting) (p : Past) (x : Part
               cut = λ l. omega (arith, drained.cut l, h.cut l);
               places = λ l. omega (arith, drained.places l, h.places l);
               ran = ran_to h.now h.ran;
-              serves = same_serves device z w s drained.now unsettled layout drained.serves h;
+              serves = same_serves device z w s drained.now unsettled layout all_lanes drained.serves h;
               takes = takes_on takes;
               settled = tt;
               durable = record { running = runs; settled = told.settled; trimmed = both.trimmed };
-              left = left_by w.known (device w.disk) s h.now h.has runs;
+              left = left_by w.known (device w.disk) s h.now all_lanes h.has runs;
               quiet = λ is empty. never_quiet is empty;
               still = λ off. absurd (let no = told.failed (drains.rings.ok.running ∙ off) in cc);
               failed = λ off. absurd (let no = told.failed (drains.rings.ok.running ∙ off) in cc);

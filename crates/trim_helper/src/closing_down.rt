@@ -92,7 +92,6 @@ fn finish<D: Disk>(
 ) -> Result<Finals, CloseError>
     requires helper { IsHelper shared seat }
     requires lanes { shared.plan.lanes ≡ store.old.known.layout.lanes }
-    requires threads { store.old.known.threads ≡ store.old.known.layout.lanes }
     requires rings { length rings.old ≡ store.old.known.layout.lanes }
     requires few { length rings.old ≤ 32 }
     requires room { most_room rings.old ≤ MOST_RING_RECORDS }

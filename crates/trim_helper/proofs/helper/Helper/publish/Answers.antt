@@ -26,6 +26,9 @@ publish_all-requires-clause-seat g c = subst (λ k. IsHelper c.args.shared.now k
 pub publish_all-requires-clause-lanes : goal.publish_all-requires-clause-lanes
 publish_all-requires-clause-lanes g c = subst (λ k. c.args.shared.now.plan.lanes ≡ k.store.known.layout.lanes) (sym c.self.view_is) c.requires.lanes
 
+pub publish_all-requires-clause-threads : goal.publish_all-requires-clause-threads
+publish_all-requires-clause-threads g c = c.self.invariant.serving.taken.threads
+
 pub publish_all-requires-clause-rises : goal.publish_all-requires-clause-rises
 publish_all-requires-clause-rises g c =
     let may = subst (λ k. MayBePublished g.D.Disk.device k) (sym c.self.view_is) c.requires.durable in
