@@ -8,6 +8,8 @@
 mod laws;
 mod sections;
 mod sorting;
+#[cfg(test)]
+mod tests;
 
 pub use laws::{first_law, number_law};
 pub use sections::{needed, push_sections};

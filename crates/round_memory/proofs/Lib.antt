@@ -1,0 +1,7 @@
+pub mod Lists
+pub mod Finding
+pub mod Cuts
+pub mod Leaving
+pub mod Writing
+pub mod Fitting
+pub mod Knowing

@@ -1,0 +1,12 @@
+//! What a store for rounds of two syncs keeps in memory beside the records applied and the logged sections.
+//!
+//! [`RoundMemory`] has what the acknowledged cut keeps, and the logged records beyond it. A survey finds what a later cut keeps of
+//! these: the fields that change, with their values, and the number at which each object is first taken beyond that cut.
+#![tactic(auto)]
+
+mod counting;
+mod keeping;
+mod round_memory;
+mod survey;
+
+pub use round_memory::RoundMemory;
