@@ -1,5 +1,5 @@
 //! Why workers haven't done what they were to do.
-use durable::StoreError;
+use store_past::StoreError;
 use guards::SchemaError;
 use image::ImageError;
 use recover::RecoverError;

@@ -1,5 +1,5 @@
 //! Why threads of a heap haven't run to their end.
-use durable::StoreError;
+use store_past::StoreError;
 use image::ImageError;
 use recover::RecoverError;
 use thiserror::Error;

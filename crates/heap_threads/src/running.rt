@@ -32,7 +32,7 @@ use running_life::{crash_law, round_law};
 use std::alloc::Global;
 use std::sync::Wait;
 use std::thread::Threads;
-use survival::accepted_law;
+use round_survival::two_syncs_law;
 use trim_helper::{Ended, Helper};
 
 /// Lets a thread for each lane do this work on a heap of this schema that was recovered, closes the heap, and recovers the device: what
@@ -234,7 +234,7 @@ fn close_all<D: Disk, W: Work>(
     ensures cause { IfErr result (λ back. StopsEnd (W.does work.now) shared helper.store.known.layout (D.device helper.store.disk) (D.device back.0) back.1) }
     ensures crashes { IfErr result (λ back. CrashesBy D.device shared helper (D.device back.0) back.1) }
 {
-    accepted_law();
+    two_syncs_law();
     crash_law::<D>();
     taken_law();
     let _work = work;

@@ -7,7 +7,7 @@ ghost use Rattle.trim_helper.specs.Heard.{HasSeen};
 
 use crate::bell::Bell;
 use block_disk::Disk;
-use durable::StoreError;
+use store_past::StoreError;
 use monitor::Shared;
 use running_heap::{helping_law, life_law};
 use running_life::round_law;

@@ -5,7 +5,7 @@ use Rattle.block_disk.specs.Memory.{device_of, fresh}
 use Rattle.deferred_disk.specs.Deferred.{Deferred}
 use Rattle.deferred_disk.specs.Host.{Host, IsHostOf, host_name}
 use Rattle.deferred_disk.proofs.Names.{consumer_name}
-use Rattle.durable.specs.Store.{Known}
+use Rattle.round_store.specs.Store.{Known}
 use Rattle.image.specs.Calls.{Call, Write, Sync, after, after_one}
 use Rattle.image.specs.Recovered.{Parts as Recovered}
 use Rattle.image.specs.declared.layout.Layout.{Layout}

@@ -1,5 +1,5 @@
 //! Why a hosted heap isn't opened, told of, or closed.
-use durable::StoreError;
+use store_past::StoreError;
 use guards::SchemaError;
 use image::ImageError;
 use recover::RecoverError;

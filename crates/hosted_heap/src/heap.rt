@@ -6,7 +6,7 @@ use crate::seated::HostedSession;
 use crate::stop::Stopper;
 use crate::stop_word::StopWord;
 use deferred_disk::{DeferredDisk, DeviceCall, HostCalls, SYNCS};
-use durable::StoreError;
+use store_past::StoreError;
 use heap_model::Lane;
 use image::Layout;
 use monitor::Shared;
@@ -70,8 +70,8 @@ impl HostedHeap {
     ghost use Rattle.hosted_heap.specs.declared.error.AcknowledgedError.TheVariants.{BadLane, CallsLeft};
     ghost use Rattle.image.specs.Layout.{size_of};
     ghost use Rattle.steps.specs.Views.{plan};
-    ghost use Rattle.store_past.specs.Past.{Past};
-    ghost use Rattle.durable.specs.Store.{ShowsStep};
+    ghost use Rattle.store_past.specs.Past.{Past, applied};
+    ghost use Rattle.helper_sections.specs.Image.{ShowsCutOf};
     ghost use Rattle.hosted_heap.specs.Meeting.{AreAllMade, FetchesAll, SameButMet, host_moment};
     ghost use Rattle.trim_helper.specs.Parts.{IsServing};
 
@@ -267,10 +267,10 @@ impl HostedHeap {
         ensures ok { (p : Past) → IsServing hosted_device self.old.helper (plan self.old.home) p → IfOk result (λ n. n ≡ p.cut lane.0) }
         // What is acknowledged is told only where no call is left, of those fetched or handed over.
         ensures all_made { OnOk result (AreAllMade self.new.calls) }
-        // When a count is told, whatever a crash of the host's device leaves shows the past that the helper serves, or
-        // what a failed call of its store was making of it.
+        // When a count is told, whatever a crash of the host's device leaves shows the acknowledged cut of what was
+        // applied, or a later one.
         ensures kept { OnOk result ((p : Past) (image : List ℕ) → IsServing hosted_device self.old.helper (plan self.old.home) p → Image (host_moment self.new) image
-            → ShowsStep self.old.helper.store.known.layout (plan self.old.home) p self.old.helper.store.known.doubt image) }
+            → ShowsCutOf self.old.helper.store.known.layout self.old.helper.store.known.layout.lanes (plan self.old.home) (applied p) p.cut image) }
         // `BadLane` is answered exactly for a lane that the heap hasn't.
         ensures bad_lane { (result ≡ Err BadLane) ↔ (self.old.helper.store.known.layout.lanes ≤ lane.0) }
         // `CallsLeft` is answered exactly where the heap has the lane and a call is left.

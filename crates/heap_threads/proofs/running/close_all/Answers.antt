@@ -35,7 +35,7 @@ returns-in-Ok-clause-cause g c =
     let closed = device c.in-Ok.disk in
     let closes = c.in-Ok.ensures.closes c.requires.helper.past c.requires.helper.serving in
     weaker c.tell.result (λ back. StopsTelling closed (device back.0) back.1) (λ back. StopsEnd (g.W.Work.does c.args.work.now) c.args.shared l (device c.args.helper.store.disk) (device back.0) back.1)
-    (λ back stops. told_stops (g.W.Work.does c.args.work.now) c.args.shared l (device c.args.helper.store.disk) closed (device back.0) c.args.ended.items back.1 c.requires.none c.requires.complete closes.later c.in-Ok.ensures.ok c.accepted_law.ensures.accepted c.accepted_law.ensures.current stops)
+    (λ back stops. told_stops (g.W.Work.does c.args.work.now) c.args.shared l (device c.args.helper.store.disk) closed (device back.0) c.args.ended.items back.1 c.requires.none c.requires.complete closes.later c.in-Ok.ensures.ok c.two_syncs_law.ensures stops)
     c.tell.ensures.cause
 
 pub returns-in-Ok-clause-crashes : goal.returns-in-Ok-clause-crashes
