@@ -58,7 +58,7 @@ module _ {D : Type 0} (device : D → Device) (y : Parts D) (rings : List Receiv
   -- what the helper serves it serves still
   pub heard_serves : (s : Setting) (p : Past) → IsServing device y s p → IsServing device (parts_from y.store rings y.waiting y.is_settled seat) s p
   heard_serves s p was = record {
-    taken = record { has = was.taken.has; taken = λ l. kept.received l ∙ was.taken.taken l };
+    taken = record { has = was.taken.has; threads = was.taken.threads; taken = λ l. kept.received l ∙ was.taken.taken l };
     counts = λ l lt. subst (λ (n : ℕ). n ≤ p.cut l) (sym (count_noted y.seat seat l same)) (was.counts l lt);
     places = λ l lt. subst (λ (n : ℕ). n ≤ trimmed_of p l) (sym (place_noted y.seat seat l same)) (was.places l lt);
     running = was.running;

@@ -19,7 +19,7 @@ use Rattle.trim_helper.proofs.RingMoves.{held_most, known_most, same_refl, same_
 
 module _ {D : Type 0} (device : D → Device) where
   pub looks_taken : (x : Taking D) (seen : List Receiving) (s : Setting) (p : Past) → Looks x.rings seen → HasTaken device x s p → HasTaken device (record x { rings = seen }) s p
-  looks_taken x seen s p looks was = record { has = was.has; taken = λ l. looks.received l ∙ was.taken l }
+  looks_taken x seen s p looks was = record { has = was.has; threads = was.threads; taken = λ l. looks.received l ∙ was.taken l }
 
   drained_by : (x y : Taking D) (seen : List Receiving) (n : ℕ) → most_room x.rings ≤ MOST_RING_RECORDS → length x.rings ≤ 32 → length x.waiting ≡ 32 → Looks x.rings seen → Advances device (record x { rings = seen }) y n → Drained device 1 x y n
   drained_by x y seen n have few slots looks on = record {
