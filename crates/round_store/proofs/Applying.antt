@@ -1,8 +1,6 @@
 -- What a store has after a record was applied.
-use Rattle.std.proofs.Common.{ℕ, ◌≡◌, ◌+◌, ◌<◌, ◌≤◌, ◌^◌, ◌≢◌, false, true, List, [], ◌∷◌, ◌++◌, Result, Ok, Err, OnOk, OnErr, MatchResult, length, refl, sym, ap, ◌∙◌, subst, arith}
-use Rattle.std.specs.Prelude.{All}
+use Rattle.std.proofs.Common.{ℕ, ◌≡◌, ◌+◌, ◌<◌, ◌≤◌, ◌≢◌, false, true, [], ◌∷◌, Result, Ok, Err, MatchResult, length, refl, sym, ap, ◌∙◌, subst, arith}
 use Rattle.std.proofs.lemmas.List.Elements.{All-nil, All-cons}
-use Rattle.heap_model.specs.declared.record.LaneRecord.{LaneRecord}
 use Rattle.heap_model.specs.declared.record.Record.{Record}
 use Rattle.heap_model.specs.Log.{IsOfLanes, lane}
 use Rattle.heap_model.specs.Setting.{Setting}
@@ -16,7 +14,7 @@ use Rattle.store_memory.specs.Apply.{Answers}
 use Rattle.store_memory.specs.Limits.{AreWithin}
 use Rattle.store_memory.specs.Memory.{KeepsLayout, Memory, lane_in}
 use Rattle.store_memory.specs.Remembers.{Remembers}
-use Rattle.store_memory.specs.Sections.{Logged, MayBeLogged, TellsSections, start_in}
+use Rattle.store_memory.specs.Sections.{Logged, MayBeLogged, TellsSections}
 use Rattle.durable.proofs.Behind.{behind_undo}
 use Rattle.durable.proofs.Pasts.{past_apply}
 use Rattle.round_memory.specs.Rounds.{KeepsFound, KnowsRounds, MayLog, Rounds}

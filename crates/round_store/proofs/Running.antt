@@ -14,7 +14,7 @@ use Rattle.store_past.specs.Past.{Past, after_apply, after_log, applied}
 use Rattle.helper_sections.specs.Image.{ShowsCutOf}
 use Rattle.round_store.specs.Runs.{ApplyRuns, FlushRuns, HasRun, IsRunTo, RoundRuns, TakesSequences}
 use Rattle.round_store.specs.Steps.{Applies, Flushes, IsPastOf, MakesRound, Writes, after_round}
-use Rattle.round_store.specs.Store.{Known, Parts}
+use Rattle.round_store.specs.Store.{Parts}
 use Rattle.round_store.proofs.Shown.{shows_more}
 
 -- a run of no calls

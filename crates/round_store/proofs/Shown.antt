@@ -12,7 +12,7 @@ use Rattle.block_disk.proofs.Images.{always_now}
 use Rattle.image.specs.Cells.{HasCell}
 use Rattle.image.specs.Control.{control_of}
 use Rattle.image.specs.declared.layout.Layout.{Layout}
-use Rattle.store_past.specs.Past.{Past, applied, has_store}
+use Rattle.store_past.specs.Past.{Past, has_store}
 use Rattle.store_image.specs.declared.committed.Committed.{Committed}
 use Rattle.helper_sections.specs.Going.{from_heap}
 use Rattle.helper_sections.specs.HelperSections.{HelperSection, helper_log}

@@ -11,7 +11,7 @@ use Rattle.store_image.specs.Sequences.{ShowsUpTo}
 use Rattle.store_past.specs.Past.{Past, after_apply, after_log, applied}
 use Rattle.store_past.specs.declared.error.StoreError.{StoreError}
 use Rattle.helper_sections.specs.Image.{ShowsCutOf}
-use Rattle.round_store.specs.Steps.{Applies, Flushes, IsPastOf, MakesRound, after_round}
+use Rattle.round_store.specs.Steps.{IsPastOf, after_round}
 use Rattle.round_store.specs.Store.{Known, Parts}
 
 -- Calls made of the one past the other: records were applied, and sections acknowledged. Whatever a crash left since the first device shows

@@ -1,12 +1,7 @@
-use Rattle.std.proofs.Common.{List, ◌≡◌, ◌+◌, ◌≤◌, length, refl, sym, ap, ◌∙◌, subst, arith}
-use Rattle.heap_model.specs.Setting.{Setting}
-use Rattle.image.specs.declared.guard_row.GuardRow.{GuardRow}
-use Rattle.image.specs.declared.layout.Layout.{Layout}
-use Rattle.store_image.specs.declared.committed.Committed.{Committed}
+use Rattle.std.proofs.Common.{List, length, sym, ap, arith}
 use Rattle.store_past.specs.Past.{no_past}
 use Rattle.durable.proofs.Adopting.{same_setting}
 use Rattle.round_image.specs.declared.cells.HomeValue.{HomeValue}
-use Rattle.round_store.specs.Begin.{AreGuardsOf}
 use Rattle.round_store.proofs.Adopting.{adopts, adopts_one, new_of}
 use Rattle.round_store.proofs.store.RoundStore.adopt.Goals as goal
 

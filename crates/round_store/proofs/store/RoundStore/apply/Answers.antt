@@ -1,4 +1,4 @@
-use Rattle.std.proofs.Common.{ap, refl}
+use Rattle.std.proofs.Common.{refl}
 use Rattle.round_store.proofs.Applying.{applied_has, applies_from, apply_refused, may_extend, may_push, with_next}
 use Rattle.store_past.specs.Past.{after_apply, applied}
 use Rattle.round_store.proofs.store.RoundStore.apply.Goals as goal
@@ -15,14 +15,17 @@ push-requires g c =
       );
     }
 
-pub extend-requires-clause-may : goal.extend-requires-clause-may
-extend-requires-clause-may g c =
-    let was = c.self.invariant.1 in (
-      was.0,
-      with_next was.1 c.args.lane.0 c.args.next,
-      may_extend _ was.0 was.1 _ was.2 c.args.lane.0 c.args.next c.apply.new.self (c.in-Ok.ensures.answer was.0 was.1 was.2.remembers).0 (c.in-Ok.ensures.ok was.0 was.1 was.2.remembers) c.apply.ensures.kept c.fresh-fresh.ensures.within,
-      refl,
-    )
+pub extend-requires : goal.extend-requires
+extend-requires g c =
+    let was = c.self.invariant.1 in
+    record {
+      may = (
+        was.0,
+        with_next was.1 c.args.lane.0 c.args.next,
+        may_extend _ was.0 was.1 _ was.2 c.args.lane.0 c.args.next c.apply.new.self (c.in-Ok.ensures.answer was.0 was.1 was.2.remembers).0 (c.in-Ok.ensures.ok was.0 was.1 was.2.remembers) c.apply.ensures.kept c.fresh-fresh.ensures.within,
+        refl,
+      );
+    }
 
 pub invariant_of-self : goal.invariant_of-self
 invariant_of-self g c =
