@@ -5,37 +5,14 @@
  * prints `heap` and the values, whether they fit together, and closes the heap. Each value that is counted lies in a page of its own. */
 #ifndef COUNTS_H
 #define COUNTS_H
-#include <errno.h>
-#include <inttypes.h>
-#include <pthread.h>
 #include <stdatomic.h>
-#include <stdio.h>
-#include <stdlib.h>
-#include <string.h>
-#include <unistd.h>
-#include "zelamiku.h"
+#include "cuts.h"
 
 /* Object 0 has the total, the last thread and its count; objects t and t + WORKERS the counters of thread t. */
 enum { WORKERS = 4, TOTAL = 0, OBJECTS = 2 * WORKERS + 1, LAST = OBJECTS, LAST_COUNT, COUNTED };
 enum { STRIDE = 520, FIELDS = COUNTED * STRIDE };
-/* How a program ends. */
-enum { TORN = 1, REFUSED, NOT_DONE, NO_HEAP, GONE };
 
-static zelamiku_heap heap;
-static int port = -1;
 static _Atomic uint64_t durable[WORKERS + 1];
-
-static void must(zelamiku_status status) {
-    if (status == ZELAMIKU_OK) return;
-    printf("refused: %s; %s\n", zelamiku_status_text(status), zelamiku_heap_message());
-    exit(status == ZELAMIKU_LOST || status == ZELAMIKU_DEVICE ? GONE : REFUSED);
-}
-
-static void must_do(bool is_done, const char *what) {
-    if (is_done) return;
-    printf("%s: %s\n", what, strerror(errno));
-    exit(NOT_DONE);
-}
 
 static void tell(const char *key, uint32_t thread, uint64_t count) {
     char line[64];

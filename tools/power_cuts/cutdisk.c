@@ -3,7 +3,8 @@
  *
  *     cutdisk SOCKET TOLD SIZE_MB SEED
  *
- * TOLD is another socket: each line that comes there, KEY VALUE, goes into the record too. Commands come on standard input, one a line.
+ * Where a file has the name of SOCKET the disk is mounted there, by FUSE, as another file. TOLD is another socket, or a FIFO that is there: each
+ * line that comes by it, KEY VALUE, goes into the record too. Commands come on standard input, one a line.
  * Each is answered by a line, "ok ..", on standard output; a command that it doesn't know ends it.
  *
  *   open FILE         the disk has the file's bytes, which stay as they are, and a record begins
@@ -15,8 +16,18 @@
  *   told C            KEY=VALUE: the last that was told of each key before event C
  *   only A B A B ..   sectors are torn in these ranges of bytes alone; with no range, everywhere
  *   lie C             a flush that arrives after event C counts for nothing
+ *   fail KIND SKIP COUNT MODE
+ *                     of the requests of this kind that come now, after the first SKIP, COUNT are answered by an error. Of a failed
+ *                     write the disk has nothing (lost) or the first half (half); after a failed flush it has what it had (kept), or
+ *                     its cache is lost, with what was answered and wasn't durable (lost). KIND is write, flush, read or none
+ *   failed            how many have failed since
+ *   history FILE      the lines that begin with # and were told in the record go to a file; `told` has none of them
  *   state C POLICY GRAIN PERCENT SEED TORN
  *                     the disk has what a cut before event C may leave; nothing is recorded until a record begins
+ *   save FILE         what the disk had when the record began, or where nothing is recorded what it has, goes to a file; the answer is
+ *                     the sectors of it that can't be read
+ *   unreadable N ..   these sectors can't be read until they are written again
+ *   stop              from now on nothing is recorded, though all is answered: the machine that has the disk loses its power
  *   gone              answered once no client is connected
  *
  * A write is durable if it was answered before a flush arrived that was answered before the cut, or was answered before the cut with FUA.
@@ -33,7 +44,8 @@
  *   1                 bytes old and new are mixed, where its write wasn't answered
  *   2                 the same of each volatile write
  *   3                 it has any bytes
- *   4                 it has any bytes, or can't be read until it is written again, by chance */
+ *   4                 it has any bytes, or can't be read until it is written again, by chance
+ *   5                 it has any bytes, with the 4,096 around it, which the disk writes together */
 #define _GNU_SOURCE
 #include <endian.h>
 #include <errno.h>
@@ -146,11 +158,12 @@ static bool is_readable(uint64_t at, uint64_t count) {
 /* ---- the record ---- */
 
 typedef struct {
-    enum { WRITE, FLUSH, ANSWER, TOLD } kind;
+    enum { WRITE, FLUSH, ANSWER, TOLD, LOSS } kind;
     bool is_fua;
     uint64_t of;        /* of an answer: the event of its request */
     uint64_t at, count; /* of a write */
     uint8_t *bytes;     /* of a write, NULL: zeros; or a text */
+    uint64_t lost_by;   /* of a write: the event of the loss that took it from the disk's cache; 0: none has */
     int64_t answer;     /* while a state is made: the event of the answer, or -1 */
     bool is_durable;    /* the same */
 } event;
@@ -236,13 +249,14 @@ static bool keep_sector(const event *write, uint64_t from, int torn) {
         write_disk(new, at, SECTOR);
         return false;
     }
-    uint8_t bytes[SECTOR];
-    read_disk(bytes, at, SECTOR);
+    uint8_t bytes[PAGE];
+    uint64_t count = torn == 5 ? PAGE : SECTOR, begin = at / count * count;
+    read_disk(bytes, begin, count);
     if (torn <= 2)
         mix(bytes, new != NULL ? new : zeros);
     else
-        for (uint64_t i = 0; i < SECTOR; i++) bytes[i] = (uint8_t)(any() >> 33);
-    write_disk(bytes, at, SECTOR);
+        for (uint64_t i = 0; i < count; i++) bytes[i] = (uint8_t)(any() >> 33);
+    write_disk(bytes, begin, count);
     if (torn == 4 && below(2) == 0) {
         unreadable[at / SECTOR] = 1;
         unreadables++;
@@ -263,7 +277,7 @@ static uint64_t writes_before(uint64_t cut, candidate *found) {
         if (events[i].kind == FLUSH && events[i].answer >= 0) firm = (int64_t)i;
     for (uint64_t i = 0; i < cut; i++) {
         event *write = &events[i];
-        if (write->kind != WRITE) continue;
+        if (write->kind != WRITE || (write->lost_by > 0 && write->lost_by < cut)) continue;
         bool is_answered = write->answer >= 0;
         write->is_durable = is_answered && (write->answer < firm || (write->is_fua && (uint64_t)write->answer < lie_from));
         found[count++] = (candidate){is_answered ? (uint64_t)write->answer : cut + below(UINT32_MAX), write};
@@ -315,10 +329,50 @@ static void make_state(uint64_t cut, const choice *by) {
     printf("ok volatile %lu in flight %lu torn %lu\n", volatiles, in_flight, torn);
 }
 
+/* ---- failures ---- */
+
+static struct {
+    char kind[8];
+    uint64_t skip, count;
+    bool keeps_half, loses_cache;
+    uint64_t failed;
+} fault;
+
+/* Whether this request, of a kind, is one that fails. */
+static bool fails(const char *kind) {
+    if (strcmp(fault.kind, kind) != 0) return false;
+    if (fault.skip > 0) {
+        fault.skip--;
+        return false;
+    }
+    if (fault.count == 0) return false;
+    fault.count--;
+    fault.failed++;
+    return true;
+}
+
+/* The disk's cache loses what was answered and isn't durable. What comes to it only now it still takes. */
+static void lose_cache(void) {
+    uint64_t loss = add((event){.kind = LOSS}), count;
+    if (loss == 0) return;
+    candidate *writes = room((loss + 1) * sizeof *writes);
+    count = writes_before(loss, writes);
+    for (uint64_t i = 0; i < count; i++)
+        if (!writes[i].write->is_durable && writes[i].write->answer >= 0) writes[i].write->lost_by = loss;
+    free(writes);
+    copy(&now, &current->before);
+    for (uint64_t i = 0; i < loss; i++) {
+        const event *write = &current->events[i];
+        if (write->kind == WRITE && write->lost_by == 0) write_disk(write->bytes, write->at, write->count);
+    }
+}
+
 /* ---- NBD ---- */
 
 typedef struct {
     bool is_used;
+    int error; /* of a request that has failed, which is no event */
+    uint32_t written;
     uint64_t cookie, of, due;
 } waiting;
 
@@ -396,7 +450,12 @@ static bool greet(void) {
     return false;
 }
 
-static bool answer(uint64_t cookie, int error) {
+static bool has_fuse;
+static bool answer_fuse(uint64_t unique, int error, uint32_t written);
+
+/* Of a write by FUSE `written` is how many bytes it had; of all else 0. */
+static bool answer(uint64_t cookie, int error, uint32_t written) {
+    if (has_fuse) return answer_fuse(cookie, error, written);
     request_reply reply = {htobe32(0x67446698), htobe32((uint32_t)error), cookie};
     return give(&reply, sizeof reply);
 }
@@ -408,21 +467,41 @@ static void answer_due(uint64_t time) {
         for (int i = 0; i < MOST_WAITING; i++)
             if (waits[i].is_used && waits[i].due <= time && (first == NULL || waits[i].due < first->due)) first = &waits[i];
         if (first == NULL) return;
-        add((event){.kind = ANSWER, .of = first->of});
-        (void)answer(first->cookie, 0);
+        if (first->error == 0) add((event){.kind = ANSWER, .of = first->of});
+        (void)answer(first->cookie, first->error, first->written);
         first->is_used = false;
     }
 }
 
-/* A request that was recorded is answered later, or at once where there is no delay or no room. */
-static bool answer_later(uint64_t cookie, uint64_t of) {
+/* A request that was recorded, or has failed, is answered later, or at once where there is no delay or no room. */
+static bool answer_later(uint64_t cookie, uint64_t of, int error, uint32_t written) {
     for (int i = 0; delay > 0 && i < MOST_WAITING; i++)
         if (!waits[i].is_used) {
-            waits[i] = (waiting){true, cookie, of, nanoseconds() + below(delay * 1000)};
+            waits[i] = (waiting){true, error, written, cookie, of, nanoseconds() + below(delay * 1000)};
             return true;
         }
-    add((event){.kind = ANSWER, .of = of});
-    return answer(cookie, 0);
+    if (error == 0) add((event){.kind = ANSWER, .of = of});
+    return answer(cookie, error, written);
+}
+
+static bool take_flush(uint64_t cookie) {
+    if (!fails("flush")) return answer_later(cookie, add((event){.kind = FLUSH}), 0, 0);
+    if (fault.loses_cache) lose_cache();
+    return answer_later(cookie, 0, EIO, 0);
+}
+
+/* A write of these bytes, or of zeros. Of one that fails the first half may be a write like any other. */
+static bool take_write(uint64_t cookie, bool is_fua, uint64_t at, uint64_t count, const uint8_t *bytes) {
+    bool has_failed = fails("write");
+    uint32_t written = bytes != NULL ? (uint32_t)count : 0;
+    if (has_failed) count = fault.keeps_half ? count / 2 / SECTOR * SECTOR : 0;
+    uint64_t of = 0;
+    if (count > 0) {
+        write_disk(bytes, at, count);
+        of = add((event){.kind = WRITE, .is_fua = is_fua, .at = at, .count = count, .bytes = bytes != NULL ? copied(bytes, count) : NULL});
+        if (has_failed) add((event){.kind = ANSWER, .of = of});
+    }
+    return answer_later(cookie, of, has_failed ? EIO : 0, written);
 }
 
 /* Takes one request. Whether the client stays. */
@@ -436,17 +515,17 @@ static bool serve(void) {
     bool is_write = kind == WRITES || kind == TRIM || kind == WRITE_ZEROES, is_range = is_write || kind == READ;
     if (kind == DISCONNECT || (count > sizeof buffer && (kind == WRITES || kind == READ))) return false;
     if (kind == WRITES && !take(buffer, count)) return false;
-    if ((!is_range && kind != FLUSHES) || (is_range && (at > size || count > size - at))) return answer(asked.cookie, EINVAL);
+    if ((!is_range && kind != FLUSHES) || (is_range && (at > size || count > size - at))) return answer(asked.cookie, EINVAL, 0);
     if (kind == READ) {
-        bool is_there = is_readable(at, count);
+        bool is_there = is_readable(at, count) && !fails("read");
         if (is_there) read_disk(buffer, at, count);
-        return answer(asked.cookie, is_there ? 0 : EIO) && (!is_there || give(buffer, count));
+        return answer(asked.cookie, is_there ? 0 : EIO, 0) && (!is_there || give(buffer, count));
     }
-    if (kind == FLUSHES) return answer_later(asked.cookie, add((event){.kind = FLUSH}));
-    write_disk(kind == WRITES ? buffer : NULL, at, count);
-    bool is_fua = (be16toh(asked.flags) & 1) != 0;
-    return answer_later(asked.cookie, add((event){WRITE, is_fua, 0, at, count, kind == WRITES ? copied(buffer, count) : NULL, -1, false}));
+    if (kind == FLUSHES) return take_flush(asked.cookie);
+    return take_write(asked.cookie, (be16toh(asked.flags) & 1) != 0, at, count, kind == WRITES ? buffer : NULL);
 }
+
+#include "cutdisk_fuse.h"
 
 /* ---- what is told, and commands ---- */
 
@@ -456,6 +535,7 @@ static void tell_last(uint64_t cut) {
     for (uint64_t i = 0; i < cut && i < current->count; i++) {
         if (current->events[i].kind != TOLD) continue;
         const char *text = (const char *)current->events[i].bytes;
+        if (*text == '#') continue;
         size_t length = strcspn(text, " ") + 1, at = 0;
         while (at < keys && strncmp(last[at], text, length) != 0) at++;
         if (at == MOST_KEYS) continue;
@@ -465,6 +545,16 @@ static void tell_last(uint64_t cut) {
     printf("ok");
     for (size_t i = 0; i < keys; i++) printf(" %.*s=%s", (int)strcspn(last[i], " "), last[i], last[i] + strcspn(last[i], " ") + 1);
     printf("\n");
+}
+
+static void write_history(const char *path) {
+    FILE *to = fopen(path, "we");
+    must(to != NULL, path);
+    for (uint64_t i = 0; i < current->count; i++) {
+        const event *it = &current->events[i];
+        if (it->kind == TOLD && *it->bytes == '#') fprintf(to, "%s\n", (const char *)it->bytes);
+    }
+    must(fclose(to) == 0, path);
 }
 
 static void open_file(const char *path) {
@@ -478,6 +568,30 @@ static void open_file(const char *path) {
     (void)close(descriptor);
     clear(&now);
     begin();
+}
+
+/* Pages of zeros are holes. */
+static void save(const char *path) {
+    const layer *of = is_recording ? &current->before : &now;
+    int descriptor = open(path, O_WRONLY | O_CREAT | O_TRUNC | O_CLOEXEC, 0666);
+    must(descriptor >= 0 && ftruncate(descriptor, (off_t)size) == 0, path);
+    for (uint64_t i = 0; i < pages; i++) {
+        const uint8_t *page = page_of(of, i);
+        if (memcmp(page, zeros, PAGE) != 0) must(pwrite(descriptor, page, PAGE, (off_t)(i * PAGE)) == PAGE, path);
+    }
+    must(close(descriptor) == 0, path);
+    printf("ok");
+    for (uint64_t i = 0; unreadables > 0 && i < size / SECTOR; i++)
+        if (unreadable[i]) printf(" %lu", i);
+    printf("\n");
+}
+
+static void be_unreadable(char **sectors, int count) {
+    for (int i = 0; i < count; i++) {
+        uint64_t sector = strtoull(sectors[i], NULL, 10);
+        unreadables += !unreadable[sector];
+        unreadable[sector] = 1;
+    }
 }
 
 static bool wants_gone;
@@ -494,6 +608,15 @@ static void tell_flushes(void) {
     printf("\n");
 }
 
+static void set_fault(char **word) {
+    memset(&fault, 0, sizeof fault);
+    (void)snprintf(fault.kind, sizeof fault.kind, "%s", word[0]);
+    fault.skip = number(word[1]);
+    fault.count = number(word[2]);
+    fault.keeps_half = strcmp(word[3], "half") == 0;
+    fault.loses_cache = strcmp(word[3], "lost") == 0;
+}
+
 static void tear_only(char **ends, int count) {
     torn_range_ends = 0;
     for (int i = 0; i < count && i < MOST_RANGES; i++) torn_ranges[torn_range_ends++] = number(ends[i]);
@@ -507,12 +630,16 @@ static bool is_told(char **word, int words) {
         make_state(number(word[1]), &by);
     } else if (strcmp(word[0], "told") == 0 && words == 2) {
         tell_last(number(word[1]));
+    } else if (strcmp(word[0], "save") == 0 && words == 2) {
+        save(word[1]);
     } else if (strcmp(word[0], "count") == 0) {
         printf("ok %lu\n", current->count);
+    } else if (strcmp(word[0], "failed") == 0) {
+        printf("ok %lu\n", fault.failed);
     } else if (strcmp(word[0], "flushes") == 0) {
         tell_flushes();
     } else if (strcmp(word[0], "gone") == 0) {
-        wants_gone = client >= 0;
+        wants_gone = client >= 0 && (!has_fuse || fuse_opens > 0);
         if (!wants_gone) printf("ok\n");
     } else {
         return false;
@@ -542,6 +669,14 @@ static void obey(char *line) {
         lie_from = number(word[1]);
     else if (strcmp(word[0], "only") == 0)
         tear_only(word + 1, words - 1);
+    else if (strcmp(word[0], "fail") == 0 && words == 5)
+        set_fault(word + 1);
+    else if (strcmp(word[0], "history") == 0 && words == 2)
+        write_history(word[1]);
+    else if (strcmp(word[0], "stop") == 0)
+        is_recording = false;
+    else if (strcmp(word[0], "unreadable") == 0)
+        be_unreadable(word + 1, words - 1);
     else
         must(false, word[0]);
     printf("ok\n"), fflush(stdout);
@@ -580,13 +715,17 @@ static int listen_at(const char *path) {
     return door;
 }
 
+static void tell_gone(void) {
+    if (wants_gone) printf("ok\n"), fflush(stdout);
+    wants_gone = false;
+}
+
 /* The client is gone: what it waits for is never answered. */
 static void end_client(void) {
     (void)close(client);
     client = -1;
     memset(waits, 0, sizeof waits);
-    if (wants_gone) printf("ok\n"), fflush(stdout);
-    wants_gone = false;
+    tell_gone();
 }
 
 /* What is told is heard before the disk's next request: it was true when it was told. */
@@ -598,7 +737,9 @@ int main(int argc, char **argv) {
     now.page = room(pages * sizeof *now.page);
     for (int i = 0; i < MOST_DEPTH; i++) records[i].before.page = room(pages * sizeof *now.page);
     unreadable = room(size / SECTOR);
-    int door = listen_at(argv[1]), told_door = listen_at(argv[2]), told = -1;
+    int told = open(argv[2], O_RDWR | O_CLOEXEC), told_door = told < 0 ? listen_at(argv[2]) : -1;
+    client = mount_fuse(argv[1]);
+    int door = client < 0 ? listen_at(argv[1]) : -1;
     static lines commands, texts;
     printf("ok\n"), fflush(stdout);
     for (;;) {
@@ -617,7 +758,8 @@ int main(int argc, char **argv) {
             told = -1;
             texts.length = 0;
         }
-        if (from[4].revents != 0 && !serve()) end_client();
+        if (from[4].revents != 0 && !(has_fuse ? serve_fuse() : serve())) end_client();
+        if (has_fuse && fuse_opens == 0) tell_gone();
         if (from[1].revents != 0) {
             client = accept4(door, NULL, NULL, SOCK_CLOEXEC);
             if (client >= 0 && !greet()) end_client();

@@ -1,4 +1,5 @@
 """The guests of tools/power-cuts: their disk (cutdisk.c), what they are made of, and a machine whose power can be cut."""
+import copy
 import glob
 import json
 import lzma
@@ -16,10 +17,20 @@ import time
 
 HERE = os.path.dirname(os.path.realpath(__file__))
 TOP = os.path.dirname(os.path.dirname(HERE))
-PROGRAM, LIBRARY = f"{TOP}/crates/heapctl/out/heapctl", f"{TOP}/crates/zelamiku/out/host"
+PROGRAM, BANK, LIBRARY = f"{TOP}/crates/heapctl/out/heapctl", f"{TOP}/crates/bank/out/bank", f"{TOP}/crates/zelamiku/out/host"
 PATHS = f"{os.environ.get('PATH', '')}:/usr/sbin:/sbin"
+ATTACHED = "if=none,id=disk,cache=none,discard=unmap,werror=report,rerror=report"  # a guest is told of an error
 SIZE = 320  # megabytes of the disk: the least that mkfs.xfs takes
-MAKE = {"ext4": "mkfs.ext4 -q -F -b 4096", "xfs": "mkfs.xfs -q -f", "btrfs": "mkfs.btrfs -q -f", "none": "true"}
+# By its name: the kind that is mounted, and what makes it. Blocks below a page show what a page hides, which is written whole.
+SYSTEMS = {
+    "ext4": ("ext4", "mkfs.ext4 -q -F -b 1024"),
+    "ext4-4k": ("ext4", "mkfs.ext4 -q -F -b 4096"),
+    "xfs": ("xfs", "mkfs.xfs -q -f"),
+    "xfs-1k": ("xfs", "mkfs.xfs -q -f -b size=1024"),
+    "btrfs": ("btrfs", "mkfs.btrfs -q -f"),
+    "f2fs": ("f2fs", "mkfs.f2fs -q -f"),
+    "none": ("none", "true"),
+}
 WANTED = {
     "qemu-system-x86_64": "qemu-system-x86",
     "busybox": "busybox-static",
@@ -45,6 +56,14 @@ def must_run(*words, **how):
     done = subprocess.run(words, capture_output=True, text=True, check=False, **how)
     must(done.returncode == 0, f"{words[0]} has failed: {done.stderr[-2000:]}")
     return done.stdout
+
+
+def kind_of(system):
+    return SYSTEMS[system][0]
+
+
+def maker_of(system):
+    return SYSTEMS[system][1].split()
 
 
 def is_installed(command):
@@ -88,7 +107,7 @@ def unpacked(kernel, path):
 def make_file_system(path, system):
     with open(path, "wb") as file:
         file.truncate(SIZE << 20)
-    must_run(*MAKE[system].split(), path, env={**os.environ, "PATH": PATHS})
+    must_run(*maker_of(system), path, env={**os.environ, "PATH": PATHS})
     return path
 
 
@@ -102,10 +121,16 @@ class Disk:
     """cutdisk, which is asked line by line."""
 
     def __init__(self, folder, seed):
-        self.socket, self.told_by = free(f"{folder}/disk"), free(f"{folder}/told")
+        self.socket, self.told_by = f"{folder}/disk", f"{folder}/told"
+        self.clear()
         words = [f"{folder}/cutdisk", self.socket, self.told_by, str(SIZE), str(seed)]
         self.running = subprocess.Popen(words, stdin=subprocess.PIPE, stdout=subprocess.PIPE, text=True, bufsize=1)
         self.running.stdout.readline()
+
+    def clear(self):
+        """No file has the names of its sockets."""
+        free(self.socket)
+        free(self.told_by)
 
     def ask(self, *words):
         must(self.running.poll() is None, "cutdisk has ended")
@@ -144,7 +169,11 @@ class Guest:
     def words(self, parts, kind, memory, control, port):
         # A second processor, or a newer one, costs more in translation than it gives.
         processor = "-accel kvm -cpu host -smp 2" if parts.has_kvm else "-accel tcg,tb-size=256 -cpu Nehalem -smp 1"
-        device = {"virtio": "-device virtio-blk-pci,drive=disk", "scsi": "-device virtio-scsi-pci -device scsi-hd,drive=disk,dpofua=on"}
+        device = {
+            "virtio": "-device virtio-blk-pci,drive=disk",
+            "512e": "-device virtio-blk-pci,drive=disk,physical_block_size=4096",
+            "scsi": "-device virtio-scsi-pci -device scsi-hd,drive=disk,dpofua=on",
+        }
         # Where the heap's host is here, it tells the disk itself.
         told, network = f"socket,id=t,path={self.disk.told_by}", []
         if port:
@@ -155,7 +184,7 @@ class Guest:
             *["-kernel", parts.kernel, "-initrd", parts.initramfs, "-serial", f"file:{parts.folder}/console"],
             # Programs lie at the same place each time, so that they aren't translated anew.
             *["-append", "console=ttyS0 quiet panic=-1 mitigations=off nokaslr norandmaps no_timer_check cryptomgr.notests"],
-            *["-drive", f"file=nbd:unix:{self.disk.socket},format=raw,if=none,id=disk,cache=none,discard=unmap", *device[kind].split()],
+            *["-drive", f"file=nbd:unix:{self.disk.socket},format=raw,{ATTACHED}", *device[kind].split()],
             *["-chardev", f"socket,id=c,path={control}", "-chardev", told, "-device", "virtio-serial-pci"],
             *["-device", "virtserialport,chardev=c,name=control", "-device", "virtserialport,chardev=t,name=told", *network],
         ]
@@ -213,21 +242,46 @@ class Parts:
     def __init__(self, folder, needs, has_kvm):
         is_built = os.path.exists(PROGRAM) and os.path.exists(f"{LIBRARY}/libzelamiku.a")
         must(is_built, "heapctl or the library isn't there: rt ci, then tools/c-library")
-        self.folder, self.has_kvm, self.is_doubted, kernel = folder, has_kvm, True, kernels()[-1]
+        self.folder, self.has_kvm, self.is_doubted = folder, has_kvm, True
         flags = ["-std=gnu11", "-O2", "-Wall", "-Wextra", "-Werror"]
         must_run("cc", *flags, f"{HERE}/cutdisk.c", "-o", f"{folder}/cutdisk")
-        linked = [f"{LIBRARY}/libzelamiku.a", "-pthread", "-Wl,--wrap=pwrite,--wrap=fdatasync"]
-        must_run("cc", *flags, f"{HERE}/counts.c", "-I", f"{TOP}/bindings/c", *linked, "-o", f"{folder}/counts")
-        programs = [PROGRAM, f"{folder}/counts", *(shutil.which(name, path=PATHS) for name in ("e2fsck", "filefrag"))]
+        must_run("cc", *flags, f"{HERE}/unmended.c", "-o", f"{folder}/unmended")
+        linked = ["-I", f"{TOP}/bindings/c", f"{LIBRARY}/libzelamiku.a", "-pthread"]
+        must_run("cc", *flags, f"{HERE}/sections.c", *linked, "-o", f"{folder}/sections")
+        must_run("cc", *flags, f"{HERE}/counts.c", *linked, "-Wl,--wrap=pwrite,--wrap=fdatasync", "-o", f"{folder}/counts")
+        programs = [PROGRAM, *(f"{folder}/{name}" for name in ("counts", "sections", "unmended")), *(shutil.which(name, path=PATHS) for name in ("e2fsck", "filefrag"))]
         programs += [self.rust_program()] if "cargo" in needs else []
+        programs += [BANK] if "bank" in needs else []
         files = self.python_files() if "python" in needs else []
         if "nbd" in needs:
-            linked = [f"{LIBRARY}/libzelamiku.a", "-pthread", "-lnbd"]
-            must_run("cc", *flags, f"{HERE}/counts_nbd.c", f"{TOP}/bindings/c/zelamiku_nbd.c", "-I", f"{TOP}/bindings/c", *linked, "-o", f"{folder}/counts_nbd")
+            sources = f"{HERE}/counts_nbd.c", f"{TOP}/bindings/c/zelamiku_nbd.c"
+            must_run("cc", *flags, *sources, *linked, "-lnbd", "-o", f"{folder}/counts_nbd")
             programs += [shutil.which("nbdkit", path=PATHS)]
             files += [re.search(r"plugindir=(.*)", must_run("nbdkit", "--dump-config"))[1] + "/nbdkit-file-plugin.so"]
-        self.kernel, self.initramfs = unpacked(kernel, f"{folder}/kernel"), f"{folder}/initramfs"
+        self.make_machine(programs, files)
+
+    def make_machine(self, programs, files):
+        """What a machine boots from."""
+        kernel = kernels()[-1]
+        self.kernel, self.initramfs = unpacked(kernel, f"{self.folder}/kernel"), f"{self.folder}/initramfs"
         must_run(f"{HERE}/initramfs", self.initramfs, kernel.partition("-")[2], *programs, "--", *files)
+
+    def alone(self, number):
+        """The same for a trial that runs beside others, in a folder of its own."""
+        own = copy.copy(self)
+        own.folder = f"{self.folder}/{number}"
+        os.mkdir(own.folder)
+        for name in ("cutdisk", "counts_nbd"):
+            if os.path.exists(f"{self.folder}/{name}"):
+                os.link(f"{self.folder}/{name}", f"{own.folder}/{name}")
+        return own
+
+    def name(self):
+        """What its machines are."""
+        return f"{'KVM' if self.has_kvm else 'TCG'}, {os.path.basename(kernels()[-1])}"
+
+    def disk(self, seed):
+        return Disk(self.folder, seed)
 
     def rust_program(self):
         environment = {**os.environ, "ZELAMIKU_LIBS": LIBRARY, "CARGO_TARGET_DIR": f"{self.folder}/target"}
@@ -252,7 +306,7 @@ class Parts:
                 self.save(words, saved, tries_left)
         guest = Guest(self, *words, "-incoming", f"exec:cat {saved}")
         try:
-            status, printed = guest.run(f"begin {kind} {system}; [ -b /dev/data ]")
+            status, printed = guest.run(f"begin {'scsi' if kind == 'scsi' else 'virtio'} {kind_of(system)}; [ -b /dev/data ]")
             must(status == 0, f"a machine has no disk: {printed}")
         except BaseException:
             guest.end()

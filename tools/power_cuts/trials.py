@@ -1,12 +1,27 @@
 """A run of tools/power-cuts: the record of one, the states that a cut may have left, cuts in recovery, and true cuts."""
 import dataclasses
+import json
+import os
 import random
 import re
 import time
 
+import history
 import machines
-from machines import Disk, must
+from machines import TOP, Wrong, must, must_run
 from works import LEASES, WORKS
+
+KEPT = f"{TOP}/out/power-cuts"  # the first wrong state of each run, in a folder
+
+
+@dataclasses.dataclass
+class Known:
+    """What is known of a state before it is looked at: what was told by then, whether there is a heap, what it has at least, and has to be."""
+
+    told: dict
+    is_made: bool = True
+    floor: tuple = ()
+    same: tuple = ()
 
 
 @dataclasses.dataclass
@@ -43,8 +58,9 @@ def tries_of(printed):
     return found
 
 
-def judge(work, printed, told, is_made, floor=(), same=()):
-    """`told` is what was told before the cut, `floor` what the heap has at least, `same` the heap that it has to be."""
+def judge(work, printed, known):
+    """The verdict of what a look has printed. Machines that mount nothing have tried nothing."""
+    told, floor, same = known.told, known.floor, known.same
     text = "; ".join(printed)[-1500:]
     if "NO MOUNT" in printed:
         return Verdict(is_unmounted=True)
@@ -53,14 +69,14 @@ def judge(work, printed, told, is_made, floor=(), same=()):
     wrong = what_is_wrong_with_copy(work, *heaps.pop("copy"), told, text) if "copy" in heaps else []
     least = [max(it, told.get(str(i), 0)) for i, it in enumerate([*work.least, *[0] * (work.parts + 1 - len(work.least))])]
     has_failed = len(heaps) < 2 or any(status for status, _ in heaps.values())
-    if has_failed and not is_made and not any(least) and any(it in text for it in work.absent):
+    if has_failed and not known.is_made and not any(least) and any(it in text for it in work.absent):
         return Verdict("; ".join(wrong), is_absent=True)
     values = {values for _, values in heaps.values()}
     heap = max(values, default=())
     checks = {
         "it is refused": has_failed,
         "looks differ": len(values) != 1,
-        "the sum": not heap or heap[0] != sum(heap[1 : work.parts + 1]),
+        "the sum": not heap or not work.adds_up(heap[: work.parts + 1]),
         f"less than {least}, which was told": any(value < it for value, it in zip(heap, least)),
         f"less than {floor}, which is durable": any(value < it for value, it in zip(heap, floor)),
         f"not {same}, as at the first recovery": bool(same) and heap != same,
@@ -75,19 +91,20 @@ class Trial:
     def __init__(self, parts, run, seed):
         self.parts, self.run, self.work, self.guest = parts, run, WORKS[run.work], None
         self.chance = random.Random(f"{seed} {run.name()}")
-        self.disk = Disk(parts.folder, self.chance.getrandbits(30))
-        self.counts = dict.fromkeys(("states", "volatile", "in recovery", "true", "wrong", "absent", "unmounted"), 0)
-        self.is_made, self.first_wrong = bool(self.work.least), ""
+        self.disk = parts.disk(self.chance.getrandbits(30))
+        self.counts = dict.fromkeys(("states", "volatile", "in recovery", "true", "failures", "wrong", "absent", "unmounted"), 0)
+        self.is_made, self.first_wrong, self.lines = bool(self.work.least), "", []
 
     def command(self, text):
         return text.replace(LEASES, getattr(self.parts, "leases", ""))
 
     def mount(self):
         """The command that mounts the disk. What only e2fsck mends is mounted after it."""
-        if self.run.system == "none":
+        system = machines.kind_of(self.run.system)
+        if system == "none":
             return "true"
-        mount = f"mount -t {self.run.system} {'-o ' + self.run.mount if self.run.mount else ''} /dev/data /mnt"
-        mend = f"{{ e2fsck -fy /dev/data >/mended; {mount}; }} || " if self.run.system == "ext4" else ""
+        mount = f"mount -t {system} {'-o ' + self.run.mount if self.run.mount else ''} /dev/data /mnt"
+        mend = f"{{ e2fsck -fy /dev/data >/mended; {mount}; }} || " if system == "ext4" else ""
         return f"{mount} || {mend}echo NO MOUNT"
 
     def switched_on(self):
@@ -110,17 +127,31 @@ class Trial:
     def await_told(self):
         until = time.monotonic() + 300
         while not self.disk.told(2**63).keys() - {"made"}:
-            must(time.monotonic() < until, f"nothing is told: {self.guest.run('cat /run.txt; dmesg | tail -3')[1]}")
+            if time.monotonic() > until:
+                raise Wrong(f"nothing is told: {self.guest.run('cat /run.txt; dmesg | tail -3')[1]}")
             time.sleep(0.1)
 
-    def record(self, seconds):
-        """Makes the file system, lets the work run on it, and cuts the power."""
+    def prepare(self):
+        """Makes the file system, and what the work needs on it. A record begins."""
         self.disk.ask("open", machines.make_file_system(f"{self.parts.folder}/base", self.run.system))
         guest = self.switched_on()
         self.disk.ask("delay", 300)
         self.disk.ask("anew")
         status, printed = guest.run(f"{self.mount()}; {self.command(self.work.prepare)} && sync")
-        must(status == 0, f"the guest can't begin: {printed}")
+        must(status == 0 and "NO MOUNT" not in printed, f"the guest can't begin: {printed}")
+
+    def take_lines(self):
+        """The accounts of sections that this record has, after those of the ones before."""
+        if self.work.has_history:
+            path = f"{self.parts.folder}/history"
+            self.disk.ask("history", path)
+            with open(path, encoding="utf-8") as file:
+                self.lines += file.read().splitlines()
+            self.lives = history.lives_of(self.lines)
+
+    def record(self, seconds):
+        """Lets the work run, and cuts the power."""
+        self.prepare()
         self.start = self.disk.count()
         self.begin()
         if self.work.tells:
@@ -131,6 +162,7 @@ class Trial:
         self.end = self.disk.count()
         self.flushes = [it for it in self.disk.flushes() if it > self.start]
         must(self.end > self.start + 20, "nothing was recorded")
+        self.take_lines()
 
     def policy(self):
         """What a cut keeps of the volatile writes, in the words of cutdisk."""
@@ -170,20 +202,57 @@ class Trial:
         """A look that a cut may meet."""
         self.guest.send(self.looks())
 
-    def note(self, kind, verdict, where):
+    def judged(self, printed, known):
+        verdict = judge(self.work, printed, known)
+        if self.work.has_history and verdict.heap and not verdict.wrong:
+            verdict.wrong = history.what_is_wrong(self.lives, verdict.heap, self.work.parts)
+        return verdict
+
+    def try_look(self, kind, known, where, is_reversed=False, state=()):
+        """Looks at what the disk has, and counts the verdict. `state` makes that again where no record began with it."""
+        verdict = self.judged(self.look(is_reversed), known)
+        self.note(kind, verdict, known, where, is_reversed, state)
+        return verdict
+
+    def note(self, kind, verdict, known, where, is_reversed=False, state=()):
         self.counts[kind] += 1
         self.counts["absent"] += verdict.is_absent
         self.counts["unmounted"] += verdict.is_unmounted
         self.counts["wrong"] += bool(verdict.wrong)
         if verdict.wrong and not self.first_wrong:
             self.first_wrong = f"{where}: {verdict.wrong}"
+            if not self.run.leaves_out():
+                self.first_wrong = f"{self.keep(known, where, is_reversed, state)}: {self.first_wrong}"
+
+    def keep(self, known, where, is_reversed, state):
+        """Keeps the state that the last look has found wrong: the disk, and what is known of it. Where it lies."""
+        folder, disk = f"{KEPT}/{re.sub('[^a-z0-9]+', '-', self.run.name().lower())}", f"{self.parts.folder}/kept"
+        if state:
+            self.disk.ask("state", *state)
+        kept = {"run": dataclasses.asdict(self.run), "known": dataclasses.asdict(known), "where": where, "is_reversed": is_reversed}
+        kept |= {"unreadable": self.disk.ask("save", disk), "lines": self.lines, "wrong": self.first_wrong}
+        os.makedirs(folder, exist_ok=True)
+        must_run("cp", "--sparse=always", disk, f"{folder}/disk")
+        with open(f"{folder}/state.json", "w", encoding="utf-8") as file:
+            json.dump(kept, file, indent=1)
+        return f"kept in {os.path.relpath(folder, TOP)}"
+
+    def again(self, folder, kept):
+        """The verdict of a state that was kept."""
+        known = Known(**kept["known"])
+        known.floor, known.same = tuple(known.floor), tuple(known.same)
+        self.lives = history.lives_of(kept["lines"])
+        self.disk.ask("open", f"{folder}/disk")
+        for at in range(0, len(kept["unreadable"]), 200):
+            self.disk.ask("unreadable", *kept["unreadable"][at : at + 200])
+        return self.judged(self.look(kept["is_reversed"]), known)
 
     def tear_the_image_alone(self):
         """Where sectors lose all bytes those of the file system stay, which isn't made for that."""
         self.disk.ask("state", self.end, "kept", 0, 0, 1, 0)
-        printed = self.switched_on().run(f"{self.mount()}; filefrag -b4096 -v /mnt/heap; umount /mnt")[1]
+        printed = self.switched_on().run(f"{self.mount()}; filefrag -b1024 -v /mnt/heap; umount /mnt")[1]
         ranges = [re.match(r"\s*\d+:\s*\d+\.\.\s*\d+:\s*(\d+)\.\.\s*(\d+):", it) for it in printed]
-        ends = [end for it in ranges if it for end in (int(it[1]) * 4096, int(it[2]) * 4096 + 4096)]
+        ends = [end for it in ranges if it for end in (int(it[1]) * 1024, int(it[2]) * 1024 + 1024)]
         must(ends, f"filefrag: {printed}")
         self.disk.ask("only", *ends)
 
@@ -204,8 +273,8 @@ class Trial:
         for i, cut in enumerate(moments):
             policy, told = self.policy(), self.disk.told(cut)
             self.counts["volatile"] += self.disk.ask("state", cut, *policy)[1] != "0"
-            verdict = judge(self.work, self.look(i % 2 == 1), told, self.is_made or bool(told or floor), floor)
-            self.note("states", verdict, f"cut {cut}, {policy}")
+            known = Known(told, self.is_made or bool(told or floor), floor)
+            verdict = self.try_look("states", known, f"cut {cut}, {policy}", i % 2 == 1, (cut, *policy))
             if stops and verdict.wrong:
                 return
             if policy[0] == "lost" and verdict.heap and self.work.only_grows and not stops:
@@ -218,22 +287,23 @@ class Trial:
             self.switched_on()
             self.disk.ask("state", cut, *self.policy())
             self.disk.ask("deeper")
-            first = judge(self.work, self.look(i % 2 == 1), told, self.is_made or bool(told))
+            known = Known(told, self.is_made or bool(told))
+            first = self.judged(self.look(i % 2 == 1), known)
             end, flushes = self.disk.count(), self.disk.flushes()
             if not first.heap or first.wrong:
-                self.note("in recovery", first, f"cut {cut}, the first recovery")
+                self.note("in recovery", first, known, f"cut {cut}, the first recovery", i % 2 == 1)
                 end = 0
             for again in self.moments(min(8, number - 8 * i) if end > 0 else 0, 0, end, flushes):
                 policy = self.policy()
                 self.disk.ask("state", again, *policy)
-                verdict = judge(self.work, self.look(), told, True, same=first.heap)
-                self.note("in recovery", verdict, f"cut {cut}, then {again} in recovery, {policy}")
+                self.try_look("in recovery", Known(told, same=first.heap), f"cut {cut}, then {again} in recovery, {policy}", state=(again, *policy))
             self.disk.ask("back")
 
     def leave(self, told):
         """The disk has what the cut leaves, and `told` what was told by then."""
         end = self.disk.count()
         told.update({key: max(value, told.get(key, 0)) for key, value in self.disk.told(end).items()})
+        self.take_lines()
         self.disk.ask("state", end, *self.policy())
 
     def try_true_cuts(self, number):
@@ -251,8 +321,9 @@ class Trial:
                 self.begin_look()
                 time.sleep(self.chance.uniform(0, 1))
             else:
-                verdict = judge(self.work, self.look(stays=True), told, self.is_made or bool(told or floor), floor)
-                self.note("true", verdict, f"true cut {i}")
+                known = Known(told, self.is_made or bool(told or floor), floor)
+                verdict = self.judged(self.look(stays=True), known)
+                self.note("true", verdict, known, f"true cut {i}")
                 must(self.guest is not None and not verdict.is_unmounted, "the machine of a true cut hangs, or mounts nothing")
                 floor = verdict.heap[: self.work.parts + 1] if self.work.only_grows else ()
                 self.begin()
@@ -260,6 +331,14 @@ class Trial:
             self.cut()
             self.leave(told)
         self.disk.ask("delay", 0)
+
+    def try_all(self):
+        """Looks at the states of the run, cuts its recoveries, and cuts its power."""
+        self.record(3 if self.run.is_first else 6)
+        self.try_states(self.run.states)
+        self.try_in_recovery(self.run.in_recovery)
+        if self.run.true:
+            self.try_true_cuts(self.run.true)
 
     def end_all(self):
         if self.guest is not None:

@@ -1,0 +1,87 @@
+"""Machines of tools/power-cuts that are none: programs run under this machine's own kernel, in a root and namespaces of their own.
+
+Their disk is cutdisk's file, mounted by FUSE, behind a loop device. A cut ends the programs, and what the kernel writes from then on is in no
+record: what is in its caches is lost, as if the machine had lost its power. The kernel itself goes on, and so does all else that runs.
+"""
+import os
+import socket
+import subprocess
+
+from machines import HERE, Disk, Guest, Parts, is_installed, must, must_run
+
+WANTED = ("losetup", "unshare", "busybox", "mkfs.ext4", "cc", "cpio")
+
+
+def lacking():
+    """What a native trial needs and this machine hasn't."""
+    lacks = [name for name in WANTED if not is_installed(name)]
+    lacks += [] if os.geteuid() == 0 else ["root"]
+    return lacks + [path for path in ("/dev/fuse", "/dev/loop-control") if not os.access(path, os.R_OK | os.W_OK)]
+
+
+def has_system(name):
+    """Whether this kernel has the file system."""
+    with open("/proc/filesystems", encoding="utf-8") as file:
+        return name == "none" or any(line.split()[-1] == name for line in file)
+
+
+class FuseDisk(Disk):
+    """cutdisk, mounted by FUSE."""
+
+    def __init__(self, folder, seed):
+        with open(f"{folder}/disk", "wb"):
+            pass
+        if not os.path.exists(f"{folder}/told"):
+            os.mkfifo(f"{folder}/told")
+        super().__init__(folder, seed)
+
+    def clear(self):
+        """The names stand for what is mounted there, and for a FIFO."""
+
+    def end(self):
+        super().end()
+        must_run("umount", "--lazy", self.socket)
+
+
+class Programs(Guest):
+    """Processes that are taken for a machine."""
+
+    def __init__(self, parts, disk):
+        self.disk, self.got = disk, b""
+        self.loop = must_run("losetup", "--find", "--show", "--direct-io=on", disk.socket).strip()
+        self.port, theirs = socket.socketpair()
+        words = ["unshare", "--mount", "--pid", "--fork", "--kill-child", f"{HERE}/native", parts.root, self.loop, disk.told_by]
+        with theirs:
+            self.running = subprocess.Popen(words, stdin=theirs, stdout=theirs)
+        must(self.line(60) == "READY", "programs don't begin")
+
+    def end(self):
+        super().end()
+        must_run("losetup", "--detach", self.loop)
+
+    def cut(self):
+        """What was asked by now has come to the disk. The loop device ends once the file system is let go of."""
+        self.disk.ask("stop")
+        super().cut()
+
+
+class NativeParts(Parts):
+    """What native trials are made of."""
+
+    def make_machine(self, programs, files):
+        self.root, packed = f"{self.folder}/root", f"{self.folder}/initramfs"
+        must_run(f"{HERE}/initramfs", packed, "none", *programs, "--", *files)
+        os.mkdir(self.root)
+        os.mkdir(f"{self.root}.over")
+        with open(packed, "rb") as file:
+            must_run("cpio", "-idm", "--quiet", stdin=file, cwd=self.root)
+
+    def disk(self, seed):
+        return FuseDisk(self.folder, seed)
+
+    def guest(self, disk, kind, system, memory, port):
+        """Nothing but the disk tells these machines apart."""
+        return Programs(self, disk)
+
+    def name(self):
+        return f"native, {os.uname().release}"
