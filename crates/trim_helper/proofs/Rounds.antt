@@ -6,13 +6,12 @@ use Rattle.lane_rings.specs.Rings.{Receiving}
 use Rattle.heap_model.specs.declared.record.Record.{Record}
 use Rattle.heap_model.specs.Setting.{Setting}
 use Rattle.block_disk.specs.Device.{Device, HasCause}
-use Rattle.block_disk.specs.Images.{Always}
 use Rattle.block_disk.proofs.Failures.{cause_since}
 use Rattle.image.specs.declared.layout.Layout.{Layout}
 use Rattle.monitor.specs.declared.view.Note.{Note}
 use Rattle.monitor.specs.Seats.{Helping, Home}
 use Rattle.monitor.specs.Views.{noted}
-use Rattle.store_past.specs.Past.{Past, IsPast, applied, no_past}
+use Rattle.store_past.specs.Past.{Past, applied, no_past}
 use Rattle.store_past.specs.declared.error.StoreError.{StoreError}
 use Rattle.store_past.specs.declared.error.StoreError.TheVariants.{Failed, BadLane, BadId, Worn, NotNext, TooLong, LogFull, Unwritten, Fault, Unfinished}
 use Rattle.round_store.specs.Runs.{HasRun, TakesSequences}
