@@ -1,5 +1,5 @@
 -- What a store has once the device has done its part.
-use Rattle.std.proofs.Common.{ℕ, ◌≡◌, ◌+◌, ◌<◌, ◌≤◌, ◌⊎◌, true, false, List, [], ◌++◌, length, refl, sym, ap, ◌∙◌, subst, inl, inr, arith}
+use Rattle.std.proofs.Common.{ℕ, ◌≡◌, ◌<◌, ◌≤◌, ◌⊎◌, true, false, List, [], ◌++◌, length, refl, sym, ap, ◌∙◌, subst, inl, inr, arith}
 use Rattle.std.specs.Prelude.{All, Contains, slice_index, ◌↔◌}
 use Rattle.heap_model.specs.declared.cut.Cut.{Cut}
 use Rattle.heap_model.specs.declared.record.Record.{Record}
@@ -8,13 +8,13 @@ use Rattle.heap_model.specs.Log.{lane, log_from}
 use Rattle.heap_model.specs.Sections.{actions}
 use Rattle.heap_model.specs.Setting.{Setting}
 use Rattle.block_disk.specs.Device.{Device}
-use Rattle.block_disk.specs.Images.{Always, LeavesOnly}
+use Rattle.block_disk.specs.Images.{LeavesOnly}
 use Rattle.block_disk.proofs.Images.{now_too, weaker}
 use Rattle.image.specs.declared.layout.Layout.{Layout}
 use Rattle.undo_log.specs.Dropped.{records_in, undo_logs}
 use Rattle.undo_log.specs.StandsFor.{row_of}
 use Rattle.undo_log.proofs.Back.{length_undo}
-use Rattle.store_past.specs.Past.{IsPast, IsTrimmed, Past, after_log, after_settle, after_trim, applied, has_store}
+use Rattle.store_past.specs.Past.{IsTrimmed, Past, after_log, after_settle, after_trim, applied, has_store}
 use Rattle.store_image.specs.declared.committed.Committed.{Committed}
 use Rattle.store_image.proofs.Growing.{places_grown}
 use Rattle.store_image.proofs.Places.{cut_place, records_within}
@@ -250,21 +250,21 @@ module _ (x : Known) (s : Setting) (p : Past) (d : Device) (has : HasPast x s p 
       IsRoundOn x.layout x.threads s (applied p) cut [] c e →
       HasPast (record { layout = x.layout; threads = x.threads; committed = c; memory = m; sections = x.sections; rounds = x.rounds; guards = x.guards; pending = waits; has_failed = x.has_failed }) s (after_log p) e
   logged_has serves c m waits e cut remembers keeps none same on = turned_has serves c m x.sections x.rounds waits (after_log p) e (record {
-        past = record {
-          legal = has.past.legal;
-          within = has.past.within;
-          base_whole = (cut_stays s p.fresh p.logged p.base has.past.legal has.past.base_whole has.past.base_closed).0;
-          base_closed = (cut_stays s p.fresh p.logged p.base has.past.legal has.past.base_whole has.past.base_closed).1;
-          whole = (cut_stays s p.fresh p.logged p.cut has.past.legal has.past.whole has.past.closed).0;
-          closed = (cut_stays s p.fresh p.logged p.cut has.past.legal has.past.whole has.past.closed).1;
-        };
-        lanes = keeps.lanes ∙ has.layout.lanes;
-        rounds_lanes = has.layout.rounds_lanes;
-        remembers = remembers;
-        sections = has.sections;
-        rounds = record { fields = has.rounds.fields; objects = has.rounds.objects; kept = has.rounds.kept; beyond = has.rounds.beyond; starts = has.rounds.starts };
-        starts = λ k low. keeps.starts k ∙ has.starts k low ∙ sym (places_grown (p.cut k) p.fresh p.logged k (has.past.whole k));
-      }) keeps.capacity refl refl refl has.trimmed [] (subst (λ (k : ℕ → ℕ). IsRoundOn x.layout x.threads s (applied p) k [] c e) same on)
+    past = record {
+      legal = has.past.legal;
+      within = has.past.within;
+      base_whole = (cut_stays s p.fresh p.logged p.base has.past.legal has.past.base_whole has.past.base_closed).0;
+      base_closed = (cut_stays s p.fresh p.logged p.base has.past.legal has.past.base_whole has.past.base_closed).1;
+      whole = (cut_stays s p.fresh p.logged p.cut has.past.legal has.past.whole has.past.closed).0;
+      closed = (cut_stays s p.fresh p.logged p.cut has.past.legal has.past.whole has.past.closed).1;
+    };
+    lanes = keeps.lanes ∙ has.layout.lanes;
+    rounds_lanes = has.layout.rounds_lanes;
+    remembers = remembers;
+    sections = has.sections;
+    rounds = record { fields = has.rounds.fields; objects = has.rounds.objects; kept = has.rounds.kept; beyond = has.rounds.beyond; starts = has.rounds.starts };
+    starts = λ k low. keeps.starts k ∙ has.starts k low ∙ sym (places_grown (p.cut k) p.fresh p.logged k (has.past.whole k));
+  }) keeps.capacity refl refl refl has.trimmed [] (subst (λ (k : ℕ → ℕ). IsRoundOn x.layout x.threads s (applied p) k [] c e) same on)
       (subst (λ (xs : List HomeValue). All (IsValueIn x.layout (kept_by s (applied p) p.cut)) xs) (sym none) (All-nil (IsValueIn x.layout (kept_by s (applied p) p.cut))))
       (λ f. ((λ listed. absurd (none_listed f (subst (λ (xs : List HomeValue). Contains (fields_of xs) f) none listed))), (λ stored. absurd (let no : false ≡ true = stored in cc))))
 

@@ -1,6 +1,5 @@
 -- Turns one behind the other, and what a round makes of them.
-use Rattle.std.proofs.Common.{ℕ, ◌≡◌, ◌≢◌, ◌+◌, ◌-◌, ◌<◌, ◌≤◌, ◌^◌, ◌⊎◌, if◌then◌else◌, Bool, true, false, List, [], ◌++◌, Result, Ok, Err, IfErr, OnErr, OnOk, refl, sym, ap, ◌∙◌, subst, inl, inr, arith}
-use Rattle.std.specs.Prelude.{IsErrOf}
+use Rattle.std.proofs.Common.{ℕ, ◌≡◌, ◌≢◌, ◌+◌, ◌-◌, ◌≤◌, ◌^◌, ◌⊎◌, if◌then◌else◌, Bool, true, false, List, [], ◌++◌, Result, Ok, Err, IfErr, OnErr, OnOk, refl, sym, ap, ◌∙◌, subst, inl, inr, arith}
 use Rattle.heap_model.specs.declared.cut.Cut.{Cut}
 use Rattle.heap_model.specs.declared.record.Record.{Record}
 use Rattle.heap_model.specs.Cuts.{IsStable, counts_of}
@@ -10,7 +9,7 @@ use Rattle.heap_model.specs.Setting.{Setting}
 use Rattle.cut_laws.proofs.Existence.{stable_once}
 use Rattle.block_disk.specs.Device.{Device, HasCause, HasFailed, Range}
 use Rattle.block_disk.specs.Images.{ImageBut, LeavesOnly}
-use Rattle.block_disk.proofs.Images.{and_then, begin, besides_none, besides_then, follows, now_too, weaker}
+use Rattle.block_disk.proofs.Images.{and_then, begin, besides_none, besides_then, follows, now_too}
 use Rattle.image.specs.declared.layout.Layout.{Layout}
 use Rattle.store_image.specs.Sequences.{ShowsUpTo}
 use Rattle.store_image.specs.Steps.{step_ranges}
@@ -19,8 +18,8 @@ use Rattle.store_past.specs.declared.error.StoreError.TheVariants.{BadId, BadLan
 use Rattle.store_past.specs.Past.{IsTrimmed, Past, after_log, applied, has_store}
 use Rattle.durable.proofs.Sequences.{shows_more}
 use Rattle.helper_sections.specs.Image.{ShowsCutOf}
-use Rattle.round_store.specs.Steps.{Flushes, IsPastOf, MakesRound, RefusesWrite, Writes, after_round}
-use Rattle.round_store.specs.Store.{HasPast, Known, Parts}
+use Rattle.round_store.specs.Steps.{IsPastOf, MakesRound, RefusesWrite, Writes, after_round}
+use Rattle.round_store.specs.Store.{Known, Parts}
 use Rattle.round_store.specs.Turns.{Acknowledges, HasWork, IsBusy, IsIdle, IsPlan, IsQuiet, LogsAll}
 
 -- pasts that are the same

@@ -1,5 +1,5 @@
 -- What a store knows is what a round on its device needs.
-use Rattle.std.proofs.Common.{ℕ, ◌≡◌, ◌+◌, ◌-◌, ◌<◌, ◌≤◌, ◌^◌, ◌⊎◌, Bool, true, false, List, [], ◌∷◌, ◌++◌, length, map, reverse, refl, sym, ap, ◌∙◌, subst, inl, inr, arith}
+use Rattle.std.proofs.Common.{ℕ, ◌≡◌, ◌+◌, ◌-◌, ◌<◌, ◌≤◌, ◌^◌, ◌⊎◌, true, List, [], ◌∷◌, length, map, reverse, sym, ap, ◌∙◌, subst, inl, inr, arith}
 use Rattle.std.specs.Prelude.{All, Contains, slice_index}
 use Rattle.std.proofs.lemmas.List.{get_or-reverse, length-reverse}
 use Rattle.heap_model.specs.declared.cut.Cut.{Cut}
@@ -13,7 +13,6 @@ use Rattle.heap_model.specs.Sections.{actions}
 use Rattle.heap_model.specs.Setting.{Setting}
 use Rattle.cut_laws.proofs.Stays.{cut_stays}
 use Rattle.block_disk.specs.Device.{Device}
-use Rattle.block_disk.specs.Images.{Always}
 use Rattle.block_disk.proofs.Images.{always_now, image_now}
 use Rattle.image.specs.Cells.{HasCell}
 use Rattle.image.specs.Control.{AreRows}
@@ -25,7 +24,6 @@ use Rattle.undo_log.specs.StandsFor.{row_of}
 use Rattle.undo_log.proofs.Back.{length_undo}
 use Rattle.store_past.specs.Past.{Past, applied, has_store}
 use Rattle.store_image.specs.NewRecords.{FitsLane}
-use Rattle.store_image.specs.declared.committed.Committed.{Committed}
 use Rattle.store_image.proofs.Growing.{kept_grown, since_grown}
 use Rattle.store_image.proofs.Places.{records_within}
 use Rattle.store_image.proofs.Rows.{row_is}
@@ -41,7 +39,7 @@ use Rattle.round_image.specs.Turning.{IsValueIn, fields_of}
 use Rattle.round_image.specs.declared.cells.HomeValue.{HomeValue}
 use Rattle.round_making.specs.Rounds.{MayMake}
 use Rattle.round_store.specs.Store.{HasPast, IsRunning, Known}
-use Rattle.round_store.proofs.Fields.{listed_or_not, store_left, store_parts, store_right}
+use Rattle.round_store.proofs.Fields.{store_left, store_parts, store_right}
 
 all_reversed : {A : Type 0} (P : A → Type 0) (xs : List A) → All P xs → All P (reverse xs)
 all_reversed P xs all k d lt = subst P (sym (get_or-reverse xs k d (omega (arith, length-reverse xs)))) (all (length xs - 1 - k) d (omega (arith, length-reverse xs)))
@@ -145,7 +143,7 @@ module _ (x : Known) (s : Setting) (p : Past) (d : Device) (has : HasPast x s p 
           All (IsValueIn l (kept_by s all (counts_of next))) cells →
           ((f : ℕ) → Contains (fields_of cells) f → has_store f (round_records t s p.logged p.cut run.helped) ≡ true) →
           ((f : ℕ) → f < l.fields → s.is_logged f ≡ true →
-              (has_store f (round_records t s all (counts_of next) later) ≡ true) ⊎ Contains (fields_of cells) f ⊎ HasCell l f d.now.bytes (kept_by s all (counts_of next) f)) →
+          (has_store f (round_records t s all (counts_of next) later) ≡ true) ⊎ Contains (fields_of cells) f ⊎ HasCell l f d.now.bytes (kept_by s all (counts_of next) f)) →
           MayMake l t s p.logged p.cut run.helped p.fresh later x.committed d next places cells fresh helper
       may_make fresh fresh_is next places cells helper later whole closed more behind there preceding are helper_fits values covered homes = record {
         on = run.on;

@@ -1,6 +1,6 @@
 -- The three turns that a round may make: what each needs, and what the store has then.
-use Rattle.std.proofs.Common.{ℕ, zero, suc, ◌≡◌, ◌+◌, ◌-◌, ◌<◌, ◌≤◌, ◌^◌, ◌⊎◌, if◌then◌else◌, Bool, true, false, List, [], ◌++◌, length, map, Option, Some, None, refl, sym, ap, ◌∙◌, subst, inl, inr, arith}
-use Rattle.std.specs.Prelude.{All, Contains, nat_lt, slice_index, ◌↔◌}
+use Rattle.std.proofs.Common.{ℕ, suc, ◌≡◌, ◌+◌, ◌<◌, ◌≤◌, ◌⊎◌, if◌then◌else◌, Bool, true, false, List, [], ◌++◌, length, map, Option, Some, None, refl, sym, ap, ◌∙◌, subst, inl, inr, arith}
+use Rattle.std.specs.Prelude.{All, Contains, slice_index, ◌↔◌}
 use Rattle.std.specs.List.Sorted.{IsPermutation}
 use Rattle.std.proofs.lemmas.Bool.{cases_lt, lt-ltb}
 use Rattle.std.proofs.lemmas.List.{get_or_past}
@@ -11,7 +11,7 @@ use Rattle.heap_model.specs.declared.record.Record.{Record}
 use Rattle.heap_model.specs.declared.record.UndoRecord.{UndoRecord}
 use Rattle.heap_model.specs.Base.{records_since}
 use Rattle.heap_model.specs.Cuts.{IsClosed, IsStable, IsWhole, counts_of}
-use Rattle.heap_model.specs.Log.{IsLegal, log_from}
+use Rattle.heap_model.specs.Log.{log_from}
 use Rattle.heap_model.specs.Sections.{action, actions, ended}
 use Rattle.cut_laws.proofs.Existence.{stable_once}
 use Rattle.cut_laws.proofs.Lanes.{lane_actions}
@@ -28,7 +28,6 @@ use Rattle.undo_log.specs.Area.{IsLoggable}
 use Rattle.undo_log.specs.Dropped.{records_in, undo_logs}
 use Rattle.undo_log.specs.StandsFor.{row_of}
 use Rattle.store_past.specs.Past.{Past, after_log, applied, has_store}
-use Rattle.store_image.specs.NewRecords.{FitsLane}
 use Rattle.store_image.proofs.Growing.{places_grown}
 use Rattle.store_memory.specs.Fresh.{undo_log_of}
 use Rattle.store_memory.specs.Limits.{AreWithin, FitWords}
@@ -41,8 +40,8 @@ use Rattle.round_making.specs.Rounds.{MayMake}
 use Rattle.round_memory.specs.Counting.{one_more}
 use Rattle.round_memory.specs.Rounds.{Changes, HasFound}
 use Rattle.round_memory.specs.Surveys.{is_marked}
-use Rattle.round_sections.specs.Adding.{AddsLoggable, AddsSections, AreAdded, AreChanges, IsKept, section_undo}
-use Rattle.round_sections.specs.Sections.{HasNumber, first_in, needed_of, no_object, sections_of, told}
+use Rattle.round_sections.specs.Adding.{AddsLoggable, AddsSections, AreAdded, AreChanges, section_undo}
+use Rattle.round_sections.specs.Sections.{HasNumber, needed_of, no_object, sections_of, told}
 use Rattle.round_store.specs.Cells.{settled_values}
 use Rattle.round_store.specs.Store.{HasPast, IsRunning, Known}
 use Rattle.round_store.specs.Turns.{IsHelped, IsJoined, IsPlan, threads_fresh}

@@ -1,5 +1,5 @@
 -- Which cells a round writes (this project's own).
-use Rattle.std.specs.Prelude.{ℕ, nat_lt, if◌then◌else◌, Bool, true, false, List, length}
+use Rattle.std.specs.Prelude.{nat_lt, if◌then◌else◌, Bool, true, false, List, length}
 use Rattle.std.specs.List.{filter}
 use Rattle.round_image.specs.declared.cells.HomeValue.{HomeValue}
 use Rattle.round_memory.specs.Rounds.{Rounds}

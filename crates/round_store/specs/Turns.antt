@@ -1,5 +1,5 @@
 -- What the parts of a round promise: each is a turn on the device, or leads from one to the next (this project's own).
-use Rattle.std.specs.Prelude.{ℕ, ◌≡◌, ◌+◌, ◌-◌, ◌<◌, ◌≤◌, ◌^◌, ◌⊎◌, nat_lt, if◌then◌else◌, true, false, List, [], Result, OnErr, OnOk, length, slice_index}
+use Rattle.std.specs.Prelude.{ℕ, ◌≡◌, ◌+◌, ◌-◌, ◌<◌, ◌≤◌, ◌^◌, ◌⊎◌, nat_lt, if◌then◌else◌, List, [], Result, OnErr, OnOk, length, slice_index}
 use Rattle.heap_model.specs.declared.cut.Cut.{Cut}
 use Rattle.heap_model.specs.declared.record.Record.{Record}
 use Rattle.heap_model.specs.Cuts.{IsStable, counts_of}

@@ -1,4 +1,4 @@
-use Rattle.std.proofs.Common.{ℕ, ◌≡◌, length, refl, sym, ap, ◌∙◌, subst, arith}
+use Rattle.std.proofs.Common.{◌∙◌, arith}
 use Rattle.heap_model.specs.Cuts.{counts_of}
 use Rattle.store_past.specs.Past.{after_log, after_settle, applied}
 use Rattle.round_store.proofs.Afterwards.{found, may_forget, may_keep, may_start, tells_after}
@@ -16,7 +16,6 @@ pub forget_to-requires : goal.forget_to-requires
 forget_to-requires c =
     let was = c.requires.tells in
     record { may = (was.2.cut, applied was.2, may_forget was.0 was.1 was.2 _ _ _ c.args.stable.now.cut c.args.stable.now.places was.3 c.requires.plan) }
-
 
 pub keep-requires : goal.keep-requires
 keep-requires c =

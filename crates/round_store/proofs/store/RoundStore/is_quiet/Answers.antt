@@ -1,10 +1,7 @@
-use Rattle.std.proofs.Common.{ℕ, ◌≡◌, true, false, ap, sym, subst, ◌∙◌}
-use Rattle.heap_model.specs.Cuts.{IsStable, counts_of}
-use Rattle.heap_model.specs.Sections.{actions}
+use Rattle.std.proofs.Common.{◌≡◌, true, false, sym, subst, ◌∙◌}
 use Rattle.store_past.specs.Past.{applied}
 use Rattle.durable.proofs.Ending.{logged_told, unlogged_told}
 use Rattle.round_store.specs.Steps.{IsPastOf}
-use Rattle.round_store.specs.Turns.{IsStableOf}
 use Rattle.round_store.proofs.Turned.{acknowledged_is, is_acknowledged}
 use Rattle.round_store.proofs.store.RoundStore.is_quiet.Goals as goal
 

@@ -1,15 +1,14 @@
-use Rattle.std.proofs.Common.{◌≡◌, ⊎_elim, ℕ, true, false, List, [], Err, length, refl, sym, ap, ◌∙◌, subst, inl, arith}
+use Rattle.std.proofs.Common.{◌≡◌, ⊎_elim, true, false, List, [], Err, length, refl, sym, ap, ◌∙◌, subst, arith}
 use Rattle.heap_model.specs.Cuts.{counts_of}
 use Rattle.heap_model.specs.Setting.{Setting}
 use Rattle.block_disk.specs.Images.{LeavesOnly}
 use Rattle.store_image.specs.declared.committed.Committed.{Committed}
 use Rattle.store_past.specs.Past.{Past, after_log, applied}
-use Rattle.store_past.specs.declared.error.StoreError.{StoreError}
 use Rattle.store_past.specs.declared.error.StoreError.TheVariants.{Worn}
 use Rattle.helper_sections.specs.Image.{ShowsCutOf}
 use Rattle.round_image.specs.declared.cells.HomeValue.{HomeValue}
 use Rattle.round_store.specs.Steps.{RefusesWrite}
-use Rattle.round_store.specs.Store.{HasPast, HasRoom}
+use Rattle.round_store.specs.Store.{HasPast}
 use Rattle.round_store.specs.Turns.{HasWork}
 use Rattle.round_store.proofs.Afterwards.{failed_has, logged_has, shows_turn}
 use Rattle.round_store.proofs.Composing.{logs_both, logs_from, logs_none, logs_worn}
@@ -61,10 +60,15 @@ pub invariant_of-self-in_default : goal.invariant_of-self-in_default
 invariant_of-self-in_default g c =
     let worn : c.in-Err.reason ≡ Worn = ⊎_elim (λ is. is) (λ is. absurd (c.in_default.not-Fault is)) c.in-Err.ensures.no_other in
     let same = c.in-Err.ensures.no_call (ap Err worn) in
-    let was = c.self.invariant.1 in
-    (c.self.invariant.0, (was.0, was.1, 
+    let was = c.self.invariant.1 in (
+      c.self.invariant.0,
+      (
+        was.0,
+        was.1,
         subst (λ (z : Committed). HasPast (record { layout = c.self.inside.layout; threads = c.self.inside.threads; committed = z; memory = c.self.inside.applied; sections = c.self.inside.sections; rounds = c.self.inside.rounds; guards = c.self.inside.guards.items; pending = c.self.inside.pending.items; has_failed = c.self.inside.has_failed }) was.0 was.1 (g.D.Disk.device c.make_round.new.disk)) (sym c.in-Err.ensures.err)
-        (subst (HasPast _ was.0 was.1) (sym (ap g.D.Disk.device same)) was.2)))
+            (subst (HasPast _ was.0 was.1) (sym (ap g.D.Disk.device same)) was.2),
+      ),
+    )
 
 pub returns-in-Ok : goal.returns-in-Ok
 returns-in-Ok g c =
@@ -126,4 +130,4 @@ returns-in_default g c =
     let same = c.in-Err.ensures.no_call (ap Err worn) in
     let last = c.in-Err.ensures.worn.0 (ap Err worn) in
     logs_both c.self.view_is (λ i. record { disk = same i; known = record { layout = c.self.inside.layout; threads = c.self.inside.threads; committed = c.in-Err.ensures.err i; memory = c.self.inside.applied; sections = c.self.inside.sections; rounds = c.self.inside.rounds; guards = c.self.inside.guards.items; pending = c.self.inside.pending.items; has_failed = c.self.inside.has_failed } }) (ap Err worn)
-        (logs_worn g.D.Disk.device _ c.if-self.false last (subst (λ z. HasWork g.D.Disk.device z) (sym c.self.view_is) (c.is_idle.ensures.work c.if-is_idle.false)))
+    (logs_worn g.D.Disk.device _ c.if-self.false last (subst (λ z. HasWork g.D.Disk.device z) (sym c.self.view_is) (c.is_idle.ensures.work c.if-is_idle.false)))

@@ -1,4 +1,4 @@
-use Rattle.std.proofs.Common.{◌≡◌, ℕ, refl, sym, ap, ◌∙◌, subst}
+use Rattle.std.proofs.Common.{refl, subst}
 use Rattle.store_past.specs.Past.{applied}
 use Rattle.store_memory.specs.Sections.{Logged, TellsSections}
 use Rattle.round_store.proofs.Afterwards.{plan_made, surveyed_has}

@@ -1,13 +1,11 @@
-use Rattle.std.proofs.Common.{◌≡◌, ⊎_elim, ℕ, true, false, List, [], Err, refl, sym, ap, ◌∙◌, subst, inl, arith}
+use Rattle.std.proofs.Common.{◌≡◌, true, false, [], refl, sym, ◌∙◌, subst, inl}
 use Rattle.heap_model.specs.Cuts.{counts_of}
-use Rattle.heap_model.specs.Log.{log_from}
 use Rattle.heap_model.specs.Setting.{Setting}
 use Rattle.block_disk.specs.Images.{LeavesOnly}
 use Rattle.store_past.specs.Past.{Past, applied}
 use Rattle.helper_sections.specs.Image.{ShowsCutOf}
 use Rattle.round_store.specs.Steps.{RefusesWrite, after_round}
 use Rattle.round_store.specs.Store.{HasPast}
-use Rattle.round_store.specs.Turns.{IsPlan}
 use Rattle.round_store.proofs.Afterwards.{failed_has, settled_has, shows_turn, tells_now}
 use Rattle.round_store.proofs.Composing.{home_of, logged_of, plan_of, serves_of, turns_from}
 use Rattle.round_store.proofs.Turned.{may_settle}

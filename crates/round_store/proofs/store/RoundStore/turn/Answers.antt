@@ -1,4 +1,4 @@
-use Rattle.std.proofs.Common.{◌≡◌, ⊎_elim, ℕ, true, false, List, [], ◌++◌, Err, refl, sym, ap, ◌∙◌, subst, inl, arith}
+use Rattle.std.proofs.Common.{◌≡◌, ⊎_elim, true, false, List, Err, refl, sym, ap, ◌∙◌, subst, inl, arith}
 use Rattle.std.specs.Vec.{vec_capacity}
 use Rattle.durable.proofs.Sequences.{shows_more}
 use Rattle.heap_model.specs.Cuts.{counts_of}
@@ -12,7 +12,7 @@ use Rattle.round_image.specs.declared.cells.HomeValue.{HomeValue}
 use Rattle.heap_model.specs.declared.ids.ObjectId.{ObjectId}
 use Rattle.round_store.specs.Cells.{settled_values}
 use Rattle.round_store.specs.Steps.{RefusesWrite, after_round}
-use Rattle.round_store.specs.Store.{HasPast, HasRoom}
+use Rattle.round_store.specs.Store.{HasPast}
 use Rattle.round_store.proofs.Afterwards.{failed_has, shows_turn, tells_now, turned_has}
 use Rattle.round_store.proofs.Composing.{plan_of, serves_of, turns_from}
 use Rattle.round_store.proofs.Turned.{adds_as, changes, helper_size, joined_as, loggable_as, may_join, numbers_as, stored, waiting}
@@ -59,23 +59,27 @@ joined_has g c s p was =
 
 pub invariant_of-self-in-Ok : goal.invariant_of-self-in-Ok
 invariant_of-self-in-Ok g c =
-    let was = c.self.invariant.1 in
-    (record {
-  listed = (joined_as _ _ _ _ c.self.inside.guards.items _ c.self.inside.rounds.changed _ c.swap.new.y.items c.deref.ensures.value c.changed.ensures (ap (λ v. v.items) c.swap.ensures.y_after) (c.is_joined.ensures.joined c.if-not-is_joined.false)).few;
-  pending = omega (arith, c.self.invariant.0.cells, c.is_joined.ensures.capacity, ap (λ v. vec_capacity v) c.swap.ensures.y_after);
-  cells = omega (arith, c.self.invariant.0.pending, c.leave_changed_out.ensures.capacity, ap (λ v. vec_capacity v) c.swap.ensures.x_after);
-  helper = omega (arith, c.self.invariant.0.helper, c.push_sections.ensures.capacity, c.clear.ensures.capacity);
-}, (was.0, after_round was.1 (counts_of c.args.stable.now.cut), joined_has g c was.0 was.1 was.2))
+    let was = c.self.invariant.1 in (
+      record {
+        listed = (joined_as _ _ _ _ c.self.inside.guards.items _ c.self.inside.rounds.changed _ c.swap.new.y.items c.deref.ensures.value c.changed.ensures (ap (λ v. v.items) c.swap.ensures.y_after) (c.is_joined.ensures.joined c.if-not-is_joined.false)).few;
+        pending = omega (arith, c.self.invariant.0.cells, c.is_joined.ensures.capacity, ap (λ v. vec_capacity v) c.swap.ensures.y_after);
+        cells = omega (arith, c.self.invariant.0.pending, c.leave_changed_out.ensures.capacity, ap (λ v. vec_capacity v) c.swap.ensures.x_after);
+        helper = omega (arith, c.self.invariant.0.helper, c.push_sections.ensures.capacity, c.clear.ensures.capacity);
+      },
+      (was.0, after_round was.1 (counts_of c.args.stable.now.cut), joined_has g c was.0 was.1 was.2),
+    )
 
 pub invariant_of-self-in-Err : goal.invariant_of-self-in-Err
 invariant_of-self-in-Err g c =
-    let was = c.self.invariant.1 in
-    (record {
-  listed = (joined_as _ _ _ _ c.self.inside.guards.items _ c.self.inside.rounds.changed _ c.swap.new.y.items c.deref.ensures.value c.changed.ensures (ap (λ v. v.items) c.swap.ensures.y_after) (c.is_joined.ensures.joined c.if-not-is_joined.false)).few;
-  pending = omega (arith, c.self.invariant.0.cells, c.is_joined.ensures.capacity, ap (λ v. vec_capacity v) c.swap.ensures.y_after);
-  cells = omega (arith, c.self.invariant.0.pending, c.leave_changed_out.ensures.capacity, ap (λ v. vec_capacity v) c.swap.ensures.x_after);
-  helper = omega (arith, c.self.invariant.0.helper, c.push_sections.ensures.capacity, c.clear.ensures.capacity);
-}, (was.0, was.1, failed_has _ was.0 was.1 _ was.2 _ _ _ c.in-Err.ensures.err (shown_err g c was.0 was.1 was.2)))
+    let was = c.self.invariant.1 in (
+      record {
+        listed = (joined_as _ _ _ _ c.self.inside.guards.items _ c.self.inside.rounds.changed _ c.swap.new.y.items c.deref.ensures.value c.changed.ensures (ap (λ v. v.items) c.swap.ensures.y_after) (c.is_joined.ensures.joined c.if-not-is_joined.false)).few;
+        pending = omega (arith, c.self.invariant.0.cells, c.is_joined.ensures.capacity, ap (λ v. vec_capacity v) c.swap.ensures.y_after);
+        cells = omega (arith, c.self.invariant.0.pending, c.leave_changed_out.ensures.capacity, ap (λ v. vec_capacity v) c.swap.ensures.x_after);
+        helper = omega (arith, c.self.invariant.0.helper, c.push_sections.ensures.capacity, c.clear.ensures.capacity);
+      },
+      (was.0, was.1, failed_has _ was.0 was.1 _ was.2 _ _ _ c.in-Err.ensures.err (shown_err g c was.0 was.1 was.2)),
+    )
 
 pub returns-in-Ok : goal.returns-in-Ok
 returns-in-Ok g c = turns_from c.self.view_is (record {

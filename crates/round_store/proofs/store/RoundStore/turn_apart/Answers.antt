@@ -1,5 +1,3 @@
-use Rattle.std.proofs.Common.{ap, sym, subst}
-use Rattle.round_store.specs.Turns.{IsPlan}
 use Rattle.round_store.proofs.Composing.{only_logs, then_settles}
 use Rattle.round_store.proofs.store.RoundStore.turn_apart.Goals as goal
 
