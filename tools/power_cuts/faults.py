@@ -8,7 +8,7 @@ import time
 
 from trials import Known, Trial, tries_of
 
-STATES = 6  # behind each failure
+STATES = 4  # while the heap is opened after a failure, and so many later
 PATIENCE = 40  # times 0.05 seconds, in which a program whose disk has failed ends
 WAIT = f"n=0; while grep -q '^State:.[RSD]' /proc/$!/status 2>/dev/null && [ $n -lt {PATIENCE} ]; do sleep 0.05; n=$((n + 1)); done"
 # What the system says of a file system that has failed: it is to be mounted again.
@@ -85,9 +85,11 @@ class FaultTrial(Trial):
 
     def try_behind(self, promised):
         """Looks at states of cuts from the failure's end on, the first with what is durable alone."""
-        floor, flushes = (), [it for it in self.disk.flushes() if it > self.opened]
-        ends = [self.opened, self.recovered] if promised else [self.opened]
-        for i, cut in enumerate([*ends, *self.moments(STATES - len(ends), self.opened, max(self.end, self.opened + 1), flushes)]):
+        floor, cuts = (), [self.opened]
+        for begin, end in ((self.opened, self.recovered), (self.recovered, self.end)):
+            if begin < end:
+                cuts += [end, *self.moments(STATES - 1, begin, end, [it for it in self.disk.flushes() if begin < it <= end])]
+        for i, cut in enumerate(cuts):
             policy = ("lost", 0, 0, 1, 0) if i == 0 else self.policy()
             self.counts["volatile"] += self.disk.ask("state", cut, *policy)[1] != "0"
             has_told = promised and cut >= self.recovered

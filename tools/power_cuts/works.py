@@ -175,9 +175,9 @@ class Run:
     is_unmended: bool = False  # what the opening after a failure writes back is left out, which has to be seen
 
     def fewer(self, by):
-        """The same with so many times fewer of each."""
-        fewer = {name: -(-getattr(self, name) // by) for name in ("states", "in_recovery", "true", "failures")}
-        return dataclasses.replace(self, **fewer)
+        """The same with so many times fewer of each. What is left out is looked for until it is seen."""
+        names = () if self.leaves_out() else ("states", "in_recovery", "true", "failures")
+        return dataclasses.replace(self, **{name: -(-getattr(self, name) // by) for name in names})
 
     def leaves_out(self):
         """Whether something is left out that has to be seen."""
