@@ -4,3 +4,6 @@ pub mod Begin
 pub mod Steps
 pub mod Stops
 pub mod Runs
+-- The scaffold: which cells a round writes, and what its parts promise.
+pub mod Cells
+pub mod Turns

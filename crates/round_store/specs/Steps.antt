@@ -1,7 +1,7 @@
 -- What each call of the store promises: one record a call, over the whole store before it (x) and after it (y). Each part holds whatever
 -- past the store has. A new image is one that a crash during the call may leave, and that a crash before it couldn't have left (this
 -- project's own).
-use Rattle.std.specs.Prelude.{ℕ, ◌≡◌, ◌≢◌, ◌-◌, ◌+◌, ◌≤◌, ◌<◌, ◌^◌, ◌⊎◌, true, false, Contains, List, [], Result, Ok, Err, IfErr, IfOk, IsErrOf, OnErr, OnOk, MatchResult}
+use Rattle.std.specs.Prelude.{ℕ, ◌≡◌, ◌≢◌, ◌-◌, ◌+◌, ◌≤◌, ◌<◌, ◌^◌, ◌⊎◌, true, false, [], Result, Ok, Err, IfErr, OnErr, OnOk, MatchResult}
 use Rattle.heap_model.specs.declared.record.Record.{Record}
 use Rattle.heap_model.specs.Base.{records_since}
 use Rattle.heap_model.specs.Cuts.{IsStable}

@@ -7,9 +7,13 @@
 #![tactic(auto)]
 
 mod beginning;
+mod cells;
+mod keeping;
 mod laws;
 mod meeting;
+mod records;
 mod rounds;
+mod rows;
 mod store;
 mod turning;
 
