@@ -1,13 +1,14 @@
 -- What a crash of the host's device keeps while threads run.
-use Rattle.std.proofs.Common.{suc, Bool, List, ℕ, false, refl, sym, subst, ◌∙◌, arith}
+use Rattle.std.proofs.Common.{suc, List, ℕ, sym, ap, subst, ◌∙◌, arith}
 use Rattle.block_disk.specs.Device.{Device}
 use Rattle.block_disk.specs.Images.{Continues}
 use Rattle.deferred_disk.specs.Deferred.{Deferred, onto}
 use Rattle.deferred_disk.specs.Host.{Host}
 use Rattle.deferred_disk.specs.Syncs.{syncs_in}
 use Rattle.deferred_disk.proofs.Moments.{left_since_then}
-use Rattle.durable.specs.Runs.{HasRun}
-use Rattle.durable.proofs.Running.{ran_then}
+use Rattle.image.specs.declared.layout.Layout.{Layout}
+use Rattle.round_store.specs.Runs.{HasRun}
+use Rattle.round_store.proofs.Running.{run_on}
 use Rattle.running_heap.specs.Life.{ClosedLifeLaw}
 use Rattle.running_life.specs.Crashes.{CrashLaw}
 use Rattle.running_life.specs.Running.{CrashInRunLaw}
@@ -35,12 +36,13 @@ round_keeps keeps seen_of x y answer p old c image ran makes heard since =
     let round = makes run.now ran.serves in
     let seen = heard.seen ran.running in
     let same = heard.goes_on.layout in
-    let before : HasRun x.helper.store.known.layout (plan x.home) p old run.now (hosted_device x.helper.store.disk) false =
-    subst (λ (b : Bool). HasRun x.helper.store.known.layout (plan x.home) p old run.now (hosted_device x.helper.store.disk) b) ran.whole run.ran in
-    let on = ran_then x.helper.store.known.layout y.helper.store.known.layout (plan x.home) p run.now round.now old (hosted_device x.helper.store.disk) (hosted_device y.helper.store.disk) false y.helper.store.known.has_failed same before (before.whole refl) round.ran in
+    let l : Layout = y.helper.store.known.layout in
+    let before : HasRun l l.lanes (plan x.home) p old run.now (hosted_device x.helper.store.disk) =
+    subst (λ (k : Layout). HasRun k k.lanes (plan x.home) p old run.now (hosted_device x.helper.store.disk)) (sym same) run.ran in
+    let on = run_on l l.lanes (plan x.home) p run.now round.now old (hosted_device x.helper.store.disk) (hosted_device y.helper.store.disk) before round.ran in
     run_keeps keeps x.home p old y.helper y.helper.seat.view.history c image
     (record {
-      run = record { store = run.store; layout = run.layout ∙ sym same; has = run.has; now = round.now; has_failed = y.helper.store.known.has_failed; ran = on };
+      run = record { store = run.store; layout = run.layout ∙ sym same; threads = run.threads ∙ ap (λ (k : Layout). k.lanes) (sym same); has = run.has; now = round.now; ran = on };
       serves = round.serves;
       legal = seen.legal;
       seen_of = seen_of x.home (plan x.home) round.now y.helper seen round.serves;

@@ -1,8 +1,8 @@
 -- A helper whose store has failed goes on as it is.
 use Rattle.std.proofs.Common.{ℕ, ◌≡◌, ◌<◌, ◌≤◌, ◌++◌, List, false, true, OnErr, Result, sym, ap, ◌∙◌, subst, arith}
 use Rattle.block_disk.specs.Device.{Device}
-use Rattle.durable.specs.Store as stores
-use Rattle.durable.specs.Store.{HasPast}
+use Rattle.round_store.specs.Store as stores
+use Rattle.round_store.specs.Store.{HasPast}
 use Rattle.heap_model.specs.declared.record.Record.{Record}
 use Rattle.monitor.specs.Seats.{Home}
 use Rattle.steps.specs.Views.{plan}
@@ -27,6 +27,7 @@ failed_on {D} device h p x y answer was on round off =
       record {
         taken = record {
           has = subst (λ (z : stores.Parts D). HasPast z.known (plan h) p (device z.disk)) (sym same) was.taken.has;
+          threads = round.serves.taken.threads;
           taken = λ l. round.serves.taken.taken l ∙ ap (λ (log : List (ℕ × Record)). stream l log ++ held_back (waiting_in y.waiting l)) none;
         };
         counts = λ l lt. let before = was.counts l (omega (arith, lt, lanes)) in let kept = count_noted x.seat y.seat l noted in omega (arith, before, kept);

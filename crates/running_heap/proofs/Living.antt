@@ -1,8 +1,9 @@
 -- A heap's life since its opening.
-use Rattle.std.proofs.Common.{◌≡◌, Bool, false, refl, sym, ◌∙◌, subst}
+use Rattle.std.proofs.Common.{◌≡◌, false, refl, sym, ap, ◌∙◌, subst}
 use Rattle.block_disk.specs.Device.{Device}
-use Rattle.durable.specs.Runs.{HasRun}
-use Rattle.durable.proofs.Running.{ran_none, ran_then}
+use Rattle.image.specs.declared.layout.Layout.{Layout}
+use Rattle.round_store.specs.Runs.{HasRun}
+use Rattle.round_store.proofs.Running.{run_none, run_on}
 use Rattle.monitor.specs.Seats.{Home}
 use Rattle.steps.specs.Views.{plan}
 use Rattle.store_past.specs.Past.{Past, no_past}
@@ -13,24 +14,26 @@ use Rattle.running_heap.specs.Life.{BirthLaw, ClosedLifeLaw, DrainLifeLaw, HasLi
 module _ {D : Type 0} (device : D → Device) where
   pub begins : BirthLaw device
   begins h x serving running = record {
-    life = record { began = x.store.known; nothing = serving.taken.has; layout = refl; ran = ran_none x.store.known.layout (plan h) no_past (device x.store.disk) false };
+    life = record { began = x.store.known; nothing = serving.taken.has; layout = refl; threads = serving.taken.threads; ran = run_none x.store.known.layout x.store.known.layout.lanes (plan h) no_past (device x.store.disk) };
     serving = serving;
     running = running;
   }
 
   -- the calls of a round, or of a drain, behind those since the opening
-  lives_by : (h : Home) (opened : Device) (x y : Parts D) (p q : Past) → HasLived device h opened x p → y.store.known.layout ≡ x.store.known.layout → HasRun y.store.known.layout (plan h) p (device x.store.disk) q (device y.store.disk) y.store.known.has_failed →
+  lives_by : (h : Home) (opened : Device) (x y : Parts D) (p q : Past) → HasLived device h opened x p → y.store.known.layout ≡ x.store.known.layout → HasRun y.store.known.layout y.store.known.layout.lanes (plan h) p (device x.store.disk) q (device y.store.disk) →
       IsServing device y (plan h) q → y.store.known.has_failed ≡ false → HasLived device h opened y q
   lives_by h opened x y p q was layout ran serves running =
       let life = was.life in
-      let on : HasRun y.store.known.layout (plan h) p (device x.store.disk) q (device y.store.disk) false =
-      subst (λ (b : Bool). HasRun y.store.known.layout (plan h) p (device x.store.disk) q (device y.store.disk) b) running ran in
+      let l = y.store.known.layout in
+      let before : HasRun l l.lanes (plan h) no_past opened p (device x.store.disk) =
+      subst (λ (k : Layout). HasRun k k.lanes (plan h) no_past opened p (device x.store.disk)) (sym layout) life.ran in
       record {
         life = record {
           began = life.began;
           nothing = life.nothing;
           layout = life.layout ∙ sym layout;
-          ran = ran_then x.store.known.layout y.store.known.layout (plan h) no_past p q opened (device x.store.disk) (device y.store.disk) false false layout life.ran (life.ran.whole refl) on;
+          threads = life.threads ∙ ap (λ (k : Layout). k.lanes) (sym layout);
+          ran = run_on l l.lanes (plan h) no_past p q opened (device x.store.disk) (device y.store.disk) before ran;
         };
         serving = serves;
         running = running;
@@ -52,5 +55,6 @@ module _ {D : Type 0} (device : D → Device) where
         began = life.began;
         nothing = life.nothing;
         layout = life.layout;
-        ran = ran_then l l (plan h) no_past p from.closed.now opened (device x.store.disk) d false false refl life.ran (life.ran.whole refl) from.ran;
+        threads = life.threads;
+        ran = run_on l l.lanes (plan h) no_past p from.closed.now opened (device x.store.disk) d life.ran from.ran;
       }

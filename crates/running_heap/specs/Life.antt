@@ -1,8 +1,8 @@
--- A heap's life since its opening: the store calls that its helper made (this project's own).
+-- A heap's life since its opening: what its helper's store has run (this project's own).
 use Rattle.std.specs.Prelude.{ℕ, ◌≡◌, true, false, List, Result}
 use Rattle.block_disk.specs.Device.{Device}
-use Rattle.durable.specs.Runs.{HasRun}
-use Rattle.durable.specs.Store.{Known, HasPast}
+use Rattle.round_store.specs.Runs.{HasRun}
+use Rattle.round_store.specs.Store.{Known, HasPast}
 use Rattle.image.specs.declared.layout.Layout.{Layout}
 use Rattle.monitor.specs.Seats.{Home}
 use Rattle.steps.specs.Views.{plan}
@@ -13,15 +13,16 @@ use Rattle.trim_helper.specs.Calls.{HasGoneOn, Rounds}
 use Rattle.trim_helper.specs.Parts.{HasDrained, IsServing, Parts}
 use Rattle.running_heap.specs.Closed.{IsClosedFrom}
 
--- From the one device, when its store had been told nothing, to the other these calls of the store were made, and none of them failed.
+-- From the one device, when its store had been told nothing, the store has run to the other. All lanes of the image are the threads'.
 pub record HasLivedTo (h : Home) (l : Layout) (opened : Device) (now : Past) (d : Device) : Type 0 where
   pub began : Known
   pub nothing : HasPast began (plan h) no_past opened
   pub layout : began.layout ≡ l
-  pub ran : HasRun l (plan h) no_past opened now d false
+  pub threads : began.threads ≡ l.lanes
+  pub ran : HasRun l l.lanes (plan h) no_past opened now d
 
 module _ {D : Type 0} (device : D → Device) where
-  -- the helper serves this past, which store calls since the opening have made, and its store hasn't failed
+  -- the helper serves this past, to which its store has run since the opening, and the store hasn't failed
   pub record HasLived (h : Home) (opened : Device) (x : Parts D) (p : Past) : Type 0 where
     pub life : HasLivedTo h x.store.known.layout opened p (device x.store.disk)
     pub serving : IsServing device x (plan h) p

@@ -1,8 +1,9 @@
 -- What a crash keeps after a fault.
 use Rattle.std.proofs.Common.{ℕ, ◌≡◌, sym, ap, ◌∙◌, subst}
 use Rattle.block_disk.specs.Device.{Device}
-use Rattle.durable.specs.Runs.{HasRun}
-use Rattle.durable.specs.Store as stores
+use Rattle.image.specs.declared.layout.Layout.{Layout}
+use Rattle.round_store.specs.Runs.{HasRun}
+use Rattle.round_store.specs.Store as stores
 use Rattle.steps.specs.Views.{plan}
 use Rattle.survival.specs.WholeRun.{MayBeLeft}
 use Rattle.trim_helper.specs.Heard.{IsSeenOf}
@@ -21,10 +22,10 @@ module _ {D : Type 0} (device : D → Device) where
         run = record {
           store = run.store;
           layout = run.layout ∙ sym layout;
+          threads = run.threads ∙ ap (λ (k : Layout). k.lanes) (sym layout);
           has = run.has;
           now = run.now;
-          has_failed = run.has_failed;
-          ran = subst (λ (x : stores.Parts D). HasRun x.known.layout (plan h) p old run.now (device x.disk) run.has_failed) (sym same) run.ran;
+          ran = subst (λ (x : stores.Parts D). HasRun x.known.layout x.known.layout.lanes (plan h) p old run.now (device x.disk)) (sym same) run.ran;
         };
         serves = still.0;
         legal = on.legal;

@@ -2,9 +2,9 @@
 use Rattle.std.proofs.Common.{◌≡◌, List, [], ◌∷◌, ◌++◌, length, sym, ap, ◌∙◌, arith}
 use Rattle.std.proofs.lemmas.List.{length-append}
 use Rattle.block_disk.specs.Device.{Device}
-use Rattle.durable.specs.Store as stores
 use Rattle.monitor.specs.Views.{noted}
 use Rattle.monitor.specs.declared.view.Note.{Note}
+use Rattle.round_store.specs.Store as stores
 use Rattle.steps.specs.Views.{plan}
 use Rattle.trim_helper.specs.Helping.{count_published}
 use Rattle.running_life.specs.Told.{RisesLaw}
