@@ -6,9 +6,9 @@ mount the heap is opened, and used. No cut in this loses what was told before, a
 import re
 import time
 
-from trials import Known, Trial, tries_of
+from trials import Known, Trial, Verdict, tries_of
 
-STATES = 6  # behind each failure
+STATES = 4  # while the heap is opened after a failure, and so many later
 PATIENCE = 40  # times 0.05 seconds, in which a program whose disk has failed ends
 WAIT = f"n=0; while grep -q '^State:.[RSD]' /proc/$!/status 2>/dev/null && [ $n -lt {PATIENCE} ]; do sleep 0.05; n=$((n + 1)); done"
 # What the system says of a file system that has failed: it is to be mounted again.
@@ -42,7 +42,7 @@ class FaultTrial(Trial):
         time.sleep(self.chance.uniform(0.05, 0.4))
         self.fail_once()
         self.opened = self.disk.count()
-        promised = self.open_again()
+        promised, printed = self.open_again()
         self.recovered = self.disk.count()
         if self.chance.random() < 0.6:
             self.begin()
@@ -54,6 +54,8 @@ class FaultTrial(Trial):
         if self.guest.run("umount /mnt")[0] != 0:
             self.cut()
         self.disk.ask("delay", 0)
+        if not promised:
+            self.note_refused("; ".join(printed))
         self.try_behind(promised)
 
     def fail_once(self):
@@ -75,19 +77,27 @@ class FaultTrial(Trial):
         return self.work.again.format("unmended" if self.run.is_unmended else "")
 
     def open_again(self):
-        """The heap that the next opening tells, or () where it is refused. A file system that has failed is mounted again."""
+        """The heap that the next opening tells, or () where it is refused, and what it prints. A file system that has failed is mounted again."""
         anew = f"umount /mnt; {self.mount()}"
         printed = tries_of(self.guest.run(f"{anew}; {self.again()}" if self.run.mounts else self.again())[1])
         if any(it in line for line in printed for it in FAILED):
             printed = tries_of(self.guest.run(f"{anew}; {self.again()}")[1])
         told = next((line.split() for line in printed if re.match(r"(recover|look) 0 ", line)), [])
-        return tuple(map(int, told[2:]))
+        return tuple(map(int, told[2:])), printed
+
+    def note_refused(self, text):
+        """Where there is a heap, no failure that is over makes its opening refuse it."""
+        known = Known(self.disk.told(self.opened))
+        if self.is_made or known.told:
+            self.note("states", Verdict(f"refused after a failure: {text}"), known, "the opening", state=(self.end, "kept", 0, 0, 1, 0))
 
     def try_behind(self, promised):
         """Looks at states of cuts from the failure's end on, the first with what is durable alone."""
-        floor, flushes = (), [it for it in self.disk.flushes() if it > self.opened]
-        ends = [self.opened, self.recovered] if promised else [self.opened]
-        for i, cut in enumerate([*ends, *self.moments(STATES - len(ends), self.opened, max(self.end, self.opened + 1), flushes)]):
+        floor, cuts = (), [self.opened]
+        for begin, end in ((self.opened, self.recovered), (self.recovered, self.end)):
+            if begin < end:
+                cuts += [end, *self.moments(STATES - 1, begin, end, [it for it in self.disk.flushes() if begin < it <= end])]
+        for i, cut in enumerate(cuts):
             policy = ("lost", 0, 0, 1, 0) if i == 0 else self.policy()
             self.counts["volatile"] += self.disk.ask("state", cut, *policy)[1] != "0"
             has_told = promised and cut >= self.recovered

@@ -175,9 +175,9 @@ class Run:
     is_unmended: bool = False  # what the opening after a failure writes back is left out, which has to be seen
 
     def fewer(self, by):
-        """The same with so many times fewer of each."""
-        fewer = {name: -(-getattr(self, name) // by) for name in ("states", "in_recovery", "true", "failures")}
-        return dataclasses.replace(self, **fewer)
+        """The same with so many times fewer of each. What is left out is looked for until it is seen."""
+        names = () if self.leaves_out() else ("states", "in_recovery", "true", "failures")
+        return dataclasses.replace(self, **{name: -(-getattr(self, name) // by) for name in names})
 
     def leaves_out(self):
         """Whether something is left out that has to be seen."""
@@ -206,6 +206,13 @@ WHOLE = {
         Run("a file, served", states=40, in_recovery=16, true=15),
         Run("a device, served", "none", states=20, true=7),
     ],
+    "machines": [
+        Run("set", "f2fs", states=40),
+        Run("drive", "f2fs", states=50, in_recovery=16),
+        Run("threads", "f2fs", states=50, in_recovery=16),
+        Run("drive", states=60, disk="scsi"),
+        Run("threads", states=60, disk="scsi"),
+    ],
     "leases": [Run("leases", states=20, true=7)],
     "service": [Run("service", states=120, in_recovery=16, true=24)],
     "failures": [
@@ -221,7 +228,6 @@ WHOLE = {
     ],
     "program": [
         Run("set", states=60),
-        Run("set", "f2fs", states=40),
         Run("set, full", states=40),
         Run("set, full", "xfs", states=40),
         Run("run --image", states=60),
@@ -239,8 +245,6 @@ WHOLE = {
         Run("drive", states=40, torn=2),
         Run("drive", "xfs", states=60, in_recovery=16),
         Run("drive", "btrfs", states=50, in_recovery=16),
-        Run("drive", "f2fs", states=50, in_recovery=16),
-        Run("drive", states=60, disk="scsi"),
         Run("drive", states=400, in_recovery=64, true=69),
     ],
     "threads": [
@@ -253,10 +257,8 @@ WHOLE = {
         Run("threads", states=60, torn=2),
         Run("threads", "xfs", states=60, in_recovery=16),
         Run("threads", "btrfs", states=50, in_recovery=16),
-        Run("threads", "f2fs", states=50, in_recovery=16),
         Run("threads", states=40, mount="data=journal"),
         Run("threads", states=40, mount="data=writeback"),
-        Run("threads", states=60, disk="scsi"),
         Run("threads", states=100, in_recovery=32, true=19),
     ],
     "histories": [

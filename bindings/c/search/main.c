@@ -1,11 +1,13 @@
-/* search small SECONDS [PROCESSOR [MOST [ONE]]]: each small program under each schedule of at most two preemptions, with more and more choices
- * against the usual one (AS_TOLD's own), until the time is over, or until that would be more than MOST schedules of it: of these so many are tried
- * then, spread over all. ONE: that small program alone.
+/* search small SECONDS [PROCESSOR [MOST [ONE]]]: each small program under all schedules with at most two preemptions, first without one and then
+ * with one at most; until the time is over, or until that were more than MOST runs of it. ONE: that small program alone.
  * search programs FROM COUNT SECONDS [PROCESSOR]: a program and a schedule for each seed, for so many seconds at most, or of a processor.
  * search one SEED TRIES [LEFT-OUT] [CHOICES]: the program of a seed under its own schedule (TRIES 0) or under so many others, without the deeds
  * of that list, or with these choices (PLACE:TASK,..). It tells the program, and the choices of what has failed.
  * A fault is told in a line, and the status is 3. tools/search builds and calls this. */
+#include "each.h"
+#include "order.h"
 #include "programs.h"
+#include <malloc.h>
 #include <signal.h>
 #include <stdio.h>
 #include <stdlib.h>
@@ -111,98 +113,51 @@ static void run_programs(uint64_t from, uint64_t count) {
 
 /* ---- all schedules of a small program ---- */
 
-enum { MOST_PREEMPTIONS = 2, MOST_DEPTH = 64 };
-static search_choice path[MOST_DEPTH];
-static size_t path_length;
-static uint64_t schedules, most_schedules, stride, passed_by; /* of so many schedules of the last choice one is tried */
-static bool has_more, is_time_over;
+enum { MOST_PREEMPTIONS = 2 };
 static double program_begun, program_used, programs_left;
+static uint64_t most_runs;
 
-/* What a run has shown that its schedules may choose otherwise: kept while these are tried. */
-typedef struct {
-    size_t first, last; /* of the program's own part */
-    uint16_t *able;
-    uint8_t *usual;
-    bool *is_free;
-} alternatives;
-
-static void *copy_of(const void *bytes, size_t size) {
-    void *copy = malloc(size + 1);
-    if (copy == NULL) search_fail("no memory");
-    return memcpy(copy, bytes, size);
-}
-
-static alternatives run_path(void) {
-    search_schedule schedule = {0, AS_TOLD, 1, 1, path, path_length};
+static void run_choices(const search_choice *path, size_t length) {
+    search_schedule schedule = {0, TIMELESS, 1, 1, path, length};
     watch_run();
     program_run(&now, &schedule);
-    schedules++;
-    size_t places = search_made.last < MOST_TOLD ? search_made.last : MOST_TOLD;
-    return (alternatives){search_made.first, places, copy_of(search_made.able, places * sizeof *search_made.able), copy_of(search_made.usual, places),
-                          copy_of(search_made.is_free, places * sizeof *search_made.is_free)};
 }
 
-/* The schedule of `path`, and then each that has more choices after its last one: `choices` more at most, `preemptions` of them. */
-static void try_schedules(size_t choices, int preemptions) {
-    alternatives other = run_path();
-    size_t first = path_length == 0 ? other.first : path[path_length - 1].place + 1;
-    for (size_t place = first; place < other.last && !is_time_over; place++)
-        for (uint32_t task = 0; task < MOST_TASKS && !is_time_over; task++) {
-            bool is_one = (other.able[place] >> task & 1) != 0 && task != other.usual[place];
-            if (!is_one || (!other.is_free[place] && preemptions == 0)) continue;
-            has_more |= choices == 0;
-            if (choices == 0) break;
-            if (choices == 1 && passed_by++ % stride != 0) continue;
-            path[path_length++] = (search_choice){(uint32_t)place, task};
-            try_schedules(choices - 1, preemptions - !other.is_free[place]);
-            path_length--;
-            is_time_over = is_over(program_begun, program_used, programs_left);
-        }
-    free(other.able);
-    free(other.usual);
-    free(other.is_free);
+static bool is_program_over(void) {
+    return is_over(program_begun, program_used, programs_left);
 }
 
 static void begin_small(uint64_t seed, uint64_t end) {
     seed_now = seed;
-    schedules = 0;
-    has_more = is_time_over = false;
     program_begun = seconds_now();
     program_used = used_seconds();
     programs_left = (double)(end - seed);
     program_make(&now, seed);
+    order_forget();
 }
 
-/* How many of the small program's schedules have that number of choices is guessed by those of one choice: each of these again, later. */
-static uint64_t stride_of(uint64_t of_one, size_t choices) {
-    double all = 1;
-    for (size_t i = 1; i <= choices; i++) all *= (double)of_one / (double)i;
-    double most = (double)most_schedules;
-    return all <= most ? 1 : (uint64_t)(all / most) + 1;
+static void tell_small(uint64_t seed, uint32_t preemptions, each_counts counts) {
+    static const char *const HOW_MANY[] = {"no preemption", "one preemption at most", "two preemptions at most"};
+    const char *how = HOW_MANY[preemptions];
+    if (counts.is_cut_short)
+        printf("%s: %llu schedules with %s, and not all of these\n", program_name(seed), (unsigned long long)counts.tried, how);
+    else
+        printf("%s: all %llu schedules with %s, at %zu places at most, in %llu runs and %.1f s of a processor\n", program_name(seed),
+               (unsigned long long)counts.tried, how, counts.places, (unsigned long long)counts.runs, used_seconds() - program_used);
+    fflush(stdout);
 }
 
-/* The programs by turns: all schedules of one choice more than before, while the time is enough for those of each. */
+/* By one preemption more after each, so that what few show is found first. */
 static void run_small(uint64_t first, uint64_t end) {
-    bool is_whole[SMALL_PROGRAMS] = {false}, is_left = true;
-    uint64_t of_one[SMALL_PROGRAMS] = {0};
     tells = true;
-    for (size_t choices = 0; choices < MOST_DEPTH && is_left; choices++) {
-        bool is_late = is_left = false;
-        for (uint64_t seed = first; seed < end; seed++) {
-            if (is_whole[seed]) continue;
-            begin_small(seed, end);
-            stride = choices < 2 ? 1 : stride_of(of_one[seed], choices);
-            passed_by = 0;
-            try_schedules(choices, MOST_PREEMPTIONS);
-            if (choices == 1) of_one[seed] = schedules;
-            is_late |= is_time_over;
-            bool is_part = is_time_over || stride > 1;
-            is_whole[seed] = stride > 1 || (!has_more && !is_time_over);
-            is_left |= !is_whole[seed] && !is_late;
-            if (choices == 0) continue;
-            printf("%s: %llu schedules of %zu choices at most%s\n", program_name(seed), (unsigned long long)schedules, choices,
-                   is_part ? ", and not all of these" : is_whole[seed] ? ", which are all" : "");
-            fflush(stdout);
+    for (uint64_t seed = first; seed < end; seed++) {
+        each_counts counts = {0, 0, 0, false};
+        begin_small(seed, end);
+        for (uint32_t preemptions = 0; preemptions <= MOST_PREEMPTIONS && !counts.is_cut_short; preemptions++) {
+            uint64_t runs = counts.runs;
+            counts = each_try((each_asks){run_choices, is_program_over, most_runs - runs}, preemptions);
+            counts.runs += runs;
+            if (preemptions == MOST_PREEMPTIONS || counts.is_cut_short) tell_small(seed, preemptions, counts);
         }
     }
 }
@@ -240,7 +195,8 @@ static void run_one(uint64_t seed, uint64_t tries, const char *left_out, const c
     program_print(&now);
     fflush(stdout);
     search_schedule schedule = schedule_of(&now, seed);
-    if (choices != NULL) schedule = (search_schedule){0, AS_TOLD, 1, 1, told, read_choices(choices, told)};
+    search_kind kind = seed < SMALL_PROGRAMS ? TIMELESS : AS_TOLD;
+    if (choices != NULL) schedule = (search_schedule){0, kind, 1, 1, told, read_choices(choices, told)};
     watch_run();
     if (tries == 0) program_run(&now, &schedule);
     for (uint64_t i = 1; i <= tries; i++) {
@@ -263,6 +219,8 @@ static void bound_time(uint64_t seconds, uint64_t processor) {
 int main(int count, char **words) {
     const uint64_t long_time = 1000000;
     search_fails = fail;
+    (void)mallopt(M_MMAP_THRESHOLD, 1 << 30); /* each run takes the same room again */
+    (void)mallopt(M_TRIM_THRESHOLD, 1 << 30);
     watch_signals();
     const char *what = count > 1 ? words[1] : "";
     if (strcmp(what, "programs") == 0) {
@@ -270,7 +228,7 @@ int main(int count, char **words) {
         run_programs(number(count, words, 2, SMALL_PROGRAMS), number(count, words, 3, 1000));
     } else if (strcmp(what, "small") == 0) {
         bound_time(number(count, words, 2, 60), number(count, words, 3, long_time));
-        most_schedules = number(count, words, 4, UINT64_MAX);
+        most_runs = number(count, words, 4, UINT64_MAX);
         uint64_t one = number(count, words, 5, SMALL_PROGRAMS);
         run_small(one < SMALL_PROGRAMS ? one : 0, one < SMALL_PROGRAMS ? one + 1 : SMALL_PROGRAMS);
     } else if (strcmp(what, "one") == 0) {

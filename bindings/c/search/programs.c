@@ -460,11 +460,11 @@ static void exit_all(worker *own, uint32_t heap) {
 static void *work(void *argument) {
     worker *own = argument;
     uint32_t number = (uint32_t)(own - workers);
-    for (uint32_t heap = 0; heap < current->heaps; heap++) begin_lane(own, heap);
+    for (uint32_t heap = 0; heap < current->heaps && !current->is_small; heap++) begin_lane(own, heap);
     for (uint32_t i = 0; i < current->count; i++)
         if (current->deeds[i].thread == number && !current->deeds[i].is_left_out) do_one(own, &current->deeds[i]);
     for (uint32_t heap = 0; heap < current->heaps; heap++) exit_all(own, heap);
-    for (uint32_t heap = 0; heap < current->heaps; heap++) end_lane(own, heap);
+    for (uint32_t heap = 0; heap < current->heaps && !current->is_small; heap++) end_lane(own, heap);
     if (--left == 0) search_let(0);
     return NULL;
 }
@@ -553,13 +553,16 @@ void program_run(program *it, const search_schedule *schedule) {
     make_plan();
     search_begin(schedule, it->seed < SMALL_PROGRAMS ? 0 : it->seed);
     for (uint32_t heap = 0; heap < it->heaps; heap++) make_heap(heap);
+    for (uint32_t i = 0; i < it->threads && it->is_small; i++) begin_lane(&workers[i], 0);
+    if (it->is_small) search_nap(1000); /* the helper comes to rest */
     for (uint32_t i = 0; i < it->threads; i++) workers[i].task = search_start(work, &workers[i]);
-    search_made.first = search_made.places;
+    search_own_part(true);
     if (left > 0) search_park();
-    search_made.last = search_made.places;
+    search_own_part(false);
     if (is_stopping)
         for (uint32_t heap = 0; heap < it->heaps; heap++) end_heap(heap, STOP);
     for (uint32_t i = 0; i < it->threads; i++) search_join(workers[i].task);
+    for (uint32_t i = 0; i < it->threads && it->is_small; i++) end_lane(&workers[i], 0);
     search_nap(it->fault == NEVER_FAILS ? 100000000 : 20000000000);
     for (uint32_t heap = 0; heap < it->heaps; heap++) judge_quiet(&judges[heap]);
     for (uint32_t heap = 0; heap < it->heaps; heap++) judge_alone(&judges[heap]);

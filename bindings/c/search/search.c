@@ -6,6 +6,7 @@
  * compilers may do to steps that aren't sequentially consistent. A call of the proved library is one step. */
 #define _GNU_SOURCE
 #include "search.h"
+#include "order.h"
 #include <errno.h>
 #include <limits.h>
 #include <linux/futex.h>
@@ -26,7 +27,9 @@ enum {
     MOST_MUTEXES = 64,
     MOST_STEPS = 2000000,
     MOST_IN_A_ROW = 4000, /* steps, after which one that waits by looking again and again lets others go on */
-    STEP_TIME = 20        /* nanoseconds */
+    STEP_TIME = 20,       /* nanoseconds */
+    YIELD_TIME = 40000,   /* of a yield, and of each fourth look at the clock in a row, where time stands still else: so that who looks until */
+    MOST_LOOKS = 3        /* a time comes to an end */
 };
 
 typedef enum { GONE, RUNS, WANTS_MUTEX, SLEEPS, JOINS, IS_PARKED } task_state;
@@ -38,8 +41,10 @@ typedef struct {
     bool is_woken;  /* by a wake, not by time */
     bool yields;    /* it lets others go on first */
     bool is_quiet;  /* its steps are none */
+    bool asks_time; /* it is about to read the clock, */
+    const void *word, *other; /* or to touch these */
     int priority, error; /* `error`: errno, while others run */
-    uint32_t in_a_row;
+    uint32_t in_a_row, looks;
     search_body *body;
     void *argument, *answer;
     ucontext_t context;
@@ -115,6 +120,12 @@ static size_t list_able(task **able) {
     return n;
 }
 
+static bool is_able(task **able, size_t n, const task *it) {
+    for (size_t i = 0; i < n; i++)
+        if (able[i] == it) return true;
+    return false;
+}
+
 /* Whoever runs goes on; where it can't, or lets others go first, the next one by number. */
 static task *usual_of(task **able, size_t n) {
     if (me->state == RUNS && !me->yields) return me;
@@ -130,44 +141,6 @@ static task *best_of(task **able, size_t n) {
     return best;
 }
 
-static task *told_of(task *usual) {
-    const search_choice *it = &schedule.told[next_told];
-    if (next_told == schedule.count || it->place != search_made.places) return usual;
-    next_told++;
-    return it->task < (uint32_t)count && tasks[it->task].state == RUNS ? &tasks[it->task] : usual;
-}
-
-static task *choice_of(task **able, size_t n, task *usual) {
-    switch (schedule.kind) {
-    case AS_TOLD: return told_of(usual);
-    case BY_PRIORITY: return best_of(able, n);
-    case STICKY:
-        if (usual == me && next_random(&choosing) % 10 != 0) return me;
-        return able[next_random(&choosing) % n];
-    default: return able[next_random(&choosing) % n];
-    }
-}
-
-static void note_place(task **able, size_t n, const task *usual, const task *chosen) {
-    size_t place = search_made.places;
-    if (place == MOST_TOLD) return;
-    uint16_t bits = 0;
-    for (size_t i = 0; i < n; i++) bits |= (uint16_t)(1 << (able[i] - tasks));
-    search_made.able[place] = bits;
-    search_made.usual[place] = (uint8_t)(usual - tasks);
-    search_made.is_free[place] = usual != me;
-    if (chosen == usual) return;
-    search_made.choices[search_made.count++] = (search_choice){(uint32_t)place, (uint32_t)(chosen - tasks)};
-}
-
-static task *pick(task **able, size_t n) {
-    if (n == 1) return able[0];
-    task *usual = usual_of(able, n), *chosen = choice_of(able, n, usual);
-    note_place(able, n, usual, chosen);
-    search_made.places++;
-    return chosen;
-}
-
 static void wake_those_due(void) {
     if (now < earliest) return;
     earliest = NEVER;
@@ -180,16 +153,102 @@ static void wake_those_due(void) {
     }
 }
 
+static uint64_t next_due(void) {
+    uint64_t due = NEVER;
+    for (int i = 0; i < count; i++)
+        if (tasks[i].state == SLEEPS && tasks[i].due < due) due = tasks[i].due;
+    return due;
+}
+
+static bool is_timeless(void) {
+    return me != NULL && schedule.kind == TIMELESS;
+}
+
+/* The first that sleeps until a time, which has come. */
+static task *skip_time(void) {
+    task *first = NULL;
+    uint64_t due = next_due();
+    for (int i = 0; i < count && first == NULL; i++)
+        if (tasks[i].state == SLEEPS && tasks[i].due == due) first = &tasks[i];
+    if (due > now) now = due;
+    wake_those_due();
+    return first;
+}
+
+static task *told_of(task *usual) {
+    const search_choice *it = &schedule.told[next_told];
+    if (next_told == schedule.count || it->place != search_made.places) return usual;
+    next_told++;
+    if (it->task == TIME && is_timeless() && next_due() != NEVER) return skip_time();
+    return it->task < (uint32_t)count && tasks[it->task].state == RUNS ? &tasks[it->task] : usual;
+}
+
+static task *choice_of(task **able, size_t n, task *usual) {
+    switch (schedule.kind) {
+    case AS_TOLD: case TIMELESS: return told_of(usual);
+    case BY_PRIORITY: return best_of(able, n);
+    case STICKY:
+        if (usual == me && next_random(&choosing) % 10 != 0) return me;
+        return able[next_random(&choosing) % n];
+    default: return able[next_random(&choosing) % n];
+    }
+}
+
+/* What all tasks have done, and whether they can go on. */
+static uint64_t past_of_all(void) {
+    uint64_t past = order_mix(now, (uint64_t)(me - tasks));
+    for (int i = 0; i < count; i++) {
+        uint64_t own = order_mix(order_of(i), (uint64_t)tasks[i].state << 1 | tasks[i].yields);
+        past += order_mix(order_mix(own, tasks[i].state == SLEEPS ? tasks[i].due : 0), (uint64_t)i);
+    }
+    return past;
+}
+
+static void note_order(search_place *it) {
+    it->asks_time = me->asks_time;
+    it->words[0] = me->word == NULL ? 0 : order_name(me->word);
+    it->words[1] = me->other == NULL ? 0 : order_name(me->other);
+    it->repeats = me->word != NULL && order_repeats(search_own(), it->words[0]);
+    it->past = past_of_all();
+    if (next_due() != NEVER) it->able |= 1u << TIME;
+}
+
+static void note_place(task **able, size_t n, const task *usual) {
+    if (search_made.places == MOST_TOLD) return;
+    search_place *it = &search_made.at[search_made.places];
+    it->able = 0;
+    for (size_t i = 0; i < n; i++) it->able |= 1u << (able[i] - tasks);
+    if (usual != me && me->state == RUNS) it->able &= ~(1u << (me - tasks)); /* it lets others go first */
+    it->usual = (uint8_t)(usual - tasks);
+    it->is_free = usual != me;
+    if (is_timeless()) note_order(it);
+}
+
+static void note_choice(uint32_t chosen) {
+    uint32_t place = (uint32_t)search_made.places;
+    if (place < MOST_TOLD) search_made.choices[search_made.count++] = (search_choice){place, chosen};
+}
+
+static task *pick(task **able, size_t n) {
+    bool may_skip_time = is_timeless() && next_due() != NEVER;
+    if (n == 1 && !may_skip_time) return able[0];
+    task *usual = usual_of(able, n);
+    note_place(able, n, usual);
+    task *chosen = choice_of(able, n, usual);
+    if (chosen != usual) note_choice(is_able(able, n, chosen) ? (uint32_t)(chosen - tasks) : TIME);
+    search_made.places++;
+    return chosen;
+}
+
 void search_pass(uint64_t nanoseconds) {
+    if (is_timeless()) return;
     now += nanoseconds;
     wake_those_due();
 }
 
 /* Nobody can go on: time does, until the first that sleeps is due. */
 static void pass_time(void) {
-    uint64_t due = NEVER;
-    for (int i = 0; i < count; i++)
-        if (tasks[i].state == SLEEPS && tasks[i].due < due) due = tasks[i].due;
+    uint64_t due = next_due();
     if (due == NEVER) {
         if (!search_asks.is_stuck()) search_fail("nobody can go on");
         return;
@@ -234,6 +293,25 @@ void search_step(void) {
     go();
 }
 
+void search_step_at(const void *word, const void *other) {
+    if (me == NULL) return;
+    me->word = word;
+    me->other = other;
+    search_step();
+    me->word = me->other = NULL;
+}
+
+void search_touch(const void *word, bool changes) {
+    if (!is_timeless()) return;
+    order_touches(search_own(), word, changes);
+    if (changes) me->looks = 0;
+}
+
+void search_own_part(bool begins) {
+    *(begins ? &search_made.first : &search_made.last) = search_made.places;
+    order_watches(begins);
+}
+
 static void block(task_state state, const void *on, uint64_t due) {
     if (me->state != RUNS) search_fail("nobody can go on, and one that sleeps has a mutex");
     if (is_alone) search_fail("a call on a parent's heap sleeps");
@@ -243,6 +321,8 @@ static void block(task_state state, const void *on, uint64_t due) {
     if (due < earliest) earliest = due;
     me->is_woken = false;
     go();
+    me->looks = 0;
+    if (is_timeless()) order_learns(search_own(), order_mix(now, me->is_woken));
 }
 
 void search_park(void) {
@@ -263,6 +343,7 @@ void search_begin(const search_schedule *given, uint64_t chance_seed) {
     next_told = 0;
     choosing = begin_random(given->seed);
     chance = chance_seed == 0 ? 0 : begin_random(chance_seed);
+    order_begin();
     count = 1;
     steps = 0;
     lowest = 0;
@@ -293,6 +374,7 @@ void search_end(void) {
 
 static void run_task(void) {
     me->answer = me->body(me->argument);
+    search_touch(me, true);
     me->state = GONE;
     for (int i = 0; i < count; i++)
         if (tasks[i].state == JOINS && tasks[i].on == me) tasks[i].state = RUNS;
@@ -311,6 +393,7 @@ static int new_task(search_body *body, void *argument) {
     int number = count++;
     int priority = (int)(100 + next_random(&choosing) % 900);
     tasks[number] = (task){.state = RUNS, .due = NEVER, .body = body, .argument = argument, .priority = priority};
+    order_starts(search_own(), number);
     getcontext(&tasks[number].context);
     tasks[number].context.uc_stack.ss_sp = stack_of(number);
     tasks[number].context.uc_stack.ss_size = STACK;
@@ -325,13 +408,15 @@ int search_start(search_body *body, void *argument) {
 }
 
 void search_join(int number) {
-    search_step();
+    search_step_at(&tasks[number], NULL);
     if (tasks[number].state != GONE) block(JOINS, &tasks[number], NEVER);
+    search_touch(&tasks[number], false);
 }
 
 int searched_create(pthread_t *thread, const pthread_attr_t *attributes, search_body *body, void *argument) {
     (void)attributes;
     *thread = (pthread_t)new_task(body, argument);
+    order_names_heap(argument); /* its helper's */
     search_step();
     return 0;
 }
@@ -358,10 +443,11 @@ static int place_of(const void *mutex) {
 /* Before and after a run one thread runs alone. */
 int searched_lock(pthread_mutex_t *mutex) {
     if (me == NULL) return 0;
-    search_step();
+    search_step_at(mutex, NULL);
     if (mutexes[place_of(mutex)].owner == me) search_fail("a mutex is locked twice");
     while (mutexes[place_of(mutex)].owner != NULL) block(WANTS_MUTEX, mutex, NEVER);
     mutexes[place_of(mutex)].owner = me;
+    search_touch(mutex, true);
     return 0;
 }
 
@@ -371,6 +457,7 @@ int searched_unlock(pthread_mutex_t *mutex) {
     if (mutexes[place].owner != me) search_fail("a mutex is unlocked by another");
     mutexes[place].owner = NULL;
     mutexes[place].mutex = NULL;
+    search_touch(mutex, true);
     for (int i = 0; i < count; i++)
         if (tasks[i].state == WANTS_MUTEX && tasks[i].on == mutex) tasks[i].state = RUNS;
     search_step();
@@ -379,10 +466,24 @@ int searched_unlock(pthread_mutex_t *mutex) {
 
 /* ---- sleeping ---- */
 
+static void go_on_by(uint64_t nanoseconds) {
+    now += nanoseconds;
+    wake_those_due();
+}
+
+/* Time stands still, but for one that looks again and again. */
+static void look_at_time(void) {
+    if (++me->looks > MOST_LOOKS) go_on_by(YIELD_TIME);
+    order_learns(search_own(), now);
+}
+
 int searched_clock(clockid_t clock, struct timespec *time) {
     if (me == NULL || clock != CLOCK_MONOTONIC) return clock_gettime(clock, time);
+    me->asks_time = true;
     search_step();
+    me->asks_time = false;
     search_pass(50 + search_chance() % 1000);
+    if (is_timeless()) look_at_time();
     *time = (struct timespec){(time_t)(now / 1000000000), (long)(now % 1000000000)};
     return 0;
 }
@@ -400,13 +501,15 @@ int searched_sleep(const struct timespec *time, struct timespec *left) {
 int searched_yield(void) {
     if (me == NULL) return 0;
     search_pass(100);
+    if (is_timeless()) go_on_by(YIELD_TIME);
     lower(me);
     search_step();
     return 0;
 }
 
 static long sleep_on_word(const uint32_t *word, uint32_t seen, const struct timespec *due) {
-    search_step();
+    search_step_at(word, NULL);
+    search_touch(word, false);
     if (*(const volatile uint32_t *)word != seen) return errno = EAGAIN, -1;
     uint64_t at = due == NULL ? NEVER : (uint64_t)due->tv_sec * 1000000000 + (uint64_t)due->tv_nsec;
     if (at <= now) return errno = ETIMEDOUT, -1;
@@ -415,6 +518,7 @@ static long sleep_on_word(const uint32_t *word, uint32_t seen, const struct time
         return errno = EINTR, -1;
     }
     block(SLEEPS, word, at);
+    if (me->is_woken) search_touch(word, false);
     return me->is_woken ? 0 : (errno = ETIMEDOUT, -1);
 }
 
@@ -426,6 +530,7 @@ static long wake_on_word(const uint32_t *word, int most) {
         tasks[i].is_woken = true;
         woken++;
     }
+    search_touch(word, true);
     search_step();
     return woken;
 }
@@ -496,7 +601,8 @@ PLAIN(1) PLAIN(2) PLAIN(4) PLAIN(8) PLAIN(16)
 #define CHANGE(bits, type, name, changed) \
     type __tsan_atomic##bits##_##name(volatile type *at, type value, int order) { \
         (void)order; \
-        search_step(); \
+        search_step_at((const void *)at, NULL); \
+        search_touch((const void *)at, true); \
         type old = *at; \
         *at = (type)(changed); \
         return old; \
@@ -504,8 +610,9 @@ PLAIN(1) PLAIN(2) PLAIN(4) PLAIN(8) PLAIN(16)
 #define EXCHANGE_IF(bits, type, name) \
     int __tsan_atomic##bits##_compare_exchange_##name(volatile type *at, type *expected, type value, int order, int other) { \
         (void)order, (void)other; \
-        search_step(); \
+        search_step_at((const void *)at, NULL); \
         type old = *at; \
+        search_touch((const void *)at, old == *expected); \
         if (old == *expected) return *at = value, 1; \
         *expected = old; \
         return 0; \
@@ -513,12 +620,14 @@ PLAIN(1) PLAIN(2) PLAIN(4) PLAIN(8) PLAIN(16)
 #define ATOMIC(bits, type) \
     type __tsan_atomic##bits##_load(const volatile type *at, int order) { \
         (void)order; \
-        search_step(); \
+        search_step_at((const void *)at, NULL); \
+        search_touch((const void *)at, false); \
         return *at; \
     } \
     void __tsan_atomic##bits##_store(volatile type *at, type value, int order) { \
         (void)order; \
-        search_step(); \
+        search_step_at((const void *)at, NULL); \
+        search_touch((const void *)at, true); \
         *at = value; \
     } \
     CHANGE(bits, type, exchange, value) CHANGE(bits, type, fetch_add, old + value) CHANGE(bits, type, fetch_sub, old - value) \

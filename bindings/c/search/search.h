@@ -14,10 +14,13 @@ typedef enum {
     AT_RANDOM,   /* each step anew */
     STICKY,      /* mostly the one that runs */
     BY_PRIORITY, /* the one with the most, which changes `depth` - 1 times: PCT */
-    AS_TOLD      /* the one that runs, as long as it can, but for the choices that are told */
+    AS_TOLD,     /* the one that runs, as long as it can, but for the choices that are told */
+    TIMELESS     /* the same, and time stands still until nobody can go on, or it is chosen that it goes on */
 } search_kind;
 
-/* A choice against what AS_TOLD does by itself: at which place, where more than one could go on, and which task. */
+/* A choice against what AS_TOLD does by itself: at which place, where more than one could go on, and which task. TIME: the first that sleeps until
+ * a time, which is over now. */
+enum { TIME = MOST_TASKS };
 typedef struct {
     uint32_t place, task;
 } search_choice;
@@ -34,14 +37,23 @@ typedef struct {
 void search_begin(const search_schedule *schedule, uint64_t chance);
 void search_end(void);
 
+/* Where it was chosen who goes on. The rest is known of a TIMELESS run alone. */
+typedef struct {
+    uint32_t able;  /* a bit for each task that could go on; TIME's: one sleeps until a time */
+    uint8_t usual;  /* whom AS_TOLD chooses by itself */
+    bool is_free;   /* the one that ran couldn't go on, so that another one is no preemption */
+    bool asks_time; /* it is about to read the clock */
+    bool repeats;   /* it is about to read again what it has read twice, which is as it was */
+    uint64_t words[2]; /* that it is about to touch; 0: none */
+    uint64_t past;  /* the same where each task has done the same, in the same order */
+} search_place;
+
 /* What has come by choices against AS_TOLD's own, by which the run can be made again; and at each place whom it might have chosen. */
 typedef struct {
     size_t count, places;
     size_t first, last; /* places of the program's own part: threads have begun, and not all have come back */
     search_choice choices[MOST_TOLD];
-    uint16_t able[MOST_TOLD]; /* a bit for each task that could go on */
-    uint8_t usual[MOST_TOLD]; /* whom AS_TOLD chooses by itself */
-    bool is_free[MOST_TOLD];  /* the one that ran couldn't go on, so that another one is no preemption */
+    search_place at[MOST_TOLD];
 } search_run;
 extern search_run search_made;
 
@@ -51,6 +63,10 @@ void search_join(int task);
 int search_own(void); /* the number of the task that runs */
 
 void search_step(void);
+/* A step that is about to touch these words, or one and NULL; and what it has touched then. */
+void search_step_at(const void *word, const void *other);
+void search_touch(const void *word, bool changes);
+void search_own_part(bool begins); /* of the program, in which who goes on is chosen */
 uint64_t search_chance(void); /* a number by chance */
 uint64_t search_time(void);   /* nanoseconds, without a step */
 void search_pass(uint64_t nanoseconds); /* so much time goes on, without a step */

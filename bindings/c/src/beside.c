@@ -109,7 +109,7 @@ static void end_draft(draft *it) {
     close_listed(&it->old);
     pthread_mutex_lock(&registry);
     draft **from = &drafts;
-    while (*from != it) from = &(*from)->next;
+    for (; *from != it; from = &(*from)->next) assert(*from != NULL);
     *from = it->next;
     pthread_mutex_unlock(&registry);
     errno = error;
@@ -137,6 +137,7 @@ static zelamiku_status open_beside(draft *it, mode_t mode, bool *is_new, bool *h
 static zelamiku_status make_beside(draft *it, mode_t mode) {
     for (int tries = 0; tries < 5; tries++) {
         bool is_new = false, has_gone = false;
+        assert(it->file < 0);
         zelamiku_status status = open_beside(it, mode, &is_new, &has_gone);
         if (has_gone) continue;
         if (status != ZELAMIKU_OK) return status;
@@ -161,6 +162,7 @@ static zelamiku_status begin_draft(draft *it, mode_t mode, const char **cause) {
 
 /* The draft, whose bytes are durable, takes its place. False: it didn't; or it did (`is_in_place`), and that isn't durable. */
 static bool put_in_place(draft *it) {
+    assert(it->file >= 0 && !it->is_in_place);
     if (rename(it->beside, it->path) != 0) return false;
     it->is_in_place = true;
     return sync_folder_of(it->path);

@@ -6,6 +6,7 @@ static bool write_all(int file, const uint8_t *bytes, uint64_t size, uint64_t at
         ssize_t count = AGAIN(pwrite(file, bytes, size, (off_t)at));
         if (count == 0) errno = EIO;
         if (count <= 0) return false;
+        assert((uint64_t)count <= size);
         bytes += count;
         size -= (uint64_t)count;
         at += (uint64_t)count;
@@ -18,6 +19,7 @@ static bool read_all(int file, uint8_t *bytes, uint64_t size, uint64_t at) {
         ssize_t count = AGAIN(pread(file, bytes, size, (off_t)at));
         if (count == 0) errno = EIO; /* the file was cut meanwhile */
         if (count <= 0) return false;
+        assert((uint64_t)count <= size);
         bytes += count;
         size -= (uint64_t)count;
         at += (uint64_t)count;

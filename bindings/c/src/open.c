@@ -17,6 +17,7 @@ typedef struct {
 } door;
 
 static zelamiku_status refuse(door *at, zelamiku_status status, int error) {
+    assert(status != ZELAMIKU_OK);
     return fail(at->path, status, error, at->cause[0] != 0 ? at->cause : NULL, at->cure[0] != 0 ? at->cure : NULL, "open");
 }
 
@@ -60,6 +61,7 @@ static bool differs(door *at, uint32_t difference, uint32_t field, uint64_t has,
     bool is_less = difference == ZELAMIKU_DIFFERENT_LANES && has >= planned;
     if (has == planned || is_less) return false;
     zelamiku_report *report = at->report;
+    assert(report->difference == 0); /* the first one is told */
     report->difference = difference;
     report->field = field;
     report->has = has;

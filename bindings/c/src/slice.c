@@ -12,6 +12,8 @@ typedef struct {
     uint64_t runtime, deadline, period;
 } attributes;
 
+_Static_assert(sizeof(attributes) == 48, "what Linux 3.14 takes, and each later one");
+
 static bool get_attributes(attributes *of) {
     memset(of, 0, sizeof *of);
     return syscall(SYS_sched_getattr, 0, of, sizeof *of, 0) == 0 && of->policy == SCHED_OTHER;

@@ -64,6 +64,7 @@ static const char *const TEXTS[][2] = {
 };
 
 static const char *text_of(uint32_t status, unsigned which) {
+    assert(which < 2);
     bool is_there = status < sizeof TEXTS / sizeof *TEXTS && TEXTS[status][0] != NULL;
     return is_there ? TEXTS[status][which] : which == 0 ? "no status of zelamiku.h" : "";
 }
@@ -77,6 +78,7 @@ const char *zelamiku_status_text(uint32_t status) {
 __attribute__((format(printf, 6, 7))) COLD zelamiku_status fail(const char *path, zelamiku_status status, int error, const char *cause,
                                                                const char *cure, const char *call, ...) {
     char called[160], system[96] = "";
+    assert(status != ZELAMIKU_OK);
     va_list numbers;
     va_start(numbers, call);
     (void)vsnprintf(called, sizeof called, call, numbers);
@@ -100,6 +102,7 @@ __attribute__((format(printf, 3, 4))) COLD void tell_log(const heap *of, uint32_
     if (of->log == NULL) return;
     char text[ZELAMIKU_MOST_MESSAGE];
     int begun = snprintf(text, sizeof text, "%.500s: ", of->path);
+    assert(begun > 0 && (size_t)begun < sizeof text);
     va_list numbers;
     va_start(numbers, format);
     (void)vsnprintf(text + begun, sizeof text - (size_t)begun, format, numbers);

@@ -73,6 +73,7 @@ static void spell_circle(heap *of, const uint32_t *owners, uint32_t lane, char *
     uint32_t at = lane;
     size_t begun = 0;
     do {
+        assert(at < of->lanes && seat_at(of, at)->wanted != 0); /* each of a circle wants a monitor that the next one has */
         int more = snprintf(text + begun, size - begun, "%slane %u for object %u of lane %u", begun > 0 ? ", " : "", at,
                             seat_at(of, at)->wanted - 1, owners[at]);
         begun += more > 0 ? (size_t)more : 0;
@@ -119,6 +120,7 @@ static size_t list_waits(heap *of, const uint32_t *owners, zelamiku_wait *waits,
     for (uint32_t lane = 0; lane < of->lanes && written < count; lane++) {
         uint32_t wanted = seat_at(of, lane)->wanted;
         if (wanted == 0 || owners[lane] == lane) continue; /* it has just taken it */
+        assert(wanted <= of->objects);
         zelamiku_wait wait = {lane, wanted - 1, owners[lane], circle_of(of, owners, lane) != 0};
         waits[written++] = wait;
     }

@@ -285,13 +285,13 @@ static void refusals(void) {
 /* ---- a fault at each call ---- */
 
 /* Of an opening: none is open then, and what was is there still. Answers how many calls there were. */
-static unsigned openings(void) {
+static unsigned openings(unsigned what) {
     for (unsigned at = 1;; at++) {
         make();
         uint8_t *before = (uint8_t *)malloc(SIZE);
         MUST(before != NULL);
         memcpy(before, held.now, SIZE);
-        plant(fault, at);
+        plant(what, at);
         is_over = false;
         heap.number = 1;
         zelamiku_status status = zelamiku_heap_open_on(&heap, "device", &DEVICE, &PLAN, NULL);
@@ -312,10 +312,10 @@ static unsigned openings(void) {
 }
 
 /* Of a making: afterwards there is no heap or the new one, and where there is none the device is free, or refused and left as it is. */
-static unsigned makings(void) {
+static unsigned makings(unsigned what) {
     for (unsigned at = 1;; at++) {
         empty();
-        plant(fault, at);
+        plant(what, at);
         is_over = false;
         zelamiku_status status = zelamiku_heap_open_on(&heap, "device", &DEVICE, &PLAN, NULL);
         bool is_done = calls < at;
@@ -362,7 +362,7 @@ static void after_refusal(zelamiku_thread own) {
 }
 
 /* Of a round, whose section stores 8. A crash now leaves 7 or 8, whatever of the writes since the last sync is there. */
-static unsigned rounds(void) {
+static unsigned rounds(unsigned what) {
     for (unsigned at = 1;; at++) {
         empty();
         plant(NO_FAULT, 0);
@@ -371,7 +371,7 @@ static unsigned rounds(void) {
         store(own, 7);
         OK(zelamiku_thread_await(own));
         store(own, 8);
-        plant(fault, at);
+        plant(what, at);
         zelamiku_status status = zelamiku_thread_await(own);
         bool is_done = calls < at;
         fault_at = 0;
@@ -383,7 +383,7 @@ static unsigned rounds(void) {
             close_heap();
             return at - 1;
         }
-        bool is_loss = fault == GONE || fault == STRANGE;
+        bool is_loss = what == GONE || what == STRANGE;
         MUST(status == (is_loss ? ZELAMIKU_LOST : ZELAMIKU_DEVICE));
         if (is_loss)
             after_loss(own);
@@ -493,12 +493,9 @@ int main(int argc, char **argv) {
     life(argv[1]);
     refusals();
     for (unsigned what = REFUSED; what < FAULTS && !is_short; what++) {
-        fault = what;
-        opened += openings();
-        fault = what;
-        made += makings();
-        fault = what;
-        rounded += rounds();
+        opened += openings(what);
+        made += makings(what);
+        rounded += rounds(what);
     }
     while (hangs(stopped + 1)) stopped++;
     MUST(stopped > 0 && (is_short || (opened > 0 && made > 0 && rounded > 0)));

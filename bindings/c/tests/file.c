@@ -241,6 +241,27 @@ static void sizes(void) {
     MUST(pwrite(file, "x", 1, 0) == 1 && open_heap(&heap) == ZELAMIKU_NOT_FORMATTED && most <= ZELAMIKU_HEAD_BYTES && close(file) == 0);
 }
 
+/* A ring of the plan's size takes more sections than the least one does, before a round; also after the heap was opened again. */
+static void rings(void) {
+    enum { SECTIONS = 2 * ZELAMIKU_LEAST_RING / 900, STORES = 900 };
+    zelamiku_plan usual = plan;
+    zelamiku_heap heap;
+    zelamiku_thread own;
+    remove_file();
+    plan.ring = plan.capacity = 8 * ZELAMIKU_LEAST_RING;
+    plan.linger = 60000000;
+    for (int opens = 0; opens < 2; opens++) {
+        MUST(open_heap(&heap) == ZELAMIKU_OK && zelamiku_thread_begin(&own, heap) == ZELAMIKU_OK);
+        for (int section = 0; section < SECTIONS; section++) {
+            MUST(zelamiku_thread_try_enter(own, 0) == ZELAMIKU_OK);
+            for (uint64_t i = 0; i < STORES; i++) MUST(zelamiku_thread_store(own, 0, i) == ZELAMIKU_OK);
+            MUST(zelamiku_thread_exit(own, 0) == ZELAMIKU_OK);
+        }
+        MUST(zelamiku_thread_end(own) == ZELAMIKU_OK && zelamiku_heap_close(heap) == ZELAMIKU_OK);
+    }
+    plan = usual;
+}
+
 static void read_head(uint8_t *head) {
     int file = open("heap", O_RDONLY | O_CLOEXEC);
     MUST(file >= 0 && pread(file, head, ZELAMIKU_HEAD_BYTES, 0) == ZELAMIKU_HEAD_BYTES && close(file) == 0);
@@ -648,6 +669,7 @@ int main(int argc, char **argv) {
     old();
     others();
     sizes();
+    rings();
     openings();
     int makings = failing_makings(), calls = failing_rounds(), crashes = cut_off_makings(), old_crashes = old_makings();
     int killed = killed_makings(), copy_calls = copies();
@@ -660,7 +682,7 @@ int main(int argc, char **argv) {
     life();
     old();
     MUST(copies() > copy_calls);
-    printf("file: lives, an old image, other opens, large files, links, a file that goes, a fault at each of %d calls of a making, %d of a round and %d of a copy, "
+    printf("file: lives, an old image, other opens, large files, rings, links, a file that goes, a fault at each of %d calls of a making, %d of a round and %d of a copy, "
            "%d crashes of a making, %d of one in place, 40 kills (%d before the heap was there), and calls that are short and interrupted\n",
            makings, calls, copy_calls, crashes, old_crashes, killed);
     return 0;

@@ -8,5 +8,7 @@ mod counting;
 mod keeping;
 mod round_memory;
 mod survey;
+#[cfg(test)]
+mod tests;
 
 pub use round_memory::RoundMemory;
