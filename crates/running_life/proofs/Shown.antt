@@ -1,5 +1,5 @@
 -- What a crash leaves of a store's run.
-use Rattle.std.proofs.Common.{ℕ, List, length, ⊎_elim, sym, subst, arith}
+use Rattle.std.proofs.Common.{ℕ, length, ⊎_elim, subst, arith}
 use Rattle.block_disk.proofs.Images.{left_now}
 use Rattle.helper_sections.specs.Image.{ShowsCutOf}
 use Rattle.image.specs.declared.layout.Layout.{Layout}
