@@ -13,10 +13,10 @@ run_shows l t s p old new image run left =
     let ran = run.ran in
     ⊎_elim
     (λ was.
-      let of_store : ShowsCutOf run.store.layout run.store.threads s (applied p) p.cut image = run.has.images image (left_now old image was) in
-      let of_layout : ShowsCutOf l run.store.threads s (applied p) p.cut image =
-      subst (λ (k : Layout). ShowsCutOf k run.store.threads s (applied p) p.cut image) run.layout of_store in
-      let shown : ShowsCutOf l t s (applied p) p.cut image = subst (λ (n : ℕ). ShowsCutOf l n s (applied p) p.cut image) run.threads of_layout in
-      shows_more l t s ran.newer (applied p) (applied q) p.cut p.cut image ran.same (λ lane. omega arith) shown)
+    let of_store : ShowsCutOf run.store.layout run.store.threads s (applied p) p.cut image = run.has.images image (left_now old image was) in
+    let of_layout : ShowsCutOf l run.store.threads s (applied p) p.cut image =
+    subst (λ (k : Layout). ShowsCutOf k run.store.threads s (applied p) p.cut image) run.layout of_store in
+    let shown : ShowsCutOf l t s (applied p) p.cut image = subst (λ (n : ℕ). ShowsCutOf l n s (applied p) p.cut image) run.threads of_layout in
+    shows_more l t s ran.newer (applied p) (applied q) p.cut p.cut image ran.same (λ lane. omega arith) shown)
     (λ shown. shown)
     (ran.shown.each (length old.past) image (omega arith) left)
