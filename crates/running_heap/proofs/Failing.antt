@@ -1,15 +1,13 @@
 -- A helper whose store has failed goes on as it is.
-use Rattle.std.proofs.Common.{ℕ, ◌≡◌, ◌<◌, ◌≤◌, ◌++◌, List, false, true, OnErr, Result, sym, ap, ◌∙◌, subst, arith}
+use Rattle.std.proofs.Common.{ℕ, ◌≡◌, ◌++◌, List, false, true, OnErr, Result, sym, ap, ◌∙◌, subst, arith}
 use Rattle.block_disk.specs.Device.{Device}
 use Rattle.round_store.specs.Store as stores
 use Rattle.round_store.specs.Store.{HasPast}
 use Rattle.heap_model.specs.declared.record.Record.{Record}
-use Rattle.monitor.specs.Seats.{Home}
 use Rattle.steps.specs.Views.{plan}
-use Rattle.store_past.specs.Past.{Past, applied}
+use Rattle.store_past.specs.Past.{applied}
 use Rattle.store_past.specs.declared.error.StoreError.{StoreError}
 use Rattle.trim_helper.specs.Hearing.{IsNoted}
-use Rattle.trim_helper.specs.Parts.{IsServing, Parts}
 use Rattle.trim_helper.specs.Rings.{held_back, stream, waiting_in}
 use Rattle.trim_helper.proofs.Counting.{count_kept}
 use Rattle.trim_helper.proofs.Noting.{count_noted, place_noted}

@@ -15,4 +15,4 @@ kept device closes law h opened d x p ended was from image left =
     let l = x.store.known.layout in
     law l l.lanes (plan h) no_past (applied c.now) c.history image c.legal (λ k. ([], sym (c.logs k)))
     (run_shows l l.lanes (plan h) no_past opened d image
-      (record { store = life.began; layout = life.layout; threads = life.threads; has = life.nothing; now = c.now; ran = life.ran }) left)
+    (record { store = life.began; layout = life.layout; threads = life.threads; has = life.nothing; now = c.now; ran = life.ran }) left)

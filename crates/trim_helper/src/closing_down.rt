@@ -19,11 +19,11 @@ use crate::published::close;
 use crate::settling::settle_and_trim;
 use block_disk::Disk;
 use cut_laws::{stable_law, unlogged_law};
-use round_store::RoundStore;
 use heap_model::{Lane, Record};
 use history_laws::{all_kept_law, log_law, next_law, order_law, own_log_law};
 use lane_rings::{MOST_RING_RECORDS, Receiver};
 use monitor::{Finals, HelperSeat, Shared};
+use round_store::RoundStore;
 
 // How many of the sessions are of this lane.
 fn count_of(ended: &[Ended], lane: u8) -> usize

@@ -8,11 +8,11 @@ ghost use Rattle.trim_helper.specs.Taken.{with_rings};
 
 use crate::rings::{clear_waiting, fetch, look};
 use block_disk::Disk;
-use round_store::RoundStore;
-use store_past::StoreError;
 use heap_model::{Lane, Record};
 use history_laws::{log_law, next_law, own_log_law};
 use lane_rings::{MOST_RING_RECORDS, Receiver};
+use round_store::RoundStore;
+use store_past::StoreError;
 
 /// How often a drain looks at the rings at most. While threads send as quickly as it applies, a drain with no bound takes so many
 /// rings' fill of each lane.

@@ -19,12 +19,12 @@ use crate::hearing::catch_up;
 use crate::published::publish_all;
 use crate::settling::settle_and_trim;
 use block_disk::Disk;
-use round_store::RoundStore;
-use store_past::StoreError;
 use heap_model::{LANES, Lane, Record};
 use lane_rings::{MOST_RING_RECORDS, Receiver};
 use monitor::{HelperSeat, Shared};
+use round_store::RoundStore;
 use std::marker::Model;
+use store_past::StoreError;
 
 /// The helper: it owns the store, applies to it what the sessions send through their rings, makes that durable, and publishes
 /// how many sections of each lane are acknowledged and how many of its records are forgotten.

@@ -8,10 +8,10 @@ ghost use Rattle.trim_helper.specs.Helping.{IsHelper};
 ghost use Rattle.trim_helper.specs.Opening.{FitsSchema, plan_of};
 
 use block_disk::Disk;
-use round_store::RoundStore;
 use guards::Schema;
 use image::Recovered;
 use monitor::{HelperSeat, Seat, Shared};
+use round_store::RoundStore;
 use std::alloc::{AllocError, Global};
 
 /// A heap that is open for threads: the words that they share, the seats of its lanes, and what a helper is made of.

@@ -8,9 +8,9 @@ ghost use Rattle.trim_helper.specs.Helping.{HasPublished, HavePublished, HaveRea
 ghost use Rattle.trim_helper.specs.Seen.{SameSight};
 
 use block_disk::Disk;
-use round_store::RoundStore;
 use heap_model::Lane;
 use monitor::{Finals, HelperSeat, Seat, Shared};
+use round_store::RoundStore;
 
 /// Publishes by lane what is acknowledged and trimmed.
 pub fn publish_all<D: Disk>(store: &RoundStore<D>, shared: &Shared, seat: &mut HelperSeat)

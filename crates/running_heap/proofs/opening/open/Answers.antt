@@ -3,7 +3,6 @@ use Rattle.image.specs.declared.layout.Layout.{Layout}
 use Rattle.monitor.specs.declared.view.Plan.{Plan}
 use Rattle.monitor.specs.declared.view.View.{View}
 use Rattle.running_heap.specs.Joined.{HaveRoom, IsJoined}
-use Rattle.lane_rings.specs.Rings.{IsRingSize}
 use Rattle.session.specs.Logs.{rooms}
 use Rattle.steps.specs.Views.{plan}
 use Rattle.store_past.specs.Past.{no_past}
