@@ -1,0 +1,9 @@
+pub mod Shown
+pub mod Running
+pub mod Applying
+pub mod Adopting
+pub mod Fields
+pub mod Premises
+pub mod Afterwards
+pub mod Turned
+pub mod Composing
