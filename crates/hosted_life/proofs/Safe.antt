@@ -19,9 +19,9 @@ use Rattle.steps.specs.Views.{plan}
 use Rattle.store_past.specs.Past.{applied, no_past}
 use Rattle.survival.specs.Running.{KeepsIn}
 use Rattle.trim_helper.specs.Closed.{disk_of}
-use Rattle.trim_helper.specs.Parts.{IsServing, Parts}
+use Rattle.trim_helper.specs.Parts.{IsServing}
 use Rattle.hosted_heap.specs.Hosting.{hosted_device}
-use Rattle.hosted_life.specs.Safe.{AcknowledgedLaw, BegunLaw, ClosedLaw, EndsLaw, HostLaw, IsSafe, KeptRunLaw, LivesLaw, NowLaw, OpeningLaw}
+use Rattle.hosted_life.specs.Safe.{AcknowledgedLaw, BegunLaw, ClosedLaw, EndsLaw, HostLaw, KeptRunLaw, LivesLaw, NowLaw, OpeningLaw}
 use Rattle.hosted_heap.specs.Opening.{device_on}
 
 pub keeps_run : RoundRunsLaw → KeptRunLaw

@@ -141,6 +141,7 @@ impl<D: Disk> RoundStore<D> {
     /// How many sections of the lane are acknowledged.
     pub fn acknowledged(&self, lane: Lane) -> u64
         requires { lane.0 < self.now.known.threads }
+        // The answer is how many sections of the lane are acknowledged.
         ensures { HasAcknowledged D.device self.now lane.0 result }
     {
         self.committed.rows[usize::from(lane.0)].kept
@@ -149,7 +150,9 @@ impl<D: Disk> RoundStore<D> {
     /// The field's value after all applied stores. A transient field has its first one, since none of its stores is applied.
     pub fn heap_value(&self, field: FieldId) -> u64
         requires { field.0 < self.now.known.layout.fields }
+        // The answer is the field's value after all that was applied.
         ensures value { HasValue D.device self.now field.0 result }
+        // The applied value of a transient field is its first value.
         ensures transient { HasFirstValue D.device self.now field.0 result }
     {
         self.applied.value(field)
@@ -158,6 +161,7 @@ impl<D: Disk> RoundStore<D> {
     /// The first place of the lane that wasn't trimmed: so many of its records are no longer needed.
     pub fn trimmed(&self, lane: Lane) -> u64
         requires { lane.0 < self.now.known.threads }
+        // The answer is the place up to which the lane's records were trimmed.
         ensures { HasTrimmed D.device self.now lane.0 result }
     {
         self.applied.start(lane)
@@ -195,6 +199,7 @@ impl<D: Disk> RoundStore<D> {
         ensures shown { ShowsAtStop D.device self result }
         // What a crash leaves of a store that hasn't failed, between two calls, shows just the acknowledged cut.
         ensures at_rest { RestsAcknowledged D.device self result }
+        // Where no cell waits, each persistent field's cell has what is kept, or a live record stores to the field.
         ensures home { IsHome D.device self }
     {
         self.disk

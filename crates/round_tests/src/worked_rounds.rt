@@ -10,11 +10,11 @@ use std::alloc::Global;
 use undo_log::encode_record;
 
 // Three lanes of 2,000 records and two fields: where the lanes' rows lie in the first slot, the first home cell, and the areas.
-const SIZE: u64 = 98_208;
+pub(crate) const SIZE: u64 = 98_208;
 
 const ROWS_AT: [u64; 3] = [88, 120, 152];
 
-const CELL_AT: u64 = 2192;
+pub(crate) const CELL_AT: u64 = 2192;
 
 const AREAS_AT: [u64; 3] = [2208, 34_208, 66_208];
 
@@ -27,7 +27,7 @@ fn declare(builder: &mut SchemaBuilder) -> Option<()> {
     Some(())
 }
 
-fn schema_or_none(alloc: Global) -> Option<Schema> {
+pub(crate) fn schema_or_none(alloc: Global) -> Option<Schema> {
     let mut builder = SchemaBuilder::new(alloc);
     if declare(&mut builder).is_none() {
         drop(builder);
