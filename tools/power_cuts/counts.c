@@ -6,36 +6,12 @@
  *
  * `copyT COUNT` is told once a copy has all that was told before it began.
  *
- * WITHOUT_SYNC=N leaves out the Nth of each round's four syncs, so that the test can be seen to find that. It is linked with
- * -Wl,--wrap=pwrite,--wrap=fdatasync. */
+ * WITHOUT_SYNC=N leaves out the Nth of each round's four syncs (left_out.h). */
 #define _GNU_SOURCE
 #include <fcntl.h>
 #include <sys/stat.h>
 #include "counts.h"
-
-/* ---- a sync that is left out (docs/FORMAT.md, "The other calls", has a round's) ---- */
-
-static int without, body_sync;
-static bool has_gate, has_records;
-
-ssize_t __real_pwrite(int file, const void *bytes, size_t size, off_t at);
-int __real_fdatasync(int file);
-ssize_t __wrap_pwrite(int file, const void *bytes, size_t size, off_t at);
-int __wrap_fdatasync(int file);
-
-ssize_t __wrap_pwrite(int file, const void *bytes, size_t size, off_t at) {
-    has_gate |= size == 1 && (at == 64 || at == 1112);
-    has_records |= at >= 2160 + 24 * FIELDS;
-    return __real_pwrite(file, bytes, size, at);
-}
-
-/* The sync of the records, or of the home cells, with a control's body; or that of its gate. */
-int __wrap_fdatasync(int file) {
-    int number = has_gate ? body_sync + 1 : has_records ? 1 : 3;
-    if (!has_gate) body_sync = number;
-    has_gate = has_records = false;
-    return number == without ? 0 : __real_fdatasync(file);
-}
+#include "left_out.h"
 
 /* ---- the heap ---- */
 
@@ -73,13 +49,13 @@ static uint32_t number(int argc, char **argv, int word, uint32_t otherwise) {
 }
 
 int main(int argc, char **argv) {
-    const char *word = argc > 2 ? argv[1] : "", *left_out = getenv("WITHOUT_SYNC");
+    const char *word = argc > 2 ? argv[1] : "";
     bool is_look = strncmp(word, "look", 4) == 0;
     uint32_t size = number(argc, argv, 3, 0);
     if (!is_look && strncmp(word, "co", 2) != 0) return REFUSED;
     declare();
     open_file(argv[2], size, number(argc, argv, 4, WORKERS + 1), is_look);
-    without = left_out != NULL ? atoi(left_out) : 0;
+    leave_out();
     if (is_look) {
         look();
         return 0;

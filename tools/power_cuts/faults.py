@@ -24,12 +24,13 @@ class FaultTrial(Trial):
         self.end = base = self.disk.count()
         if self.run.torn > 2:
             self.tear_the_image_alone()
-        for _ in range(self.run.failures):
+        # A failure that was asked for may never come.
+        for _ in range(2 * self.run.failures):
             self.disk.ask("state", base, "kept", 0, 0, 1, 0)
             self.disk.ask("deeper")
             self.try_failure()
             self.disk.ask("back")
-            if self.counts["wrong"] and self.run.leaves_out():
+            if self.counts["failures"] == self.run.failures or (self.counts["wrong"] and self.run.leaves_out()):
                 return
 
     def try_failure(self):

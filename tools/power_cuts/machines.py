@@ -247,8 +247,8 @@ class Parts:
         must_run("cc", *flags, f"{HERE}/cutdisk.c", "-o", f"{folder}/cutdisk")
         must_run("cc", *flags, f"{HERE}/unmended.c", "-o", f"{folder}/unmended")
         linked = ["-I", f"{TOP}/bindings/c", f"{LIBRARY}/libzelamiku.a", "-pthread"]
-        must_run("cc", *flags, f"{HERE}/sections.c", *linked, "-o", f"{folder}/sections")
-        must_run("cc", *flags, f"{HERE}/counts.c", *linked, "-Wl,--wrap=pwrite,--wrap=fdatasync", "-o", f"{folder}/counts")
+        for name in ("counts", "sections"):
+            must_run("cc", *flags, f"{HERE}/{name}.c", *linked, "-Wl,--wrap=pwrite,--wrap=fdatasync", "-o", f"{folder}/{name}")
         programs = [PROGRAM, *(f"{folder}/{name}" for name in ("counts", "sections", "unmended")), *(shutil.which(name, path=PATHS) for name in ("e2fsck", "filefrag"))]
         programs += [self.rust_program()] if "cargo" in needs else []
         programs += [BANK] if "bank" in needs else []

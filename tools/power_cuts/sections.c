@@ -11,7 +11,8 @@
  *     #section LIFE THREAD COUNT STEP..    a step: OBJECT:ORDER, a monitor that was taken, for the ORDERth time in this life;
  *                                          or OBJECT.VALUE=NUMBER, a store under that monitor
  *
- * `t COUNT` is told of what is durable. A look prints `heap` and the values, and whether the pool has just the slots that are taken. */
+ * `t COUNT` is told of what is durable. A look prints `heap` and the values, and whether the pool has just the slots that are taken.
+ * WITHOUT_SYNC=N leaves out the Nth of each round's four syncs (left_out.h). */
 #define _GNU_SOURCE
 #include <fcntl.h>
 #include <sys/stat.h>
@@ -24,6 +25,8 @@ enum { DATA = 1 + THREADS, TRANSIENT = DATA + SHARED * EACH, TAGS = TRANSIENT + 
 /* Each value lies in a block of 1,024 bytes of its own, and the pool after them. */
 enum { STRIDE = 43, HEAD = VALUES * STRIDE, FIELDS = HEAD + 1 + SLOTS };
 enum { LONGEST = 4000, PATIENCE = 20000000 /* nanoseconds */, FIRST = 7 /* of a transient field */ };
+
+#include "left_out.h"
 
 static zelamiku_field fields[FIELDS];
 static uint64_t life, order[OBJECTS]; /* how often each monitor was taken; it guards that */
@@ -314,6 +317,7 @@ int main(int argc, char **argv) {
     declare();
     open_file(argv[2], is_look);
     if (is_look) return look();
+    leave_out();
     port = open("/dev/told", O_WRONLY | O_CLOEXEC);
     must_do(port >= 0, "told");
     run();

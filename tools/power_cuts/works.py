@@ -271,7 +271,7 @@ WHOLE = {
         Run("histories", states=600, in_recovery=96, true=119),
     ],
     "control": [
-        *(Run("threads", without=number) for number in (1, 2, 3, 4)),
+        *(Run(work, without=number) for number in (1, 2, 3, 4) for work in ("threads", "histories")),
         *(Run(work, lies=True) for work in ("threads", "histories", "drive", "set", "a file, served")),
         *(Run(work, failures=60, fails=("write", "flush"), is_unmended=True) for work in ("drive", "threads")),
         Run("two places", failures=60, fails=("write",), torn=3, is_unmended=True),

@@ -59,7 +59,7 @@ static void look_at_crash(uint32_t heap, bool is_all) {
     judge_kept(&judges[heap], is_all, least);
     if (!is_in_file(heap))
         judge_image(&judges[heap], devices[heap].durable, devices[heap].size, least);
-    else if (!is_opened_again)
+    else if (!is_opened_again && opening == 0) /* else an opening counts anew, and may not have come back yet */
         look_at_file(&judges[heap], "heap", least);
 }
 

@@ -409,13 +409,13 @@ static zelamiku_status take_bytes(heap *of, uint8_t *bytes, mode_t *mode) {
     if (status == ZELAMIKU_OK) {
         lead_as_guest(of);
         status = (zelamiku_status)of->end_status;
-        pthread_mutex_unlock(&of->mutex);
         if (status == ZELAMIKU_OK) {
+            pthread_mutex_unlock(&of->mutex);
             if (of->file >= 0) (void)fstat(of->file, &info);
             status = copy_bytes(of, bytes);
+            pthread_mutex_lock(&of->mutex);
         }
-        pthread_mutex_lock(&of->mutex);
-        lead_no_more(of, false);
+        lead_no_more(of, false); /* at the heap's end before anybody has seen that it leads: who ends the heap lets go of it meanwhile */
     }
     pthread_mutex_unlock(&of->mutex);
     tell_all(of);
