@@ -4,8 +4,8 @@ ghost use Rattle.heap_threads.specs.Durable.{KeepsDurableAtRestLaw, KeepsDurable
 
 use block_disk::Disk;
 use recover::{one_study_law, studied_law};
-use running_life::stable_law;
 use round_survival::two_syncs_law;
+use running_life::stable_law;
 use survival::has_study_law;
 
 /// Recovery takes whatever a crash left of a device that was recovered, at any moment of a run of its store behind that, and at any

@@ -1,7 +1,7 @@
 //! Why threads of a heap haven't run to their end.
-use store_past::StoreError;
 use image::ImageError;
 use recover::RecoverError;
+use store_past::StoreError;
 use thiserror::Error;
 use trim_helper::CloseError;
 

@@ -27,12 +27,12 @@ use image::Recovered;
 use lane_rings::RingRecords;
 use monitor::Shared;
 use recover::recover;
+use round_survival::two_syncs_law;
 use running_heap::{RunningHeap, close, joined_law, life_law, open};
 use running_life::{crash_law, round_law};
 use std::alloc::Global;
 use std::sync::Wait;
 use std::thread::Threads;
-use round_survival::two_syncs_law;
 use trim_helper::{Ended, Helper};
 
 /// Lets a thread for each lane do this work on a heap of this schema that was recovered, closes the heap, and recovers the device: what

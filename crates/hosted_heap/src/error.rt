@@ -1,8 +1,8 @@
 //! Why a hosted heap isn't opened, told of, or closed.
-use store_past::StoreError;
 use guards::SchemaError;
 use image::ImageError;
 use recover::RecoverError;
+use store_past::StoreError;
 use thiserror::Error;
 use trim_helper::CloseError;
 

@@ -6,7 +6,6 @@ use crate::seated::HostedSession;
 use crate::stop::Stopper;
 use crate::stop_word::StopWord;
 use deferred_disk::{DeferredDisk, DeviceCall, HostCalls, SYNCS};
-use store_past::StoreError;
 use heap_model::Lane;
 use image::Layout;
 use monitor::Shared;
@@ -14,6 +13,7 @@ use running_heap::{helping_law, joined_law};
 use std::alloc::Global;
 use std::marker::Model;
 use std::sync::Arc;
+use store_past::StoreError;
 use trim_helper::Helper;
 
 /// A running heap, whose host makes the device's calls: its helper, the sessions that weren't handed out yet, and what the host has
