@@ -260,7 +260,7 @@ static const small_program SMALL[SMALL_PROGRAMS] = {
     {"one looks and one stores while the helper looks every microsecond", 2, 1, {LOOKED_AT(0, 0), SECTION(1, 1)}},
     {"two want one monitor", 2, 5000, {SECTION(0, 0), SECTION(1, 0)}},
     {"three want one monitor, and one of them gives up", 3, 5000,
-     {{0, ENTER, 0, 0}, {0, EXIT, 0, 0}, {1, UNTIL, 0, 4000}, {1, EXIT, 0, 0}, {2, ENTER, 0, 0}, {2, EXIT, 0, 0}}},
+     {{0, ENTER, 0, 0}, {0, NAP, 0, 4200}, {0, EXIT, 0, 0}, {1, UNTIL, 0, 4000}, {1, EXIT, 0, 0}, {2, ENTER, 0, 0}, {2, EXIT, 0, 0}}},
     {"one waits in the set, and one notifies it", 2, 5000,
      {{0, ENTER, 0, 0}, {0, WAIT, 0, 1}, {0, EXIT, 0, 0}, {1, ENTER, 0, 0}, {1, NOTIFY, 0, 0}, {1, EXIT, 0, 0}}},
     {"one waits with another monitor held, and one notifies all", 2, 5000,
