@@ -1,19 +1,16 @@
 -- Logged values go home, and the stable cut is acknowledged.
-use Rattle.std.proofs.Common.{ℕ, ◌≡◌, ◌⊎◌, ◌+◌, ◌<◌, ◌≤◌, ◌==◌, [], if◌then◌else◌, Bool, true, false, Result, Ok, Err, OnOk, OnErr, IfErr, IsErrOf, MatchResult, refl, sym, ap, ◌∙◌, subst, inl, inr, ⊎_elim, arith}
+use Rattle.std.proofs.Common.{ℕ, ◌≡◌, ◌⊎◌, ◌+◌, ◌<◌, ◌≤◌, ◌==◌, [], Bool, true, false, Result, Ok, Err, OnOk, OnErr, IfErr, IsErrOf, MatchResult, refl, sym, ap, ◌∙◌, subst, inl, inr, ⊎_elim, arith}
 use Rattle.std.proofs.lemmas.Bool.{cases_lt}
 use Rattle.std.proofs.lemmas.Bool.Decides.{eqb_tells}
 use Rattle.heap_model.specs.Setting.{Setting}
-use Rattle.heap_model.specs.Sections.{actions}
 use Rattle.store_image.proofs.Growing.{places_grown}
-use Rattle.heap_model.specs.Cuts.{IsStable}
-use Rattle.cut_laws.specs.Laws.{StayLaw}
 use Rattle.block_disk.specs.Device.{Device, HasCause}
 use Rattle.block_disk.specs.Images.{LeavesOnly}
 use Rattle.block_disk.proofs.Images.{weaker}
 use Rattle.block_disk.proofs.Failures.{failed_since}
 use Rattle.store_memory.specs.Begin.{IsLeastDirtyOf}
 use Rattle.durable.specs.Calls.{IsClean, AnswersHome, after_home_step, RefusesLog, RefusesHome, RefusesSettle}
-use Rattle.store_past.specs.Past.{Past, IsPast, IsTrimmed, applied, after_log, after_settle}
+use Rattle.store_past.specs.Past.{Past, IsPast, IsTrimmed, applied, after_log}
 use Rattle.durable.specs.Runs.{HasRun}
 use Rattle.durable.specs.Store as stores
 use Rattle.durable.specs.Store.{Known, HasPast, ShowsStep, Shows}
@@ -186,21 +183,6 @@ module _ (x y : Known) (d e : Device) (s : Setting) (p : Past) where
     places = λ l. omega (arith, places_grown (p.base l) p.fresh p.logged l (was.base_whole l));
     ran = ran;
   }
-
-  pub settled_now : StayLaw → IsPast s p → (dirty : ℕ → Bool) → ((f : ℕ) → f < s.fields → dirty f ≡ false) → (cut : ℕ → ℕ) → IsStable (actions (applied p)) cut → HasPast y s (after_settle (dirtied (after_log p) dirty) cut) e →
-      HasRun y.layout s p d (after_settle (dirtied (after_log p) dirty) cut) e y.has_failed → (h : HasSame d y e s p) × IsSettled s h.now
-  settled_now stay had dirty clean cut stable has ran =
-      let stays = stay s p.fresh p.logged p.cut had.legal had.whole had.closed in (
-        record {
-          now = after_settle (dirtied (after_log p) dirty) cut;
-          has = has;
-          same = refl;
-          cut = λ l. stable.greatest p.cut stays.0 stays.1 l;
-          places = λ l. omega (arith, places_grown (p.base l) p.fresh p.logged l (had.base_whole l));
-          ran = ran;
-        },
-        record { logged = refl; clean = clean; stable = stable },
-      )
 
 -- the records were logged, and then the store went on
 pub logged_then : (x y z : Known) (s : Setting) (p : Past) (d e f : Device) → y.layout ≡ x.layout → z.layout ≡ y.layout → HasPast x s p d → LeavesOnly d e (ShowsStep x.layout s p Logging) → (q : Past) → HasRun z.layout s (after_log p) e q f z.has_failed →

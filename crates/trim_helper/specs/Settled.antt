@@ -80,9 +80,6 @@ module _ {D : Type 0} (device : D → Device) where
   abbrev pub WritesHome : (x y : stores.Parts D) → Result (Unit {0}) StoreError → Type 0
   WritesHome x y answer = (s : Setting) (p : Past) → HasPast x.known s p (device x.disk) → GoesHome s p x y answer
 
-  abbrev pub SettlesApplied : (x y : stores.Parts D) → Result (Unit {0}) StoreError → Type 0
-  SettlesApplied x y answer = (s : Setting) (p : Past) → HasPast x.known s p (device x.disk) → Settles s p x.known (device x.disk) y.known (device y.disk) answer
-
   abbrev pub SettlesAndTrimsApplied : (x y : stores.Parts D) → Result (Unit {0}) StoreError → Type 0
   SettlesAndTrimsApplied x y answer = (s : Setting) (p : Past) → HasPast x.known s p (device x.disk) → SettlesAndTrims s p x.known (device x.disk) y.known (device y.disk) answer
 

@@ -16,7 +16,7 @@ use crate::ended::Ended;
 use crate::helper::Helper;
 use crate::meeting::meet;
 use crate::published::close;
-use crate::settling::settle_applied;
+use crate::settling::settle_and_trim;
 use block_disk::Disk;
 use cut_laws::{stable_law, unlogged_law};
 use durable::Store;
@@ -117,7 +117,7 @@ fn finish<D: Disk>(
         drop(shared);
         return Err(close_error(reason));
     }
-    if let Err(reason) = settle_applied(store) {
+    if let Err(reason) = settle_and_trim(store) {
         drop(seat);
         drop(shared);
         return Err(close_error(reason));

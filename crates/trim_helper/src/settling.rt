@@ -3,7 +3,7 @@ ghost use Rattle.std.specs.Prelude.{◌≡◌, OnOk, false};
 ghost use Rattle.block_disk.specs.Device.{HasCause};
 ghost use Rattle.store_past.specs.declared.error.StoreError.TheVariants.{Fault};
 ghost use Rattle.durable.specs.Runs.{TakesSequences};
-ghost use Rattle.trim_helper.specs.Settled.{SettlesAndTrimsApplied, SettlesApplied, StaysFailed, WritesHome};
+ghost use Rattle.trim_helper.specs.Settled.{SettlesAndTrimsApplied, StaysFailed, WritesHome};
 
 use block_disk::Disk;
 use cut_laws::{stable_law, stay_law};
@@ -26,26 +26,6 @@ fn write_home<D: Disk>(store: &mut Store<D>) -> Result<(), StoreError>
         }
     }
     Ok(())
-}
-
-/// Logs what was applied, writes it home, and acknowledges its stable cut.
-pub fn settle_applied<D: Disk>(store: &mut Store<D>) -> Result<(), StoreError>
-    ensures settles { SettlesApplied D.device store.old store.new result }
-    ensures still { StaysFailed D.device store.old store.new }
-    ensures running { OnOk result (store.new.known.has_failed ≡ false) }
-    ensures cause { HasCause (D.device store.old.disk).failures (D.device store.new.disk).failures Fault result }
-    ensures takes { TakesSequences 2 store.old.known (D.device store.old.disk) store.new.known (D.device store.new.disk) }
-    ensures layout { store.new.known.layout ≡ store.old.known.layout }
-{
-    stable_law();
-    stay_law();
-    if let Err(reason) = store.log_step() {
-        return Err(reason);
-    }
-    if let Err(reason) = write_home(store) {
-        return Err(reason);
-    }
-    store.settle()
 }
 
 /// Logs what was applied, writes it home, and then acknowledges its stable cut and forgets it, both at once. It takes four

@@ -1,6 +1,6 @@
 use Rattle.std.proofs.Common.{◌≡◌, ◌≤◌, length, sym, arith}
 use Rattle.std.proofs.lemmas.List.{length-take-le}
-use Rattle.zelamiku.proofs.head_calls.header_in.Goals as goal
+use Rattle.image.proofs.head.header_in.Goals as goal
 
 pub slice_bounds-copy_from_slice-end-2 : goal.slice_bounds-copy_from_slice-end-2
 slice_bounds-copy_from_slice-end-2 c =

@@ -1,6 +1,6 @@
 use Rattle.image.specs.declared.slot.Slot.TheVariants.{A, B}
-use Rattle.zelamiku.proofs.Heads.{both_slots}
-use Rattle.zelamiku.proofs.head_calls.has_control.Goals as goal
+use Rattle.image.proofs.Heads.{both_slots}
+use Rattle.image.proofs.head.has_control.Goals as goal
 
 pub returns-then-counts : goal.returns-then-counts
 returns-then-counts c = (λ no. let yes = c.if-counts.true in absurd cc, λ none. c.counts.ensures.1 (none A))
