@@ -2,7 +2,7 @@
 ghost use Rattle.std.specs.Prelude.{◌≡◌, ◌≢◌, Some};
 ghost use Rattle.block_disk.specs.Bytes.{part};
 ghost use Rattle.hosted_life.specs.Copies.{copy_of};
-ghost use Rattle.image.specs.Guards.{FitsGuard, SpellsGuard, guard_bytes};
+ghost use Rattle.image.specs.Guards.{FitsGuard, SpellsGuard, guard_bytes, mark_of};
 ghost use Rattle.image.specs.declared.guard_row.GuardRow.{GuardRow as Row};
 ghost use Rattle.zelamiku.specs.Behind.{Answers, behind};
 ghost use Rattle.zelamiku.specs.HeadDoors.{no_head};
@@ -100,8 +100,15 @@ fn field_in(row: &[u8; 16]) -> Field
             owner: found.owner.0,
             guard: found.guard.0,
             first: found.first,
-            transient: u32::from(found.transient),
+            transient: mark(found.transient),
         },
         None => NO_FIELD,
     }
+}
+
+// 1 of a field that is transient, else 0.
+fn mark(is_transient: bool) -> u32
+    ensures { result ≡ mark_of is_transient }
+{
+    if is_transient { 1 } else { 0 }
 }
