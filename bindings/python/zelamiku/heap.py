@@ -170,8 +170,8 @@ class Heap:
         It asks for a round, and sleeps on while a section that one of them depends on is open. After a timeout the sections are as if nobody
         had waited: they will be durable, and may be waited for again.
 
-        :class:`InSection`. :class:`WriteFailed`: they aren't durable yet, and may be waited for again. :class:`Stopped`: the heap has ended, and
-        they did not become durable.
+        :class:`InSection`. :class:`WriteFailed`: they aren't durable yet, and may be waited for again. :class:`Stopped`: the heap has ended
+        before they were known to be durable.
         """
         lane = self._own.lane
         return lane.durable(timeout) if isinstance(lane, Lane) else True
