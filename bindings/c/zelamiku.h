@@ -14,7 +14,7 @@
  *     if (zelamiku_heap_close(heap) != ZELAMIKU_OK) ...
  *
  * Threads use the heap as they use mutexes and condition variables. The helper, a thread of the library, makes what they do durable, in
- * rounds of four syncs each. Link with -lzelamiku and -pthread. docs/EMBEDDING.md is the manual.
+ * rounds of two syncs each. Link with -lzelamiku and -pthread. docs/EMBEDDING.md is the manual.
  *
  * Answers. Every call answers on every argument. A call that fails sets a text for its thread, with path, cause and cure:
  * zelamiku_heap_message. A NULL pointer that may not be one, and a handle that never began or has ended, are answered NOTHING. In a child
@@ -127,11 +127,13 @@ typedef struct {
     uint32_t is_transient; /* 0: what threads store is made durable. Else no log keeps it: the field begins with `first` at each open */
 } zelamiku_field;
 
-/* What a heap has, and what recovery found. */
+/* What a heap has, and what recovery found. The report of zelamiku_heap_open leaves the helper's lane out: `lanes` is what `threads` is, and
+ * `dropped` counts threads' sections alone. Where it is 0, so is `undone`; else that also counts fields whose values the helper's lane had. */
 typedef struct {
     uint64_t size; /* the bytes of the image */
     uint32_t objects, fields, lanes;
     uint32_t capacity; /* the records that a lane's area holds */
+    uint32_t threads;  /* the lanes that threads have: all of them, or all but the last one */
     uint64_t dropped;  /* the sections that recovery dropped; none of them was acknowledged */
     uint64_t undone;   /* the fields that took an old value back */
 } zelamiku_found;
@@ -202,7 +204,7 @@ typedef struct {
     const zelamiku_field *fields; /* numbered from 0 */
     uint32_t count;               /* of fields: 1 to 16,384, or with a fingerprint to 16,383 */
     uint32_t objects;             /* 1 to 4,096, numbered from 0 */
-    uint32_t lanes;               /* how many threads use the heap at once: 1 to 32; 0 is 8. A heap that is there may have more */
+    uint32_t lanes;               /* how many threads use the heap at once: 1 to 32; 0 is 8. See zelamiku_heap_open for the helper's lane */
     uint32_t capacity;            /* records of a lane's log: 2,000 to 1,048,576; 0: as its ring. A heap that is there keeps its own */
     uint32_t ring;                /* records of a lane's ring: 4,096 to 65,536; 0 is 16,384. 24 bytes of memory each: 393 kB a lane */
     uint32_t linger;              /* microseconds that a section which has stored, and nobody waits for, may lie before a round; 0 is 5,000 */
@@ -258,6 +260,8 @@ typedef struct {
     uint64_t troubles;      /* rounds of which a write failed */
     uint64_t calls_time;    /* in the calls of all rounds */
     uint64_t longest_round; /* from its first record to its last call */
+    uint64_t two_sync_rounds;  /* rounds whose calls, which are all made, had two syncs */
+    uint64_t four_sync_rounds; /* and four: the heap has no lane for the helper, or what the round has changed has no room in it */
     uint32_t lent;          /* lanes in use */
     uint32_t awaiting;      /* threads that sleep until their sections are durable, or until there is room; or wait for that by an event loop */
     uint32_t entering;      /* threads that sleep for a monitor */
@@ -296,6 +300,11 @@ int zelamiku_heap_error(void);
  * NULL. It is filled in also where the call fails. After a failure `heap` is no handle.
  * A heap is made in a new file beside the path (PATH.heapctl-new, at the end of links). It is locked, synced and renamed to the path, and the
  * folder is synced. A process that dies meanwhile leaves the path as it was, and the file beside, which the next making there takes up.
+ * A heap that is made has a lane for each of the plan's threads, and one more for the helper, by which rounds take two syncs. With 32 threads it
+ * has 32 lanes, and none for the helper: rounds take four. A heap that is there may have more lanes than the plan has threads: the last one is
+ * the helper's then, and all others are threads'. One with just as many lanes is opened too, as threads' lanes, and rounds take four.
+ * The file doesn't say whose its last lane was. Where this plan and the one before differ in that, the report leaves out what threads had
+ * in it, or tells the helper's sections as UNSETTLED.
  * A heap that is made by a plan with a fingerprint has one field more, the last: transient, of object 0, with the fingerprint as its first
  * value. The report doesn't count it. A heap without one, with as many fields as the plan, is opened too.
  * BUSY: another process has the heap, or makes one there, or this one has it open already (by device and inode: another name of the file is
@@ -530,15 +539,15 @@ ZELAMIKU_MUST_USE zelamiku_status zelamiku_thread_ask(zelamiku_thread thread, ui
 #endif
 ZELAMIKU_HAS_SIZE(zelamiku_status, 4);
 ZELAMIKU_HAS_SIZE(zelamiku_field, 24);
-ZELAMIKU_HAS_SIZE(zelamiku_found, 40);
-ZELAMIKU_HAS_SIZE(zelamiku_told, 312);
+ZELAMIKU_HAS_SIZE(zelamiku_found, 48);
+ZELAMIKU_HAS_SIZE(zelamiku_told, 320);
 ZELAMIKU_HAS_SIZE(zelamiku_dropped, 32);
 ZELAMIKU_HAS_SIZE(zelamiku_sight, 16);
 ZELAMIKU_HAS_SIZE(zelamiku_heap, 8);
 ZELAMIKU_HAS_SIZE(zelamiku_thread, 8);
 ZELAMIKU_HAS_SIZE(zelamiku_plan, 72);
-ZELAMIKU_HAS_SIZE(zelamiku_report, 344);
-ZELAMIKU_HAS_SIZE(zelamiku_stats, 88);
+ZELAMIKU_HAS_SIZE(zelamiku_report, 352);
+ZELAMIKU_HAS_SIZE(zelamiku_stats, 104);
 ZELAMIKU_HAS_SIZE(zelamiku_wait, 16);
 ZELAMIKU_HAS_SIZE(zelamiku_device, 40);
 #endif

@@ -93,8 +93,11 @@ typedef struct {
  * its limits. TOO_SMALL: fewer bytes are given. All other numbers are 0 then. */
 ZELAMIKU_MUST_USE zelamiku_status zelamiku_head(const uint8_t *begun, size_t size, zelamiku_shape *shape);
 
-/* Makes a heap of so many objects and of these fields, with `lanes` (1 to 32) sessions of `capacity` (2,000 to 1,048,576) records
+/* Makes a heap of so many objects and of these fields, with `lanes` (1 to 32) lanes of `capacity` (2,000 to 1,048,576) records
  * each, and opens it. `size` gets the bytes of its image.
+ * `threads` is how many threads the caller has. Where the image has more lanes than that, and at least two, its last lane is the helper's: no
+ * session has it, and a round asks for two syncs. Else each lane has a session, and a round asks for four. No number of threads is refused.
+ * The image doesn't say whose its lanes are: each opening chooses it anew.
  * A session sends what it does through its lane's ring, from which a round takes it. A ring holds `ring` (4,096 to 65,536) records: a larger one
  * lets the session go on for longer while the host makes a round's calls, up to the lane's capacity. It takes 24 bytes of memory a record. The
  * ring is no part of the image: each opening chooses it anew.
@@ -103,17 +106,18 @@ ZELAMIKU_MUST_USE zelamiku_status zelamiku_head(const uint8_t *begun, size_t siz
  * RING, before any other answer: `ring` is out of its limits. OPEN, EMPTY, UNKNOWN_OBJECT, TOO_MANY, BAD_HEADER, NO_MEMORY, FAULT (want of
  * memory too). The handle is as it was, and `size` is 0. */
 ZELAMIKU_MUST_USE zelamiku_status zelamiku_format(zelamiku_handle *heap, uint32_t objects, const zelamiku_field *fields, size_t count,
-                                                  uint32_t lanes, uint32_t capacity, uint32_t ring, uint64_t *size);
+                                                  uint32_t lanes, uint32_t capacity, uint32_t threads, uint32_t ring, uint64_t *size);
 
-/* Recovers the heap of these bytes, and opens it, with rings as zelamiku_format. `told` gets what it has and the sections that were kept, and the
+/* Recovers the heap of these bytes, and opens it, with threads and rings as zelamiku_format. `told` gets what it has and the sections that were
+ * kept, of the helper's lane too, and `told->found.threads` how many of its lanes have a session, from lane 0 on. The
  * first `count` of `dropped` those that weren't, by lane and then by number, as many as there are; `told->found.dropped` is how many there are.
  * Needs: the device has these bytes, all of them, durably.
  * RING, before any other answer; OPEN, NOT_FORMATTED, BAD_HEADER, TOO_SMALL, NO_CONTROL, BAD_CONTROL, OLD_VERSION, WORN, BAD_RECORD,
  * ILLEGAL_LOG, NO_MEMORY, FAULT (want of memory too): the handle is as it was. `told` says for which record the image is refused, if it is for
  * one, and else nothing, and `dropped` says nothing. Nothing was asked of the device.
  * OLD_VERSION: an older library made the heap, and zelamiku_upgrade opens it. */
-ZELAMIKU_MUST_USE zelamiku_status zelamiku_open(zelamiku_handle *heap, const uint8_t *image, size_t size, uint32_t ring, zelamiku_told *told,
-                                                zelamiku_dropped *dropped, size_t count);
+ZELAMIKU_MUST_USE zelamiku_status zelamiku_open(zelamiku_handle *heap, const uint8_t *image, size_t size, uint32_t threads, uint32_t ring,
+                                                zelamiku_told *told, zelamiku_dropped *dropped, size_t count);
 
 /* Opens the heap of these bytes as zelamiku_open does, also where their image has version 1, from before there were transient fields. The
  * calls of its recovery, which zelamiku_next_call tells first, give the image version 2, in place, with the same heap. A crash while the host
@@ -122,12 +126,12 @@ ZELAMIKU_MUST_USE zelamiku_status zelamiku_open(zelamiku_handle *heap, const uin
  * A library from before can't open version 2. So call this where the user has asked for it, or keep a copy of the image first; call
  * zelamiku_open otherwise.
  * As zelamiku_open, but for OLD_VERSION. */
-ZELAMIKU_MUST_USE zelamiku_status zelamiku_upgrade(zelamiku_handle *heap, const uint8_t *image, size_t size, uint32_t ring, zelamiku_told *told,
-                                                   zelamiku_dropped *dropped, size_t count);
+ZELAMIKU_MUST_USE zelamiku_status zelamiku_upgrade(zelamiku_handle *heap, const uint8_t *image, size_t size, uint32_t threads, uint32_t ring,
+                                                   zelamiku_told *told, zelamiku_dropped *dropped, size_t count);
 
 /* One of both. */
-typedef zelamiku_status zelamiku_opening(zelamiku_handle *heap, const uint8_t *image, size_t size, uint32_t ring, zelamiku_told *told,
-                                         zelamiku_dropped *dropped, size_t count);
+typedef zelamiku_status zelamiku_opening(zelamiku_handle *heap, const uint8_t *image, size_t size, uint32_t threads, uint32_t ring,
+                                         zelamiku_told *told, zelamiku_dropped *dropped, size_t count);
 
 /* Tells the shape of a heap's image, and its fields: the first `count` of them, as its image has them, and zeros for those that it hasn't.
  * CLOSED. `shape` is all 0 then, and `fields` as it was. */
@@ -135,8 +139,8 @@ ZELAMIKU_MUST_USE zelamiku_status zelamiku_fields(zelamiku_handle *heap, zelamik
 
 /* Hands out the session of the next lane, from 0 on; once each was, that of a lane whose session has ended (zelamiku_end) and held no
  * monitor then, whichever it is: so threads may come and go. zelamiku_lane tells which lane it has.
- * OPEN: `session` has something behind it. NONE_LEFT: each lane has a session. CLOSED. NO_MEMORY: none was handed out, and it may be
- * asked for again. The handles are as they were. */
+ * OPEN: `session` has something behind it. NONE_LEFT: each lane but the helper's has a session. CLOSED. NO_MEMORY: none was handed out, and
+ * it may be asked for again. The handles are as they were. */
 ZELAMIKU_MUST_USE zelamiku_status zelamiku_session(zelamiku_handle *heap, zelamiku_handle *session);
 
 /* Tells the call of the device that the host makes next, and copies its bytes. It tells the same call until zelamiku_call_done.
@@ -174,7 +178,8 @@ ZELAMIKU_MUST_USE zelamiku_status zelamiku_call_failed(zelamiku_handle *heap);
 ZELAMIKU_MUST_USE zelamiku_status zelamiku_round(zelamiku_handle *heap, uint64_t most, uint64_t *applied);
 
 /* How many sections of the lane are acknowledged since the heap was opened: no crash of the device loses them.
- * CLOSED, BAD_LANE. CALLS_LEFT: make the calls that are left, and ask again.
+ * CLOSED. BAD_LANE: no session has that lane: it is past the last one, or the helper's. CALLS_LEFT: make the calls that are left, and ask
+ * again.
  * `sections` is 0 then. */
 ZELAMIKU_MUST_USE zelamiku_status zelamiku_acknowledged(zelamiku_handle *heap, uint32_t lane, uint64_t *sections);
 

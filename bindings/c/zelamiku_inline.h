@@ -61,7 +61,7 @@ typedef struct {
 
 /* The table of all lanes. Every number, also one that is no handle, names a place in it. The number in its name is that of the layout of the
  * two structures above: raise it with each change of them, so that a program of another layout doesn't link. */
-#define ZELAMIKU_SEATS zelamiku_seats_3
+#define ZELAMIKU_SEATS zelamiku_seats_4
 extern char ZELAMIKU_SEATS[];
 #define ZELAMIKU_OWN_OF(thread) ((zelamiku_own *)(void *)(ZELAMIKU_SEATS + 128 + ((thread).number & 2096896)))
 

@@ -1,7 +1,7 @@
 /* What the helper costs through the library for C: its rounds, and their calls on a file.
  *
  *     helper_cost FILE [ROUNDS [SECTIONS]]
- * makes a heap of 4 lanes in the file, which it replaces, and lets so many sections (1,000) of six records each be done before each of so
+ * makes a heap of 4 lanes and the helper's in the file, which it replaces, and lets so many sections (1,000) of six records each be done before each of so
  * many rounds (1,000). It prints nanoseconds of processor time a section, of the rounds and of their calls: with each write and sync of the
  * file, with the writes alone, and with calls that are thrown away. The store's own is that of `bench memory`, of as many sections in such
  * groups. */
@@ -71,7 +71,7 @@ static void measure(const char *path, unsigned rounds, unsigned sections, calls 
     }
     for (uint32_t i = 0; i <= LANES; i++) fields[i] = (zelamiku_field){.owner = i, .guard = i};
     uint64_t size = 0;
-    must(zelamiku_format(&heap, LANES + 1, fields, LANES + 1, LANES, CAPACITY, ZELAMIKU_LEAST_RING, &size), path);
+    must(zelamiku_format(&heap, LANES + 1, fields, LANES + 1, LANES + 1, CAPACITY, LANES, ZELAMIKU_LEAST_RING, &size), path);
     if (ftruncate(file, 0) != 0 || ftruncate(file, (off_t)size) != 0 || fsync(file) != 0) exit(2);
     make_calls(&heap, file, which);
     for (uint32_t lane = 0; lane < LANES; lane++) {

@@ -292,8 +292,9 @@ typedef struct {
 static void make_heap(zelamiku_handle *heap, uint32_t threads, uint32_t capacity) {
     zelamiku_field fields[MOST + 1];
     uint64_t size = 0;
+    uint32_t lanes = threads < ZELAMIKU_MOST_LANES ? threads + 1 : threads; /* with the helper's, as zelamiku.h makes it */
     for (uint32_t i = 0; i <= MOST; i++) fields[i] = (zelamiku_field){.owner = i, .guard = i};
-    must(zelamiku_format(heap, MOST + 1, fields, MOST + 1, threads, capacity, ZELAMIKU_LEAST_RING, &size), "format");
+    must(zelamiku_format(heap, MOST + 1, fields, MOST + 1, lanes, capacity, threads, ZELAMIKU_LEAST_RING, &size), "format");
 }
 
 /* The work of one turn, behind which all sections are acknowledged, or the records of all are taken. */

@@ -91,7 +91,7 @@ int main(int argc, char **argv) {
     zelamiku_handle heap = ZELAMIKU_NONE, session = ZELAMIKU_NONE;
     const zelamiku_field fields[] = {{OWN, OWN, 0, 0}, {SHARED, SHARED, 0, 0}};
     uint64_t size = 0;
-    must(zelamiku_format(&heap, 2, fields, 2, 1, CAPACITY, ZELAMIKU_LEAST_RING, &size), "format");
+    must(zelamiku_format(&heap, 2, fields, 2, 2, CAPACITY, 1, ZELAMIKU_LEAST_RING, &size), "format");
     throw_calls_away(&heap);
     must(zelamiku_session(&heap, &session), "session");
     printf("alone %.1f\n", best_of(batches, &session, &heap));

@@ -114,7 +114,7 @@ static zelamiku_field fields[OBJECTS];
 static int make_file(zelamiku_handle *handle, const char *path) {
     uint64_t size = 0;
     int file = open(path, O_RDWR | O_CREAT | O_TRUNC | O_CLOEXEC, 0644);
-    must(zelamiku_format(handle, OBJECTS, fields, OBJECTS, 1, ZELAMIKU_DEFAULT_RING, ZELAMIKU_DEFAULT_RING, &size), path);
+    must(zelamiku_format(handle, OBJECTS, fields, OBJECTS, 2, ZELAMIKU_DEFAULT_RING, 1, ZELAMIKU_DEFAULT_RING, &size), path);
     if (file >= 0 && ftruncate(file, (off_t)size) == 0 && fsync(file) == 0) return file;
     perror(path);
     exit(2);

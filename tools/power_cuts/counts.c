@@ -1,12 +1,12 @@
 /* Four threads that count in a heap (counts.h), in a guest whose power is cut (tools/power-cuts).
  *
- *     counts count FILE [CAPACITY [LANES]]   over zelamiku.h; so many lanes of so many records
+ *     counts count FILE [CAPACITY [LANES]]   over zelamiku.h; so many lanes of so many records, and the helper's
  *     counts copy FILE                       the same, and copies the running heap to FILE.copy again and again
  *     counts look FILE
  *
  * `copyT COUNT` is told once a copy has all that was told before it began.
  *
- * WITHOUT_SYNC=N leaves out the Nth of each round's four syncs (left_out.h). */
+ * WITHOUT_SYNC=N leaves out the Nth of each round's two syncs (left_out.h). */
 #define _GNU_SOURCE
 #include <fcntl.h>
 #include <sys/stat.h>

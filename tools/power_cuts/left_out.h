@@ -1,6 +1,6 @@
-/* A sync that is left out of each round, so that tools/power-cuts can be seen to find that: WITHOUT_SYNC=N leaves out the Nth of four
- * (docs/FORMAT.md, "The other calls", has a round's). A program that has this is linked with -Wl,--wrap=pwrite,--wrap=fdatasync, and has
- * FIELDS. */
+/* A sync that is left out of each round, so that tools/power-cuts can be seen to find that: WITHOUT_SYNC=N leaves out the Nth of two; of a round
+ * of four (docs/FORMAT.md, "The other calls") the third and the fourth are those of its second commit. A program that has this is linked with
+ * -Wl,--wrap=pwrite,--wrap=fdatasync, and has FIELDS. */
 #ifndef LEFT_OUT_H
 #define LEFT_OUT_H
 #include <stdbool.h>
@@ -26,7 +26,7 @@ ssize_t __wrap_pwrite(int file, const void *bytes, size_t size, off_t at) {
     return __real_pwrite(file, bytes, size, at);
 }
 
-/* The sync of the records, or of the home cells, with a control's body; or that of its gate. */
+/* The sync of the records with a control's body, or of the home cells alone with one; or that of its gate. */
 int __wrap_fdatasync(int file) {
     int number = has_gate ? body_sync + 1 : has_records ? 1 : 3;
     if (!has_gate) body_sync = number;

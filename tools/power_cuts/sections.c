@@ -12,7 +12,7 @@
  *                                          or OBJECT.VALUE=NUMBER, a store under that monitor
  *
  * `t COUNT` is told of what is durable. A look prints `heap` and the values, and whether the pool has just the slots that are taken.
- * WITHOUT_SYNC=N leaves out the Nth of each round's four syncs (left_out.h). */
+ * WITHOUT_SYNC=N leaves out the Nth of each round's two syncs (left_out.h). */
 #define _GNU_SOURCE
 #include <fcntl.h>
 #include <sys/stat.h>

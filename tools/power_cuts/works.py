@@ -130,8 +130,8 @@ WORKS = {
         adds_up=is_anything,
         has_history=True,
     ),
-    "64 MB": Work("counts count /mnt/heap 800000", COUNTS, tells=True, memory=900),
-    "160 MB": Work("counts count /mnt/heap 1000000 10", COUNTS, tells=True, memory=1900),
+    "64 MB": Work("counts count /mnt/heap 667000", COUNTS, tells=True, memory=900),
+    "160 MB": Work("counts count /mnt/heap 1000000 9", COUNTS, tells=True, memory=1900),
     "copy": Work("counts copy /mnt/heap", (*COUNTS, "try copy 1 counts look /mnt/heap.copy"), tells=True),
     "service": Work("service /mnt/heap", COUNTS, tells=True, needs="cargo"),
     "leases": Work(
@@ -271,7 +271,7 @@ WHOLE = {
         Run("histories", states=600, in_recovery=96, true=119),
     ],
     "control": [
-        *(Run(work, without=number) for number in (1, 2, 3, 4) for work in ("threads", "histories")),
+        *(Run(work, without=number) for number in (1, 2) for work in ("threads", "histories")),
         *(Run(work, lies=True) for work in ("threads", "histories", "drive", "set", "a file, served")),
         *(Run(work, failures=60, fails=("write", "flush"), is_unmended=True) for work in ("drive", "threads")),
         Run("two places", failures=60, fails=("write",), torn=3, is_unmended=True),

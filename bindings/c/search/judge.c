@@ -436,6 +436,10 @@ void judge_stats(const judge *it, const zelamiku_stats *stats, uint64_t durable)
     for (uint32_t lane = 0; lane < it->lanes; lane++) ended += judge_held(it, lane) > 0; /* its last exit may be underway */
     bool is_right = stats->sections >= durable && stats->sections <= ended && stats->lent <= it->lanes && stats->entering <= it->lanes;
     if (!is_right) search_fail("stats tell %llu sections, %u lanes and %u that enter", (unsigned long long)stats->sections, stats->lent, stats->entering);
+    /* The helper has a lane, with room for all fields. */
+    if (stats->four_sync_rounds > 0 || stats->two_sync_rounds > stats->rounds)
+        search_fail("of %llu rounds %llu took two syncs and %llu four", (unsigned long long)stats->rounds, (unsigned long long)stats->two_sync_rounds,
+                    (unsigned long long)stats->four_sync_rounds);
 }
 
 void judge_alone(const judge *it) {
@@ -498,7 +502,7 @@ void judge_kept(const judge *it, bool is_all, uint64_t *least) {
 
 /* Runs that differ by little leave the same bytes by the same stores, again and again: these have been looked at. */
 static bool is_looked_at(const judge *it, const uint8_t *image, size_t size, const uint64_t *least) {
-    static uint8_t last[1 << 17];
+    static uint8_t last[1 << 18];
     static judged_store stores[256];
     static uint64_t lasts_least[MOST_LANES];
     static size_t last_size, last_count;
@@ -523,7 +527,7 @@ void judge_image(judge *it, const uint8_t *image, size_t size, const uint64_t *l
     if (is_looked_at(it, image, size, least)) return;
     bool was_quiet = search_be_quiet(true), is_told = false;
     for (uint32_t lane = 0; lane < it->lanes; lane++) is_told |= least[lane] > 0;
-    zelamiku_status opened = zelamiku_open(&again, image, size, ZELAMIKU_LEAST_RING, &told, &none, 0);
+    zelamiku_status opened = zelamiku_open(&again, image, size, it->lanes, ZELAMIKU_LEAST_RING, &told, &none, 0);
     if (opened == ZELAMIKU_OK) {
         for (uint32_t lane = 0; lane < it->lanes; lane++)
             if (told.kept[lane] < least[lane])

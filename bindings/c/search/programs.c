@@ -514,7 +514,7 @@ static void make_heap(uint32_t heap) {
     on->fault = NEVER_FAILS;
     on->fails = device_fails;
     on->of = it;
-    device_begin(on, 4096 + 24 * FIELDS + 16 * (uint64_t)current->lanes * current->capacity);
+    device_begin(on, 4096 + 24 * FIELDS + 16 * (uint64_t)(current->lanes + 1) * current->capacity);
     zelamiku_device functions = device_functions(on);
     MUST(zelamiku_heap_open_on(&it->heap, "searched", &functions, &plan, NULL) == ZELAMIKU_OK, zelamiku_heap_message());
     /* The opening's own calls don't fail. */

@@ -155,6 +155,7 @@ struct heap {
     uint64_t last_calls;     /* leads: how many nanoseconds the calls of the last round took */
     uint64_t affordable;     /* leads: how many records it would have taken in that time */
     uint64_t syncs_made;     /* leads */
+    uint64_t syncs_before;   /* leads: how many before the calls of the round whose calls are made now */
     uint32_t urgent;         /* mutex: why a round is wanted now */
     uint32_t waiting_to_lead; /* mutex: how many wait to lead for something else than a round */
     bool is_led;             /* mutex: a thread leads */

@@ -71,7 +71,7 @@ static void clear_place(heap *of, const zelamiku_plan *plan) {
     of->log_of = plan->log_of;
     of->reverts = plan->reverts != 0;
     of->spin_time = 0;
-    of->last_calls = of->affordable = of->syncs_made = of->turns = 0;
+    of->last_calls = of->affordable = of->syncs_made = of->syncs_before = of->turns = 0;
     of->urgent = of->waiting_to_lead = of->sessions_out = of->sleepers = of->loops = of->expected_sections = 0;
     of->is_led = of->leader_waits = of->is_ending = of->is_troubled = of->is_being_ended = false;
     memset(&of->stats, 0, sizeof of->stats);
@@ -126,6 +126,7 @@ static zelamiku_status occupy(heap *of, zelamiku_handle *handle, zelamiku_heap *
     }
     if (status == ZELAMIKU_OK) {
         mark_atomics(of);
+        of->syncs_made = 0; /* those of the opening aren't counted, nor are its calls */
         of->handle = *handle;
         memset(handle, 0, sizeof *handle);
         begun->number = new_number((size_t)(of - heaps) << 8 | 1);

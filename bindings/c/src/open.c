@@ -11,8 +11,9 @@ typedef struct {
     const zelamiku_plan *plan;
     zelamiku_report *report;
     zelamiku_handle handle;
-    uint32_t lanes, capacity, ring; /* of the plan */
-    zelamiku_shape shape;           /* what the file begins with */
+    uint32_t threads, capacity, ring; /* of the plan, which tells its threads as lanes */
+    uint32_t lanes;                   /* of the image */
+    zelamiku_shape shape;             /* what the file begins with */
     char cause[160], cure[160];
 } door;
 
@@ -42,7 +43,7 @@ static zelamiku_status check_plan(door *at) {
     if (status == ZELAMIKU_OK)
         status = limit(at, plan->count == 0 ? ZELAMIKU_EMPTY : ZELAMIKU_TOO_MANY, "count of fields", plan->count, 1,
                        ZELAMIKU_MOST_FIELDS - (plan->fingerprint != 0));
-    if (status == ZELAMIKU_OK) status = limit(at, ZELAMIKU_BAD_HEADER, "lanes", at->lanes, 1, ZELAMIKU_MOST_LANES);
+    if (status == ZELAMIKU_OK) status = limit(at, ZELAMIKU_BAD_HEADER, "lanes", at->threads, 1, ZELAMIKU_MOST_LANES);
     if (status == ZELAMIKU_OK) status = limit(at, ZELAMIKU_RING, "ring", at->ring, ZELAMIKU_LEAST_RING, ZELAMIKU_MOST_RING);
     if (status == ZELAMIKU_OK) status = limit(at, ZELAMIKU_BAD_HEADER, "capacity", at->capacity, ZELAMIKU_LEAST_CAPACITY, ZELAMIKU_MOST_CAPACITY);
     for (uint32_t i = 0; status == ZELAMIKU_OK && i < plan->count; i++) {
@@ -53,6 +54,11 @@ static zelamiku_status check_plan(door *at) {
         status = limit(at, ZELAMIKU_UNKNOWN_OBJECT, name, is_owner ? field->owner : field->guard, 0, plan->objects - 1);
     }
     return status;
+}
+
+/* How many lanes a heap has for so many threads: one more for the helper, where a heap may have as many. */
+static uint32_t lanes_for(uint64_t threads) {
+    return threads < ZELAMIKU_MOST_LANES ? (uint32_t)threads + 1 : ZELAMIKU_MOST_LANES;
 }
 
 /* Notes a difference, if there is one. */
@@ -75,7 +81,7 @@ static bool differs(door *at, uint32_t difference, uint32_t field, uint64_t has,
         (void)snprintf(at->cause, sizeof at->cause, "%s%s: %llu in the file, and %llu in the plan", NAMES[difference], number,
                        (unsigned long long)has, (unsigned long long)planned);
     if (difference == ZELAMIKU_DIFFERENT_LANES)
-        (void)snprintf(at->cure, sizeof at->cure, "heapctl dump, then heapctl format --lanes %llu", (unsigned long long)planned);
+        (void)snprintf(at->cure, sizeof at->cure, "heapctl dump, then heapctl format --lanes %u", lanes_for(planned));
     else
         (void)snprintf(at->cure, sizeof at->cure, "open it by its own plan, or give another path; docs/EMBEDDING.md, \"Upgrades\", adds fields");
     return true;
@@ -121,7 +127,7 @@ static zelamiku_status compare(door *at) {
     if (status == ZELAMIKU_OK &&
         (differs(at, ZELAMIKU_DIFFERENT_OBJECTS, 0, found->objects, plan->objects) ||
          differs(at, ZELAMIKU_DIFFERENT_COUNT, 0, found->fields, plan->count) ||
-         differs(at, ZELAMIKU_DIFFERENT_LANES, 0, found->lanes, at->lanes) || differs_in_fields(at, has) ||
+         differs(at, ZELAMIKU_DIFFERENT_LANES, 0, found->threads, at->threads) || differs_in_fields(at, has) ||
          (fingerprint != 0 && differs(at, ZELAMIKU_DIFFERENT_FINGERPRINT, 0, fingerprint, plan->fingerprint))))
         status = ZELAMIKU_OTHER_HEAP;
     free(has);
@@ -134,15 +140,15 @@ static uint32_t ring_for(const door *at, uint32_t capacity) {
     return capacity > ZELAMIKU_LEAST_RING ? capacity : ZELAMIKU_LEAST_RING;
 }
 
-/* Opens the heap of these bytes. Of a process that has died few sections are dropped; where there are more it is opened again, by which
- * nothing is asked of the device. */
+/* Opens the heap of these bytes. Few sections of threads are dropped, and mostly one of the helper's for each object at most; where there are
+ * more it is opened again, by which nothing is asked of the device. */
 static zelamiku_status open_bytes(door *at, const uint8_t *image, size_t size, zelamiku_opening *by) {
     zelamiku_told *told = &at->report->told;
     uint32_t ring = ring_for(at, at->shape.capacity);
-    for (size_t room = 256;;) {
+    for (size_t room = 256 + at->shape.objects;;) {
         zelamiku_dropped *dropped = (zelamiku_dropped *)calloc(room, sizeof *dropped);
         if (dropped == NULL) return ZELAMIKU_NO_MEMORY;
-        zelamiku_status status = by(&at->handle, image, size, ring, told, dropped, room);
+        zelamiku_status status = by(&at->handle, image, size, at->threads, ring, told, dropped, room);
         bool is_whole = status != ZELAMIKU_OK || told->found.dropped <= room;
         at->of->dropped = is_whole && status == ZELAMIKU_OK ? dropped : NULL;
         if (at->of->dropped == NULL) free(dropped);
@@ -153,6 +159,21 @@ static zelamiku_status open_bytes(door *at, const uint8_t *image, size_t size, z
         room = (size_t)told->found.dropped;
         zelamiku_free(&at->handle);
     }
+}
+
+/* Leaves the helper's lane out of what is told, which is the last one, where it has one. */
+static void leave_helper_out(door *at) {
+    zelamiku_told *told = &at->report->told;
+    zelamiku_found *found = &told->found;
+    size_t count = 0;
+    for (size_t i = 0; i < at->of->dropped_count; i++)
+        if (at->of->dropped[i].lane < found->threads) at->of->dropped[count++] = at->of->dropped[i];
+    at->of->dropped_count = count;
+    found->dropped = count;
+    if (count == 0) found->undone = 0;
+    for (uint32_t lane = found->threads; lane < found->lanes; lane++) told->kept[lane] = 0;
+    at->lanes = found->lanes;
+    found->lanes = found->threads;
 }
 
 /* Opens the heap of the device's bytes, which are durable. NOT_FORMATTED has no message yet: its first bytes are no header. */
@@ -177,8 +198,9 @@ static zelamiku_status open_image(door *at, uint64_t size) {
     if (at->report->told.bad_lane < ZELAMIKU_NOBODY)
         (void)snprintf(at->cause, sizeof at->cause, "%s: lane %u, place %llu", text_of(status, 0), at->report->told.bad_lane,
                        (unsigned long long)at->report->told.bad_place);
-    if (status == ZELAMIKU_OK) return compare(at);
-    return status == ZELAMIKU_DEVICE ? status : refuse(at, status, 0);
+    if (status != ZELAMIKU_OK) return status == ZELAMIKU_DEVICE ? status : refuse(at, status, 0);
+    leave_helper_out(at);
+    return compare(at);
 }
 
 /* Whether the device has only zeros from there on, up to `size`. */
@@ -275,13 +297,15 @@ static zelamiku_status format(door *at, uint64_t *size) {
     memcpy(fields, plan->fields, plan->count * sizeof *fields);
     zelamiku_field fingerprint = {.first = plan->fingerprint, .is_transient = 1};
     if (count > plan->count) fields[plan->count] = fingerprint;
-    zelamiku_status status = zelamiku_format(&at->handle, plan->objects, fields, count, at->lanes, at->capacity, ring, size);
+    at->lanes = lanes_for(at->threads);
+    zelamiku_status status = zelamiku_format(&at->handle, plan->objects, fields, count, at->lanes, at->capacity, at->threads, ring, size);
     free(fields);
     return status == ZELAMIKU_OK ? status : refuse(at, status, 0);
 }
 
 static void report_made(door *at, uint64_t size) {
-    zelamiku_found made = {size, at->plan->objects, at->plan->count, at->lanes, at->capacity, 0, 0};
+    zelamiku_found made = {.size = size, .objects = at->plan->objects, .fields = at->plan->count, .capacity = at->capacity};
+    made.lanes = made.threads = at->threads;
     at->report->told.found = made;
     at->report->is_made = 1;
 }
@@ -443,7 +467,7 @@ static zelamiku_status open_by(zelamiku_heap *heap_, const char *path, const zel
     if (heap_ != NULL) heap_->number = 0;
     if (heap_ == NULL || path == NULL || plan == NULL || (plan->fields == NULL && plan->count > 0)) return nothing("open", "give each");
     door at = {.path = path, .plan = plan, .report = report};
-    at.lanes = plan->lanes != 0 ? plan->lanes : ZELAMIKU_DEFAULT_LANES;
+    at.threads = plan->lanes != 0 ? plan->lanes : ZELAMIKU_DEFAULT_LANES;
     at.ring = plan->ring != 0 ? plan->ring : ZELAMIKU_DEFAULT_RING;
     at.capacity = plan->capacity != 0 ? plan->capacity : at.ring;
     zelamiku_status status = ZELAMIKU_OK;
@@ -452,8 +476,9 @@ static zelamiku_status open_by(zelamiku_heap *heap_, const char *path, const zel
     status = open_door(&at, device, heap_);
     if (status != ZELAMIKU_OK) return status;
     const char *how = report->is_made != 0 ? "made" : report->is_upgraded != 0 ? "upgraded and recovered" : "recovered";
-    tell_log(at.of, ZELAMIKU_LOG_INFO, "%s: %llu bytes, %u lanes; %llu sections were dropped", how, (unsigned long long)at.of->size,
-             at.of->lanes, (unsigned long long)report->told.found.dropped);
+    tell_log(at.of, ZELAMIKU_LOG_INFO, "%s: %llu bytes, %u lanes; %llu sections were dropped%s", how, (unsigned long long)at.of->size,
+             at.of->lanes, (unsigned long long)report->told.found.dropped,
+             at.lanes > at.of->lanes ? "" : "; rounds take four syncs: no lane is the helper's");
     return ZELAMIKU_OK;
 }
 

@@ -1,6 +1,6 @@
 /* Rounds: how what threads have done becomes durable. One thread at a time leads (`is_led`, under the heap's mutex): it takes records
- * from the lanes' rings into the proved library, and makes the device's calls that this asks for, four syncs among them. It holds no lock
- * meanwhile.
+ * from the lanes' rings into the proved library, and makes the device's calls that this asks for: two syncs among them where the heap has a
+ * lane for the helper, else four. It holds no lock meanwhile.
  *
  *  1. Who leads. The first thread that waits for its sections, for all that come meanwhile: so it wakes nobody to have a round made, and
  *     nobody has to wake it. One with a deadline leaves the round to the helper, and so does each after a failed write. Who wants no
@@ -138,13 +138,24 @@ static zelamiku_status make_calls(heap *of, uint64_t *calls) {
     return status;
 }
 
+/* The same, and once all calls of a round are made counts it by its syncs. A failed write leaves some of them to the next round. */
+static zelamiku_status make_rounds_calls(heap *of, zelamiku_stats *count) {
+    zelamiku_status status = make_calls(of, &count->calls);
+    if (status != ZELAMIKU_OK) return status;
+    uint64_t syncs = of->syncs_made - of->syncs_before;
+    of->syncs_before = of->syncs_made;
+    count->two_sync_rounds += syncs == 2;
+    count->four_sync_rounds += syncs == 4;
+    return status;
+}
+
 /* Makes the calls that a failed write left, a round of at most so many records, and its calls, and counts what is durable by them. */
 static zelamiku_status round_and_calls(heap *of, uint64_t most, zelamiku_stats *count) {
     uint64_t taking = 0;
-    zelamiku_status status = make_calls(of, &count->calls);
+    zelamiku_status status = make_rounds_calls(of, count);
     if (status == ZELAMIKU_OK) status = take(of, most, &count->records, &taking);
     uint64_t begun = zelamiku_now();
-    if (status == ZELAMIKU_OK) status = make_calls(of, &count->calls);
+    if (status == ZELAMIKU_OK) status = make_rounds_calls(of, count);
     count->calls_time = zelamiku_now() - begun;
     note_times(of, count->records, taking, count->calls_time);
     for (uint32_t lane = 0; status == ZELAMIKU_OK && lane < of->lanes; lane++) {
@@ -187,6 +198,8 @@ static void add_up(zelamiku_stats *all, const zelamiku_stats *round) {
     all->records += round->records;
     all->calls += round->calls;
     all->calls_time += round->calls_time;
+    all->two_sync_rounds += round->two_sync_rounds;
+    all->four_sync_rounds += round->four_sync_rounds;
     all->last_cause = round->last_cause;
     all->is_astray = round->is_astray;
     if (round->longest_round > all->longest_round) all->longest_round = round->longest_round;

@@ -233,7 +233,8 @@ static void store(zelamiku_handle *heap, uint64_t value) {
 /* A heap on the export, which has zeros before, and in it 7 is durable. */
 static void make_heap(zelamiku_handle *heap, export_host *host) {
     uint64_t made = 0, sections = 0, size = 0;
-    MUST(zelamiku_format(heap, 1, &FIELD, 1, LANES, CAPACITY, ZELAMIKU_LEAST_RING, &size) == ZELAMIKU_OK && make_calls(heap, host, &made) == ZELAMIKU_OK && made > 0);
+    MUST(zelamiku_format(heap, 1, &FIELD, 1, LANES + 1, CAPACITY, LANES, ZELAMIKU_LEAST_RING, &size) == ZELAMIKU_OK);
+    MUST(make_calls(heap, host, &made) == ZELAMIKU_OK && made > 0);
     store(heap, 7);
     MUST(make_calls(heap, host, &made) == ZELAMIKU_OK && made > 0);
     MUST(zelamiku_acknowledged(heap, 0, &sections) == ZELAMIKU_OK && sections == 1);
@@ -499,7 +500,7 @@ static zelamiku_status after_crash(const uint8_t *before, size_t size, size_t co
     zelamiku_handle heap = ZELAMIKU_NONE;
     zelamiku_told what = {0};
     zelamiku_dropped none = {0};
-    zelamiku_status status = zelamiku_open(&heap, image, size, ZELAMIKU_LEAST_RING, &what, &none, 0);
+    zelamiku_status status = zelamiku_open(&heap, image, size, LANES, ZELAMIKU_LEAST_RING, &what, &none, 0);
     if (status == ZELAMIKU_OK) *value = load(&heap);
     zelamiku_free(&heap);
     free(image);
@@ -596,7 +597,7 @@ static unsigned gone_on(const uint8_t *before, size_t batch, size_t next, unsign
         zelamiku_dropped none = {0};
         lay(image, &asked[i], WHOLE);
         if (asked[i].size > 0 && !asked[i].has_flush) continue;
-        zelamiku_status status = zelamiku_open(&heap, image, (size_t)SIZE, ZELAMIKU_LEAST_RING, &what, &none, 0);
+        zelamiku_status status = zelamiku_open(&heap, image, (size_t)SIZE, LANES, ZELAMIKU_LEAST_RING, &what, &none, 0);
         uint64_t value = status == ZELAMIKU_OK ? load(&heap) : 0;
         zelamiku_free(&heap);
         ++*tried;
@@ -643,7 +644,7 @@ static void in_flight(void) {
     for (uint32_t i = 0; i < 1000; i++) fields[i] = (zelamiku_field){0, 0, 0, 0};
     empty_file(SIZE);
     begin(&host);
-    MUST(zelamiku_format(&heap, 1, fields, 1000, 2, 8000, ZELAMIKU_LEAST_RING, &made) == ZELAMIKU_OK);
+    MUST(zelamiku_format(&heap, 1, fields, 1000, 3, 8000, 2, ZELAMIKU_LEAST_RING, &made) == ZELAMIKU_OK);
     MUST(make_calls(&heap, &host, &made) == ZELAMIKU_OK);
     for (int i = 0; i < 2; i++) MUST(zelamiku_session(&heap, &sessions[i]) == ZELAMIKU_OK);
     most_unanswered = 0;

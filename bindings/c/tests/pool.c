@@ -123,7 +123,7 @@ int main(void) {
     zelamiku_field fields[FIELDS];
     lay_out(fields);
     zelamiku_handle heap = ZELAMIKU_NONE, session = ZELAMIKU_NONE;
-    OK(zelamiku_format(&heap, 2, fields, FIELDS, 2, ZELAMIKU_LEAST_CAPACITY, ZELAMIKU_LEAST_RING, &size));
+    OK(zelamiku_format(&heap, 2, fields, FIELDS, 2, ZELAMIKU_LEAST_CAPACITY, 1, ZELAMIKU_LEAST_RING, &size));
     OK(zelamiku_session(&heap, &session));
     refusals(&session, &heap);
     all_slots(&session);
@@ -135,7 +135,7 @@ int main(void) {
     zelamiku_free(&heap);
     zelamiku_told told = {0};
     zelamiku_dropped none = {0};
-    OK(zelamiku_open(&heap, device, (size_t)size, ZELAMIKU_LEAST_RING, &told, &none, 0));
+    OK(zelamiku_open(&heap, device, (size_t)size, 1, ZELAMIKU_LEAST_RING, &told, &none, 0));
     OK(zelamiku_session(&heap, &session));
     /* Two slots are taken, and three free. */
     push(&session, 20);

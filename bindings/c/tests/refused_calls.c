@@ -295,7 +295,7 @@ static void calls_alone(void) {
     uint64_t size, made = 0;
     int file = open("calls", O_RDWR | O_CREAT | O_CLOEXEC, 0600), reading = open("calls", O_RDONLY | O_CLOEXEC);
     MUST(file >= 0 && reading >= 0 && zelamiku_make_calls(NULL, file, &made) == ZELAMIKU_NOTHING);
-    MUST(zelamiku_format(&handle, OBJECTS_THERE, FIELDS, FIELDS_THERE, 2, 2000, 4096, &size) == ZELAMIKU_OK);
+    MUST(zelamiku_format(&handle, OBJECTS_THERE, FIELDS, FIELDS_THERE, 2, 2000, 1, 4096, &size) == ZELAMIKU_OK);
     MUST(zelamiku_make_calls(&handle, reading, NULL) == ZELAMIKU_DEVICE && errno == EBADF);
     MUST(zelamiku_make_calls(&handle, file, &made) == ZELAMIKU_OK && made > 0 && zelamiku_make_calls(&handle, file, NULL) == ZELAMIKU_OK);
     zelamiku_free(&handle);

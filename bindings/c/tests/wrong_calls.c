@@ -143,9 +143,12 @@ static void other_plans(void) {
     memcpy(changed, fields, sizeof fields);
     zelamiku_plan bad = plan;
     MUST(zelamiku_heap_open(&heap, "plans", &plan, NULL) == ZELAMIKU_OK && zelamiku_heap_close(heap) == ZELAMIKU_OK);
+    /* It has a lane for each of three threads, and the helper's. */
     bad.lanes = 5;
-    IS(zelamiku_heap_open(&heap, "plans", &bad, &report), OTHER_HEAP, "heapctl format --lanes 5");
-    MUST(report.difference == ZELAMIKU_DIFFERENT_LANES && report.has == 3 && report.planned == 5);
+    IS(zelamiku_heap_open(&heap, "plans", &bad, &report), OTHER_HEAP, "lanes: 4 in the file, and 5 in the plan; heapctl dump, then heapctl format --lanes 6");
+    MUST(report.difference == ZELAMIKU_DIFFERENT_LANES && report.has == 4 && report.planned == 5);
+    bad.lanes = 32;
+    IS(zelamiku_heap_open(&heap, "plans", &bad, &report), OTHER_HEAP, "heapctl format --lanes 32");
     bad = plan, bad.objects = OBJECTS + 1;
     IS(zelamiku_heap_open(&heap, "plans", &bad, &report), OTHER_HEAP, "objects: 20 in the file, and 21 in the plan");
     MUST(report.difference == ZELAMIKU_DIFFERENT_OBJECTS);
@@ -230,7 +233,7 @@ static void fingerprints(void) {
     more.fields = longer, more.count = FIELDS + 1, more.fingerprint = 5;
     FINGERPRINT(&more, OTHER_HEAP, DIFFERENT_OWNER, 0, 1);
     other.lanes = 7;
-    FINGERPRINT(&other, OTHER_HEAP, DIFFERENT_LANES, 3, 7);
+    FINGERPRINT(&other, OTHER_HEAP, DIFFERENT_LANES, 4, 7);
     /* A field more, which could be the fingerprint of the plan before. */
     longer[FIELDS] = (zelamiku_field){0, 0, 0, 1};
     FINGERPRINT(&more, OTHER_HEAP, DIFFERENT_FINGERPRINT, 77, 5);
@@ -593,11 +596,18 @@ static void shapes(void) {
     zelamiku_field told[FIELDS + 1];
     zelamiku_shape shape = {1, 1, 1, 1, 1, 1, 1};
     uint64_t size = 0;
-    calls += 6;
+    calls += 10;
     memset(told, 0xff, sizeof told);
     MUST(zelamiku_fields(&handle, &shape, told, FIELDS) == ZELAMIKU_NOTHING && is_no_shape(&shape));
-    MUST(zelamiku_format(&handle, OBJECTS, fields, FIELDS, 3, 2000, ZELAMIKU_LEAST_RING, &size) == ZELAMIKU_OK);
+    MUST(zelamiku_format(&handle, OBJECTS, fields, FIELDS, 3, 2000, 1, ZELAMIKU_LEAST_RING, &size) == ZELAMIKU_OK);
     MUST(zelamiku_session(&handle, &session) == ZELAMIKU_OK);
+    /* The last of its three lanes is the helper's. */
+    zelamiku_handle second = ZELAMIKU_NONE, third = ZELAMIKU_NONE;
+    uint64_t sections = 1;
+    MUST(zelamiku_session(&handle, &second) == ZELAMIKU_OK && zelamiku_session(&handle, &third) == ZELAMIKU_NONE_LEFT);
+    MUST(zelamiku_acknowledged(&handle, 2, &sections) == ZELAMIKU_BAD_LANE && sections == 0);
+    MUST(zelamiku_end(&second) == ZELAMIKU_OK);
+    zelamiku_free(&second);
     MUST(zelamiku_fields(&session, &shape, told, FIELDS) == ZELAMIKU_WRONG_KIND && shape.lanes == 0 && told[0].owner == UINT32_MAX);
     MUST(zelamiku_fields(&handle, &shape, told, 0) == ZELAMIKU_OK && told[0].owner == UINT32_MAX);
     MUST(shape.size == size && shape.objects == OBJECTS && shape.fields == FIELDS && shape.lanes == 3 && shape.capacity == 2000);
@@ -610,8 +620,8 @@ static void shapes(void) {
     MUST(zelamiku_close(&handle) == ZELAMIKU_OK && zelamiku_fields(&handle, &shape, told, 1) == ZELAMIKU_CLOSED && shape.size == 0);
     zelamiku_free(&session);
     zelamiku_free(&handle);
-    MUST(zelamiku_format(&handle, OBJECTS, fields, FIELDS, 3, 2000, ZELAMIKU_LEAST_RING - 1, &size) == ZELAMIKU_RING && size == 0);
-    MUST(zelamiku_format(&handle, OBJECTS, fields, FIELDS, 3, 2000, ZELAMIKU_MOST_RING + 1, &size) == ZELAMIKU_RING && !handle.is_open);
+    MUST(zelamiku_format(&handle, OBJECTS, fields, FIELDS, 3, 2000, 3, ZELAMIKU_LEAST_RING - 1, &size) == ZELAMIKU_RING && size == 0);
+    MUST(zelamiku_format(&handle, OBJECTS, fields, FIELDS, 3, 2000, 3, ZELAMIKU_MOST_RING + 1, &size) == ZELAMIKU_RING && !handle.is_open);
 }
 
 /* A full disk leaves no file, and as many heaps as there may be are open. */

@@ -43,13 +43,13 @@ class Sizes(unittest.TestCase):
     def test_structures_have_the_sizes_of_the_headers(self):
         sizes = {
             library.FieldRow: 24,
-            library.Found: 40,
-            library.Told: 312,
+            library.Found: 48,
+            library.Told: 320,
             library.DroppedRow: 32,
             library.Sight: 16,
             library.PlanRow: 72,
-            library.ReportRow: 344,
-            library.StatsRow: 88,
+            library.ReportRow: 352,
+            library.StatsRow: 104,
             library.WaitRow: 16,
         }
         for structure, size in sizes.items():

@@ -49,7 +49,9 @@ def open(
     has one isn't opened with None. ``reverts=False`` keeps no old values: an exception that leaves a section stops the heap
     (:meth:`Heap.synchronized`), and a section has room for twice as many stores.
 
-    ``lanes`` is how many threads may use the heap at once, 1 to 32; a heap that is there may have more. ``capacity`` is how many records a
+    ``lanes`` is how many threads may use the heap at once, 1 to 32; a heap that is there may have more. A new heap has one lane more, for the
+    helper, so that a round takes two syncs; with 32 threads it has none, and a round takes four. Of a heap that has more lanes than are asked
+    for the last one is the helper's; of one that has just as many none is, and a round takes four. ``capacity`` is how many records a
     lane's log holds, 2,000 to 1,048,576, and as many as its ring where it isn't said; a heap that is there keeps its own. ``ring`` is how many
     records a lane's ring holds, 4,096 to 65,536, of 24 bytes of memory each: a thread goes on until its ring or its log is full, while a
     round's calls are made. ``linger`` is how many seconds a section that nobody waits for may lie before a round makes it durable; less makes

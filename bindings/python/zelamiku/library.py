@@ -62,6 +62,7 @@ class Found(ctypes.Structure):
         ("fields", c_uint32),
         ("lanes", c_uint32),
         ("capacity", c_uint32),
+        ("threads", c_uint32),
         ("dropped", c_uint64),
         ("undone", c_uint64),
     ]
@@ -138,6 +139,8 @@ class StatsRow(ctypes.Structure):
         ("troubles", c_uint64),
         ("calls_time", c_uint64),
         ("longest_round", c_uint64),
+        ("two_sync_rounds", c_uint64),
+        ("four_sync_rounds", c_uint64),
         ("lent", c_uint32),
         ("awaiting", c_uint32),
         ("entering", c_uint32),

@@ -43,7 +43,7 @@ class Report:
     size: int
     """How many bytes the heap has."""
     lanes: int
-    """How many threads may use it at once."""
+    """How many threads may use it at once. The helper's lane is left out, here and below."""
     capacity: int
     """How many records a lane's log holds."""
     kept: tuple[int, ...]
@@ -51,7 +51,7 @@ class Report:
     dropped: tuple[Dropped, ...]
     """Those that weren't, by lane and then by number."""
     undone: int
-    """How many fields took an old value back."""
+    """How many fields took an old value back, where a section was dropped; 0 where none was."""
 
 
 @dataclass(frozen=True)
@@ -108,6 +108,10 @@ class Stats:
     """In the calls of all rounds."""
     longest_round: float
     """From its first record to its last call."""
+    two_sync_rounds: int
+    """Rounds whose calls, which are all made, had two syncs."""
+    four_sync_rounds: int
+    """And four: the heap has no lane for the helper (see :func:`open`), or what the round has changed has no room in it."""
     lent: int
     """Lanes in use."""
     awaiting: int

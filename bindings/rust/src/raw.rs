@@ -35,12 +35,15 @@ pub struct Found {
     pub size: u64,
     pub objects: u32,
     pub fields: u32,
+    /// How many sessions may be in use at once. The helper's lane isn't counted.
     pub lanes: u32,
     /// The records that a lane's area holds.
     pub capacity: u32,
+    // As `lanes`.
+    pub(crate) threads: u32,
     /// The sections that recovery dropped; none of them was acknowledged.
     pub dropped: u64,
-    /// The fields that took an old value back.
+    /// The fields that took an old value back, where a section was dropped; 0 where none was.
     pub undone: u64,
 }
 
@@ -75,8 +78,8 @@ pub struct Sight {
 }
 
 // The library was built for these sizes, and zelamiku.h has them.
-const _: () = assert!(std::mem::size_of::<Handle>() == 16 && std::mem::size_of::<Field>() == 24 && std::mem::size_of::<Found>() == 40);
-const _: () = assert!(std::mem::size_of::<Told>() == 312 && std::mem::size_of::<Dropped>() == 32);
+const _: () = assert!(std::mem::size_of::<Handle>() == 16 && std::mem::size_of::<Field>() == 24 && std::mem::size_of::<Found>() == 48);
+const _: () = assert!(std::mem::size_of::<Told>() == 320 && std::mem::size_of::<Dropped>() == 32);
 const _: () = assert!(std::mem::size_of::<Sight>() == 16);
 
 extern "C" {

@@ -6,7 +6,7 @@ use crate::raw::{self, Found};
 pub struct Report {
     /// What the heap has, and how much was dropped.
     pub found: Found,
-    /// How many sections of each lane were kept, since the opening before.
+    /// How many sections of each lane were kept, since the opening before. The helper's lane is left out, here and in `dropped`.
     pub kept: Vec<u64>,
     /// Each section that was dropped, by lane and then by number. None of them was acknowledged.
     pub dropped: Vec<Dropped>,
@@ -62,7 +62,7 @@ impl Report {
     pub(crate) fn of(told: &raw::Told, dropped: &[raw::Dropped]) -> Report {
         Report {
             found: told.found,
-            kept: told.kept[..told.found.lanes as usize].to_vec(),
+            kept: told.kept[..told.found.threads as usize].to_vec(),
             dropped: dropped.iter().map(Dropped::from).collect(),
         }
     }

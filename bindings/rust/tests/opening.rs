@@ -96,7 +96,7 @@ fn the_first_difference_is_told() {
     let has = |part, has, planned| Difference { part, has, planned };
     let two = || Heap::options().lanes(2).objects(2).field(0, 0, 0);
     let guarded = zelamiku::Field { owner: 1, guard: 0, first: 0, is_transient: false };
-    assert_eq!(difference(accounts().lanes(3), &scratch), has(Part::Lanes, 2, 3));
+    assert_eq!(difference(accounts().lanes(4), &scratch), has(Part::Lanes, 3, 4));
     assert_eq!(difference(accounts().objects(3), &scratch), has(Part::Objects, 2, 3));
     assert_eq!(difference(accounts().field(2, 0, 0), &scratch), has(Part::Fields, 2, 3));
     assert_eq!(difference(two().field(1, 0, 0), &scratch), has(Part::Owner(1), 1, 0));

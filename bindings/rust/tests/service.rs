@@ -114,6 +114,31 @@ fn sessions_come_and_go() {
 }
 
 #[test]
+fn rounds_take_two_syncs_where_the_last_lane_is_the_helpers() {
+    let scratch = Scratch::new("helper");
+    // A file of three lanes: for two sessions and the helper, for three sessions, and for one and more.
+    for (asked, lanes, takes_two) in [(2, 2, true), (3, 3, false), (1, 2, true)] {
+        let heap = counters(asked).open(&scratch).unwrap();
+        assert_eq!(heap.lanes(), lanes);
+        let mut all: Vec<_> = (0..lanes).map(|_| heap.session().unwrap()).collect();
+        assert_eq!(heap.session().unwrap_err().kind(), ErrorKind::NoneLeft);
+        for session in &mut all {
+            count(session, 0);
+            session.durable().unwrap();
+        }
+        let stats = heap.stats().unwrap();
+        assert_eq!((stats.two_sync_rounds > 0, stats.four_sync_rounds > 0), (takes_two, !takes_two));
+        drop(all);
+        heap.close().unwrap();
+        // The helper's sections are there still, and no report has them.
+        let heap = counters(asked).open(&scratch).unwrap();
+        let report = heap.report().unwrap();
+        assert_eq!((&report.kept, report.dropped.len(), report.found.undone), (&vec![1; lanes as usize], 0, 0));
+        heap.close().unwrap();
+    }
+}
+
+#[test]
 fn a_lanes_next_session_counts_its_own_sections() {
     let scratch = Scratch::new("own");
     // No round but those that are asked for.
@@ -352,7 +377,7 @@ fn files_that_are_no_such_heap_are_left_as_they_are() {
     counters(2).open(&scratch).unwrap().close().unwrap();
     let before = std::fs::read(&scratch).unwrap();
     let others = [
-        (counters(3), "lanes: 2 in the file, and 3 in the plan"),
+        (counters(4), "lanes: 3 in the file, and 4 in the plan"),
         (counters(2).field(2, 0, 0), "fields: 2 in the file, and 3 in the plan"),
         (Heap::options().lanes(2).objects(3).field(0, 0, 0).field(1, 1, 0), "objects: 2 in the file, and 3 in the plan"),
         (Heap::options().lanes(2).objects(2).field(0, 0, 0).field(1, 0, 0), "field 1"),

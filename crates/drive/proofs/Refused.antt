@@ -2,6 +2,7 @@
 use Rattle.std.proofs.Common.{ℕ, suc, ◌≡◌, ◌<◌, ◌≤◌, ◌⊎◌, List, inl, inr, length, refl, sym, ap, subst, ◌∙◌, arith}
 use Rattle.block_disk.specs.Device.{Device}
 use Rattle.guards.specs.Schema.{Declarations, field_count, first_of, guard_of, object_count}
+use Rattle.heap_threads.specs.ImageLanes.{HasLanesFor}
 use Rattle.heap_threads.specs.Runs.{HasFound, RefusesFound}
 use Rattle.heap_threads.specs.Runs as threads
 use Rattle.heap_threads.specs.Stops.{IsHomeOf}
@@ -29,43 +30,47 @@ use Rattle.drive.specs.declared.error.DriveError.TheVariants.{NoMemory, Schema, 
 use Rattle.drive.proofs.SchemaLemmas.{fields_are, first_is_zero, guards_are, objects_are}
 
 -- a session refuses workers of their own schema only as behind or worn
-own_session : (workers : ℕ) (h : Home) (capacity lanes : ℕ) (values : List ℕ) (e : SessionError) → lanes ≡ workers → IsHomeOf (schema_of workers) values lanes h → StopsWorker h capacity e → (e ≡ sessions.Behind) ⊎ (e ≡ sessions.Worn)
-own_session workers h capacity lanes values sessions.UnknownObject are home stops =
-    let most : h.plan.lanes ≡ lanes = ap (λ (p : Plan). p.lanes) home in
+own_session : (workers : ℕ) (h : Home) (capacity : ℕ) (values : List ℕ) (e : SessionError) → IsHomeOf (schema_of workers) values workers h → StopsWorker h capacity e → (e ≡ sessions.Behind) ⊎ (e ≡ sessions.Worn)
+own_session workers h capacity values sessions.UnknownObject home stops =
+    let most : h.plan.lanes ≡ workers = ap (λ (p : Plan). p.lanes) home in
     let count : object_count h.plan.schema ≡ suc workers = ap (λ (p : Plan). object_count p.schema) home ∙ objects_are workers in
     let few : object_count h.plan.schema ≤ h.plan.lanes = stops in
-    absurd (omega (arith, are, most, count, few))
-own_session workers h capacity lanes values sessions.UnknownField are home stops =
-    let most : h.plan.lanes ≡ lanes = ap (λ (p : Plan). p.lanes) home in
+    absurd (omega (arith, most, count, few))
+own_session workers h capacity values sessions.UnknownField home stops =
+    let most : h.plan.lanes ≡ workers = ap (λ (p : Plan). p.lanes) home in
     let count : field_count h.plan.schema ≡ suc workers = ap (λ (p : Plan). field_count p.schema) home ∙ fields_are workers in
     let few : field_count h.plan.schema ≤ h.plan.lanes = stops in
-    absurd (omega (arith, are, most, count, few))
-own_session workers h capacity lanes values sessions.NotHeld are home stops =
-    let most : h.plan.lanes ≡ lanes = ap (λ (p : Plan). p.lanes) home in
+    absurd (omega (arith, most, count, few))
+own_session workers h capacity values sessions.NotHeld home stops =
+    let most : h.plan.lanes ≡ workers = ap (λ (p : Plan). p.lanes) home in
     let low : stops.0 ≤ h.plan.lanes = stops.1 in
-    absurd (stops.2 (ap (λ (p : Plan). guard_of p.schema stops.0) home ∙ guards_are workers stops.0 (omega (arith, are, most, low))))
-own_session workers h capacity lanes values sessions.Behind are home stops = inl refl
-own_session workers h capacity lanes values sessions.SectionFull are home stops = absurd stops
-own_session workers h capacity lanes values sessions.TooMany are home stops = absurd stops
-own_session workers h capacity lanes values sessions.TooDeep are home stops = absurd stops
-own_session workers h capacity lanes values sessions.NoFat are home stops = absurd stops
-own_session workers h capacity lanes values sessions.Worn are home stops = inr refl
-own_session workers h capacity lanes values (sessions.Held x) are home stops = absurd stops
+    absurd (stops.2 (ap (λ (p : Plan). guard_of p.schema stops.0) home ∙ guards_are workers stops.0 (omega (arith, most, low))))
+own_session workers h capacity values sessions.Behind home stops = inl refl
+own_session workers h capacity values sessions.SectionFull home stops = absurd stops
+own_session workers h capacity values sessions.TooMany home stops = absurd stops
+own_session workers h capacity values sessions.TooDeep home stops = absurd stops
+own_session workers h capacity values sessions.NoFat home stops = absurd stops
+own_session workers h capacity values sessions.Worn home stops = inr refl
+own_session workers h capacity values (sessions.Held x) home stops = absurd stops
+
+-- an image of as many lanes as there are workers has a lane for each
+pub just : (workers lanes : ℕ) → lanes ≡ workers → 1 ≤ workers → HasLanesFor workers lanes
+just workers lanes same some = record { some = some; within = omega (arith, same); most = omega (arith, same) }
 
 module _ {D : Type 0} (device : D → Device) where
-  pub own_stops : (workers : ℕ) (was : Parts D) (new : Device) (e : DriveError) → IsOfWorkers workers was.layout was.guards → StopsRun device (schema_of workers) was new e → IsOwnStop e
-  own_stops workers was new NoMemory theirs stops = tt
-  own_stops workers was new (Schema e) theirs stops = tt
-  own_stops workers was new (Image e) theirs stops = tt
-  own_stops workers was new (Helper e) theirs stops = tt
-  own_stops workers was new (Session e) theirs stops = own_session workers stops.shared was.layout.capacity was.layout.lanes was.heap e theirs.lanes_are stops.plan stops.stops
-  own_stops workers was new (Close e) theirs stops = tt
-  own_stops workers was new (Recover e) theirs stops = tt
-  own_stops workers was new OtherSchema theirs stops = tt
+  pub own_stops : (workers : ℕ) (was : Parts D) (new : Device) (e : DriveError) → StopsRun device (schema_of workers) workers was new e → IsOwnStop e
+  own_stops workers was new NoMemory stops = tt
+  own_stops workers was new (Schema e) stops = tt
+  own_stops workers was new (Image e) stops = tt
+  own_stops workers was new (Helper e) stops = tt
+  own_stops workers was new (Session e) stops = own_session workers stops.shared was.layout.capacity was.heap e stops.plan stops.stops
+  own_stops workers was new (Close e) stops = tt
+  own_stops workers was new (Recover e) stops = tt
+  own_stops workers was new OtherSchema stops = tt
 
   -- behind the image that was found
   pub stopped_on : (workers : ℕ) (old : Device) (was : Parts D) (report : Report) (new : Device) (e : DriveError) → HoldsWorkers workers old.now.bytes → HasFound device (schema_of workers) workers old report was
-      → StopsRun device (schema_of workers) was new e → IsOwnStop e → RefusesOn device workers old new e
+      → StopsRun device (schema_of workers) workers was new e → IsOwnStop e → RefusesOn device workers old new e
   stopped_on workers old was report new NoMemory holds found stops own = (holds, record { was = was; report = report; found = found.found; stopped = record { theirs = found.theirs; later = found.later; stops = stops; own = own } })
   stopped_on workers old was report new (Helper e) holds found stops own = (holds, record { was = was; report = report; found = found.found; stopped = record { theirs = found.theirs; later = found.later; stops = stops; own = own } })
   stopped_on workers old was report new (Session e) holds found stops own = (holds, record { was = was; report = report; found = found.found; stopped = record { theirs = found.theirs; later = found.later; stops = stops; own = own } })
@@ -99,7 +104,7 @@ module _ {D : Type 0} (device : D → Device) where
 
   -- behind the image that was made
   pub made_new : (workers : ℕ) (old : Device) (was : Parts D) (new : Device) (e : DriveError) → MayHaveImage workers → IsMadeOf device workers old was → IsOfWorkers workers was.layout was.guards → old.failures ≤ (device was.disk).failures
-      → StopsRun device (schema_of workers) was new e → IsOwnStop e → RefusesNew device workers old new e
+      → StopsRun device (schema_of workers) workers was new e → IsOwnStop e → RefusesNew device workers old new e
   made_new workers old was new NoMemory may made theirs later stops own = (may, record { was = was; made = made; stopped = record { theirs = theirs; later = later; stops = stops; own = own } })
   made_new workers old was new (Schema e) may made theirs later stops own = elim stops.stops [ ]
   made_new workers old was new (Image e) may made theirs later stops own = elim stops.stops [ ]

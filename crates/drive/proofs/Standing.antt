@@ -1,5 +1,5 @@
 -- What workers leave, by what the heap's threads do.
-use Rattle.std.proofs.Common.{◌≡◌, ◌+◌, ◌≤◌, Ok, Err, inl, inr, refl, sym, subst, arith}
+use Rattle.std.proofs.Common.{ℕ, ◌≡◌, ◌+◌, ◌≤◌, Ok, Err, inl, inr, refl, sym, subst, arith}
 use Rattle.block_disk.specs.Device.{Device}
 use Rattle.guards.specs.Schema.{Declarations}
 use Rattle.heap_threads.specs.Bodies.{Answer, WereCalled}
@@ -23,8 +23,8 @@ use Rattle.drive.proofs.Refusing.{stops_low}
 
 module _ {D : Type 0} (device : D → Device) where
   -- what they have run
-  pub driven_from : (schema : Declarations) (was now : Parts D) (outcome : Outcome) → outcome.answer ≡ Ok tt → HasRunFrom HasCounted device schema was now outcome → IsDriven device schema was now (driven_by outcome)
-  driven_from schema was now outcome is ran =
+  pub driven_from : (schema : Declarations) (n : ℕ) (was now : Parts D) (outcome : Outcome) → outcome.answer ≡ Ok tt → HasRunFrom HasCounted device schema n was now outcome → IsDriven device schema n was now (driven_by outcome)
+  driven_from schema n was now outcome is ran =
       let run = ran.run in
       let told = run.told in
       record {
@@ -43,30 +43,29 @@ module _ {D : Type 0} (device : D → Device) where
       }
 
   -- why they were stopped
-  pub said_stops : (schema : Declarations) (was : Parts D) (new : Device) (e : RunError) → threads.StopsRun HasCounted device schema was new e → StopsRun device schema was new (said_of e)
-  said_stops schema was new run.NoMemory stops = elim stops [
+  pub said_stops : (schema : Declarations) (n : ℕ) (was : Parts D) (new : Device) (e : RunError) → threads.StopsRun HasCounted device schema n was new e → StopsRun device schema n was new (said_of e)
+  said_stops schema n was new run.NoMemory stops = elim stops [
     | inl none ↦ inl none
     | inr s ↦ inr (record { shared = s.shared; plan = s.plan; stops = tt; crashes = s.crashes })
   ]
-  said_stops schema was new run.NoThread s = inr (record { shared = s.shared; plan = s.plan; stops = tt; crashes = inl s.crashes })
-  said_stops schema was new (run.Image e) s = absurd s.stops
-  said_stops schema was new (run.Helper e) s = record { shared = s.shared; plan = s.plan; stops = s.stops; crashes = s.crashes }
-  said_stops schema was new run.Unfinished s = absurd (never_open s.shared s.stops)
-  said_stops schema was new (run.Close e) s = record { shared = s.shared; plan = s.plan; stops = s.stops; crashes = s.crashes }
-  said_stops schema was new (run.Recover e) s = record { shared = s.shared; plan = s.plan; stops = s.stops; crashes = s.crashes }
-  said_stops schema was new run.OtherSchema s = absurd s.stops
+  said_stops schema n was new run.NoThread s = inr (record { shared = s.shared; plan = s.plan; stops = tt; crashes = inl s.crashes })
+  said_stops schema n was new (run.Image e) s = absurd s.stops
+  said_stops schema n was new (run.Helper e) s = record { shared = s.shared; plan = s.plan; stops = s.stops; crashes = s.crashes }
+  said_stops schema n was new run.Unfinished s = absurd (never_open s.shared s.stops)
+  said_stops schema n was new (run.Close e) s = record { shared = s.shared; plan = s.plan; stops = s.stops; crashes = s.crashes }
+  said_stops schema n was new (run.Recover e) s = record { shared = s.shared; plan = s.plan; stops = s.stops; crashes = s.crashes }
+  said_stops schema n was new run.OtherSchema s = absurd s.stops
 
   -- since a worker has ended early
-  pub session_stops : (schema : Declarations) (was : Parts D) (r : Returned D) (new : Device) (e : SessionError) → HasReturned HasCounted device schema was r → r.answer ≡ Err e → new ≡ device r.helper.store.disk
-      → StopsRun device schema was new (Session e)
-  session_stops schema was r new e returned is same =
+  pub session_stops : (schema : Declarations) (n : ℕ) (was : Parts D) (r : Returned D) (new : Device) (e : SessionError) → HasReturned HasCounted device schema n was r → r.answer ≡ Err e → new ≡ device r.helper.store.disk
+      → StopsRun device schema n was new (Session e)
+  session_stops schema n was r new e returned is same =
       let back = returned.back in
       let called = subst (λ (a : Answer). WereCalled HasCounted r.shared r.helper.store.known.layout.capacity a r.ended.items) is back.called in
-      let first = first_stops r.shared r.helper.store.known.layout.capacity 0 r.helper.store.known.layout.lanes e r.ended.items back.lanes called.1 in
+      let first = first_stops r.shared r.helper.store.known.layout.capacity 0 r.shared.plan.lanes e r.ended.items back.lanes called.1 in
       let low = first.1 in
-      let most = back.helping.lanes in
       let stops : StopsWorker r.shared r.helper.store.known.layout.capacity e =
-      stops_low r.shared (first.0 + 1) r.helper.store.known.layout.capacity r.helper.store.known.layout.capacity e (omega (arith, low, most)) refl first.2 in
+      stops_low r.shared (first.0 + 1) r.helper.store.known.layout.capacity r.helper.store.known.layout.capacity e (omega (arith, low)) refl first.2 in
       record {
         shared = r.shared;
         plan = returned.plan;

@@ -34,27 +34,27 @@ abbrev pub driven_by : Outcome → Driven
 driven_by outcome = record { acknowledged = outcome.acknowledged; heap = outcome.heap }
 
 module _ {D : Type 0} (device : D → Device) where
-  -- Recovery has this of a device that was recovered, and tells what workers have done. A crash of it leaves images on its way.
-  pub record IsTold (closed : Device) (now : Parts D) (driven : Driven) : Type 0 where
+  -- Recovery has this of a device that was recovered, and tells what so many workers have done. A crash of it leaves images on its way.
+  pub record IsTold (workers : ℕ) (closed : Device) (now : Parts D) (driven : Driven) : Type 0 where
     pub report : Report
     pub recovery : IsRecovery closed (device now.disk) now report
-    -- The sections that are told are those that recovery kept.
-    pub acknowledged : driven.acknowledged.items ≡ take now.layout.lanes report.kept.counts
+    -- The sections that are told are those of the workers that recovery kept.
+    pub acknowledged : driven.acknowledged.items ≡ take workers report.kept.counts
     -- The heap that is told is the one that recovery gives.
     pub heap : driven.heap.items ≡ now.heap
     -- Whatever a crash leaves of the recovery after the closing, once its first sync was answered, is an image on
     -- recovery's way.
     pub any_moment : (s : Study) → IsStudyOf closed.now.bytes s → LeavesOnly (synced closed) (device now.disk) (IsOnTheWay s)
 
-  -- A heap ran by these words, since it was opened on this device. There was one session a lane, and none of them held a monitor at the
+  -- A heap ran by these words, since it was opened on this device. There was one session a worker, and none of them held a monitor at the
   -- end. One legal history has what each was told as its part, the device stood for its heap, and what recovery finds there is told.
   -- Whatever a crash had left at any moment of the run, recovery would have taken, and kept whole sections of that same history.
   pub record IsRunBy (shared : Home) (layout : Layout) (opened : Device) (now : Parts D) (driven : Driven) : Type 0 where
     pub ended : List Ended
     -- No session held a monitor at the end.
     pub none : HoldNone ended
-    -- There was one session a lane.
-    pub complete : IsComplete layout.lanes ended
+    -- There was one session a worker.
+    pub complete : IsComplete shared.plan.lanes ended
     -- Each worker has worked with the session of its lane, to its end: none was refused.
     pub called : WereCalled HasCounted shared layout.capacity (Ok tt) ended
     pub disk : D
@@ -63,12 +63,12 @@ module _ {D : Type 0} (device : D → Device) where
     -- Whatever a crash had left at any moment from the opening to the closing, recovery would have accepted. It would
     -- have kept whole sections of that same history, each with all that it depends on.
     pub crashes : KeepsEach shared layout closed.history opened (device disk)
-    pub told : IsTold (device disk) now driven
+    pub told : IsTold shared.plan.lanes (device disk) now driven
 
-  -- A heap of this schema ran, from the values that it had, on the device that had them.
-  pub record IsDriven (schema : Declarations) (was now : Parts D) (driven : Driven) : Type 0 where
+  -- So many workers ran on a heap of this schema, from the values that it had, on the device that had them.
+  pub record IsDriven (schema : Declarations) (workers : ℕ) (was now : Parts D) (driven : Driven) : Type 0 where
     pub shared : Home
-    pub plan : shared.plan ≡ record { schema = schema; first = was.heap; last = LAST_NUMBER; lanes = was.layout.lanes }
+    pub plan : shared.plan ≡ record { schema = schema; first = was.heap; last = LAST_NUMBER; lanes = workers }
     pub run : IsRunBy shared was.layout (device was.disk) now driven
 
   -- Formatting this device has made this image for so many workers, with lanes of 4,000 records: each value is 0. Nothing else was asked of it.
@@ -84,7 +84,7 @@ module _ {D : Type 0} (device : D → Device) where
     pub was : Parts D
     pub made : IsMadeOf workers old was
     pub theirs : IsOfWorkers workers was.layout was.guards
-    pub driven_so : IsDriven (schema_of workers) was now driven
+    pub driven_so : IsDriven (schema_of workers) workers was now driven
 
   -- A heap of so many workers ran on: from what recovery found on this device. This is what was left.
   pub record HasDrivenOn (workers : ℕ) (old : Device) (now : Parts D) (driven : Driven) : Type 0 where
@@ -93,4 +93,4 @@ module _ {D : Type 0} (device : D → Device) where
     pub found : IsRecovery old (device was.disk) was report
     -- The heap that workers go on with fits the workers' schema.
     pub theirs : IsOfWorkers workers was.layout was.guards
-    pub driven_so : IsDriven (schema_of workers) was now driven
+    pub driven_so : IsDriven (schema_of workers) workers was now driven

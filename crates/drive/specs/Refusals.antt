@@ -32,7 +32,7 @@ module _ {D : Type 0} (device : D → Device) where
     pub theirs : IsOfWorkers workers was.layout was.guards
     pub later : old.failures ≤ (device was.disk).failures
     -- A run on a new image, or on one that was found, is stopped only as a run of its heap is.
-    pub stops : StopsRun device (schema_of workers) was new e
+    pub stops : StopsRun device (schema_of workers) workers was new e
     -- On an image of the workers' own schema a worker's session stops a run only as `Behind` or `Worn`.
     pub own : IsOwnStop e
 

@@ -26,7 +26,8 @@ schema_of (suc k) = with_field (with_object (schema_of k) (own_object k)) (count
 abbrev pub MayHaveImage : (workers : ℕ) → Type 0
 MayHaveImage workers = AreLimits workers 4000
 
--- an image of this layout with these guard rows is one of so many workers: each has a lane, and objects and fields are theirs
+-- an image of this layout with these guard rows is one of so many workers: each has a lane, there is at most one lane more, and objects and
+-- fields are theirs
 abbrev pub IsOfWorkers : (workers : ℕ) (layout : Layout) (guards : List GuardRow) → Type 0
 IsOfWorkers workers layout guards = IsOf (schema_of workers) workers layout guards
 

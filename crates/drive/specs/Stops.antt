@@ -1,5 +1,5 @@
 -- Why a run of workers is stopped, by the part of it that was refused.
-use Rattle.std.specs.Prelude.{◌≡◌, ◌⊎◌}
+use Rattle.std.specs.Prelude.{ℕ, ◌≡◌, ◌⊎◌}
 use Rattle.block_disk.specs.Device.{Device}
 use Rattle.guards.specs.Schema.{Declarations}
 use Rattle.heap_threads.specs.Crashes.{TakesEach}
@@ -35,20 +35,20 @@ StopsBy h l old new (Recover e) = IsLostAfter h l old new e
 StopsBy h l old new _ = ⊥
 
 module _ {D : Type 0} (device : D → Device) where
-  -- A heap of this schema ran on an image in this state, and was stopped. Of whatever a crash left since then, at any moment of the run, of the closing, and
+  -- So many workers ran on a heap of this schema, on an image in this state, and were stopped. Of whatever a crash left since then, at any moment of the run, of the closing, and
   -- of the recovery behind it, recovery makes this.
-  pub record IsStopped (schema : Declarations) (was : Parts D) (new : Device) (e : DriveError) : Type 0 where
+  pub record IsStopped (schema : Declarations) (workers : ℕ) (was : Parts D) (new : Device) (e : DriveError) : Type 0 where
     pub shared : Home
-    pub plan : IsHomeOf schema was.heap was.layout.lanes shared
-    -- No closing is stopped by the workers: each lane's session has come, and none holds a monitor. A worker's session
+    pub plan : IsHomeOf schema was.heap workers shared
+    -- No closing is stopped by the workers: each worker's session has come, and none holds a monitor. A worker's session
     -- stops a run only as `Behind` or `Worn`, or because the heap has too few objects or fields for it, or guards one
     -- of its fields otherwise.
     pub stops : StopsBy shared was.layout (device was.disk) new e
     -- Where a run is stopped, whatever the refusal, recovery accepts whatever a crash left since it began.
     pub crashes : CrashesOf shared was.layout (device was.disk) new e
 
-  -- Why a run of a heap of this schema is stopped, on an image in this state: memory was wanting before there was a heap, so that nothing was done; or there
+  -- Why a run of so many workers on a heap of this schema is stopped, on an image in this state: memory was wanting before there was a heap, so that nothing was done; or there
   -- is a cause. Either way recovery takes whatever a crash left since then.
-  abbrev pub StopsRun : (schema : Declarations) → (was : Parts D) → (new : Device) → DriveError → Type 0
-  StopsRun schema was new NoMemory = ((new ≡ device was.disk) × TakesEach (device was.disk) new) ⊎ IsStopped schema was new NoMemory
-  StopsRun schema was new e = IsStopped schema was new e
+  abbrev pub StopsRun : (schema : Declarations) (workers : ℕ) → (was : Parts D) → (new : Device) → DriveError → Type 0
+  StopsRun schema workers was new NoMemory = ((new ≡ device was.disk) × TakesEach (device was.disk) new) ⊎ IsStopped schema workers was new NoMemory
+  StopsRun schema workers was new e = IsStopped schema workers was new e

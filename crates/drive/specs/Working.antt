@@ -85,7 +85,7 @@ StopsAt h most capacity Behind = ViewOf h (IsBehind (rooms RING_RECORDS capacity
 StopsAt h most capacity Worn = ViewOf h IsAtEnd
 StopsAt h most capacity _ = ⊥
 
--- why one of as many workers as there are lanes does
+-- why one of as many workers as the words have lanes does
 abbrev pub StopsWorker : Home → (capacity : ℕ) → SessionError → Type 0
 StopsWorker h capacity e = StopsAt h h.plan.lanes capacity e
 

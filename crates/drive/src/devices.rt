@@ -132,7 +132,7 @@ pub fn drive_new<D: Disk + Drop, M: Meet + Sync, R: Threads + Wait + Sync>(
 /// Refusals, in this order, each with the device; but for the last two it is as it was:
 /// - `Schema`: for want of memory;
 /// - `Recover`: the image is refused by [`study`](recover::study);
-/// - `OtherSchema`: it isn't one of so many workers;
+/// - `OtherSchema`: it isn't one of so many workers, with as many lanes or one more;
 /// - `Recover`: it wasn't recovered, for want of memory, by a fault, since it is of version 1, or since its control is worn. It is as it
 ///   was then, but that a sync was made; or behind a fault, maybe on recovery's way;
 /// - those of [`drive_heap`].
@@ -147,7 +147,8 @@ pub fn drive_on<D: Disk + Drop, M: Meet + Sync, R: Threads + Wait + Sync>(
     // The workers went on with the heap that recovery found on the device, and what is told is what recovery gives at
     // the end.
     ensures ok { IfOk result (λ r. HasDrivenOn D.device workers (D.device disk) r.0 r.1) }
-    // Workers go on only with an image of as many workers, whose fields are all persistent.
+    // Workers go on only with an image of as many workers, with a lane for each and at most one more, whose fields are all
+    // persistent.
     ensures theirs { IfOk result (λ r. HoldsWorkers workers (D.device disk).now.bytes) }
     // A device that holds no image is refused by the reason of its study; one that holds another image, as another
     // schema's. Either is only read.
@@ -181,10 +182,9 @@ fn drive_made<D: Disk + Drop, M: Meet + Sync, R: Threads + Wait + Sync>(
 ) -> Result<(Recovered<D>, Driven), (D, DriveError)>
     requires schema { schema ≡ schema_of workers }
     requires theirs { IsOfWorkers workers made.layout made.guards }
-    ensures ok { IfOk result (λ r. IsDriven D.device (schema_of workers) made r.0 r.1) }
-    ensures cause { IfErr result (λ back. StopsRun D.device (schema_of workers) made (D.device back.0) back.1) }
+    ensures ok { IfOk result (λ r. IsDriven D.device (schema_of workers) workers made r.0 r.1) }
+    ensures cause { IfErr result (λ back. StopsRun D.device (schema_of workers) workers made (D.device back.0) back.1) }
     ensures own { IfErr result (λ back. IsOwnStop back.1) }
 {
-    let _workers = workers;
-    drive_heap(rt, alloc, meet, schema, made, rounds)
+    drive_heap(rt, alloc, meet, schema, made, workers, rounds)
 }

@@ -2,6 +2,7 @@
 ghost use Rattle.std.specs.Prelude.{◌≡◌, IfErr, IfOk};
 ghost use Rattle.drive.specs.Driven.{IsDriven, driven_by};
 ghost use Rattle.drive.specs.Stops.{StopsRun, said_of};
+ghost use Rattle.heap_threads.specs.ImageLanes.{HasLanesFor};
 ghost use Rattle.trim_helper.specs.Opening.{FitsSchema};
 
 use crate::driven::Driven;
@@ -16,8 +17,9 @@ use std::alloc::Global;
 use std::sync::Wait;
 use std::thread::Threads;
 
-/// Lets a worker for each lane work so many rounds, or as many as [`Meet::goes_on`] lets it, on a heap of this schema that was recovered,
-/// closes the heap, and recovers the device: what is told is what recovery finds there.
+/// Lets so many workers work so many rounds, or as many as [`Meet::goes_on`] lets them, on a heap of this schema that was recovered,
+/// each with a lane of its own, closes the heap, and recovers the device: what is told is what recovery finds there. Where the image has
+/// one lane more, the last one is the helper's, and a round takes two syncs in place of four.
 ///
 /// A crash may come at any moment of it: recovery takes what that leaves, and keeps whole sections, each with all that it depends on.
 /// Where the heap is closed at last, they are of the one history in which each session's answers stand; where a round was refused, or
@@ -41,25 +43,27 @@ pub fn drive_heap<D: Disk + Drop, M: Meet + Sync, R: Threads + Wait + Sync>(
     meet: &M,
     schema: Schema,
     recovered: Recovered<D>,
+    workers: u8,
     rounds: u32,
 ) -> Result<(Recovered<D>, Driven), (D, DriveError)>
     requires schema { FitsSchema schema recovered.layout recovered.guards }
-    // What is told at the end, the acknowledged sections by lane and the heap, is what recovery gives of the device
+    requires lanes { HasLanesFor workers recovered.layout.lanes }
+    // What is told at the end, the acknowledged sections by worker and the heap, is what recovery gives of the device
     // that the closing gave back.
-    ensures ok { IfOk result (λ r. IsDriven D.device schema recovered r.0 r.1) }
+    ensures ok { IfOk result (λ r. IsDriven D.device schema workers recovered r.0 r.1) }
     // A run is refused by a fault only where the device has failed since it began, by `Worn` only where its control is
     // at its last sequence, and never by `Failed`.
-    ensures cause { IfErr result (λ back. StopsRun D.device schema recovered (D.device back.0) back.1) }
+    ensures cause { IfErr result (λ back. StopsRun D.device schema workers recovered (D.device back.0) back.1) }
 {
-    let workers = Workers { meet, rounds };
-    let returned = match work_on(rt, alloc, &workers, schema, recovered) {
+    let work = Workers { meet, rounds };
+    let returned = match work_on(rt, alloc, &work, schema, recovered, workers) {
         Ok(returned) => returned,
         Err((disk, refusal)) => return Err((disk, said(refusal))),
     };
     if let Err(refusal) = answer_of(&returned) {
         return Err((returned.into_disk(), DriveError::Session(refusal)));
     }
-    match close_returned(alloc, &workers, returned) {
+    match close_returned(alloc, &work, returned) {
         Ok((recovered, outcome)) => Ok((recovered, told(outcome))),
         Err((disk, refusal)) => Err((disk, said(refusal))),
     }

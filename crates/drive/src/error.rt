@@ -1,9 +1,9 @@
 //! Why workers haven't done what they were to do.
-use durable::StoreError;
 use guards::SchemaError;
 use image::ImageError;
 use recover::RecoverError;
 use session::SessionError;
+use store_past::StoreError;
 use thiserror::Error;
 use trim_helper::CloseError;
 

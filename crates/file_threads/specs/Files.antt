@@ -3,6 +3,7 @@ use Rattle.std.specs.Prelude.{ℕ, ◌≡◌, ◌⊎◌, false, List, [], Option
 use Rattle.block_disk.specs.Device.{Device, new_device}
 use Rattle.guards.specs.Schema.{Declarations}
 use Rattle.heap_threads.specs.Bodies.{Answer}
+use Rattle.heap_threads.specs.ImageLanes.{lanes_for}
 use Rattle.heap_threads.specs.Runs.{HasRunOn, Holds, RefusesOn}
 use Rattle.heap_threads.specs.declared.error.RunError.{RunError}
 use Rattle.heap_threads.specs.declared.outcome.Outcome.{Outcome}
@@ -32,9 +33,9 @@ asked_for lanes = record { lanes = lanes; capacity = 4000; sectors = None; is_ke
 abbrev pub IsMadeAt : (schema : Declarations) (lanes : ℕ) → Device → Type 0
 IsMadeAt schema lanes d = (layout : Layout) × IsImageFor schema (asked_for lanes) layout d
 
--- threads begin with this disk: that of the image at a path, or one that was made where there was none
-abbrev pub BeginsAt : (schema : Declarations) (lanes : ℕ) (had : Option (List ℕ)) → Device → Type 0
-BeginsAt schema lanes had d = IsOpenedAt had d ⊎ (IsThere [] had × IsMadeAt schema lanes d)
+-- so many threads begin with this disk: that of the image at a path, or one that was made for them where there was none
+abbrev pub BeginsAt : (schema : Declarations) (threads : ℕ) (had : Option (List ℕ)) → Device → Type 0
+BeginsAt schema threads had d = IsOpenedAt had d ⊎ (IsThere [] had × IsMadeAt schema (lanes_for threads) d)
 
 -- no image is made for threads, and that for its numbers only where it may have none. What was there stays, or a whole new one is there
 pub record IsNotMade (schema : Declarations) (lanes : ℕ) (had has : Option (List ℕ)) (e : FormatError) : Type 0 where
@@ -46,9 +47,9 @@ HasNoImage schema lanes had has (Format e) = IsNotMade schema lanes had has e
 HasNoImage schema lanes had has _ = ⊥
 
 -- there is no disk for threads: none is had, and the image stays; or none is made
-abbrev pub HasNoDisk : (schema : Declarations) (lanes : ℕ) (had has : Option (List ℕ)) → FileRunError → Type 0
-HasNoDisk schema lanes had has (File e) = has ≡ had
-HasNoDisk schema lanes had has fault = HasNoImage schema lanes had has fault
+abbrev pub HasNoDisk : (schema : Declarations) (threads : ℕ) (had has : Option (List ℕ)) → FileRunError → Type 0
+HasNoDisk schema threads had has (File e) = has ≡ had
+HasNoDisk schema threads had has fault = HasNoImage schema (lanes_for threads) had has fault
 
 -- what is on this disk is at the path
 abbrev pub LeavesAt : {D : Type 0} (device : D → Device) → Parts D → (has : Option (List ℕ)) → Type 0
@@ -57,24 +58,24 @@ LeavesAt device now has = IsThere (device now.disk).now.bytes has
 -- what a body does, and the device of a disk
 module _ (does : Home → Session → Session → Answer → Type 0) {D : Type 0} (device : D → Device) where
   -- threads have run on the image at a path, and what they have left is there now
-  pub record HasRunAt (schema : Declarations) (lanes : ℕ) (had has : Option (List ℕ)) (outcome : Outcome) (report : Report) : Type 0 where
+  pub record HasRunAt (schema : Declarations) (threads : ℕ) (had has : Option (List ℕ)) (outcome : Outcome) (report : Report) : Type 0 where
     pub opened : Device
-    pub begun : BeginsAt schema lanes had opened
-    pub theirs : Holds schema lanes opened.now.bytes
+    pub begun : BeginsAt schema threads had opened
+    pub theirs : Holds schema threads opened.now.bytes
     pub now : Parts D
     -- What threads tell of an image file is what they did on the device that it is.
-    pub so : HasRunOn does device schema lanes opened report now outcome
+    pub so : HasRunOn does device schema threads opened report now outcome
     pub left : LeavesAt device now has
 
   -- threads don't go on with this image: what is there is what the disk may leave
-  pub record RefusesRun (schema : Declarations) (lanes : ℕ) (had has : Option (List ℕ)) (e : RunError) : Type 0 where
+  pub record RefusesRun (schema : Declarations) (threads : ℕ) (had has : Option (List ℕ)) (e : RunError) : Type 0 where
     pub opened : Device
-    pub begun : BeginsAt schema lanes had opened
+    pub begun : BeginsAt schema threads had opened
     pub after : Device
-    pub refused : RefusesOn does device schema lanes opened after e
+    pub refused : RefusesOn does device schema threads opened after e
     pub left : IsLeft after.now has
 
   -- threads don't run on the image at a path
-  abbrev pub RefusesAt : (schema : Declarations) (lanes : ℕ) (had has : Option (List ℕ)) → FileRunError → Type 0
-  RefusesAt schema lanes had has (Run e) = RefusesRun schema lanes had has e
-  RefusesAt schema lanes had has fault = HasNoDisk schema lanes had has fault
+  abbrev pub RefusesAt : (schema : Declarations) (threads : ℕ) (had has : Option (List ℕ)) → FileRunError → Type 0
+  RefusesAt schema threads had has (Run e) = RefusesRun schema threads had has e
+  RefusesAt schema threads had has fault = HasNoDisk schema threads had has fault

@@ -9,7 +9,7 @@ use crate::error::FileRunError;
 use block_disk::Disk;
 use file_disk::BackingFile;
 use guards::Schema;
-use heap_threads::{Outcome, Ran, Work, run_on};
+use heap_threads::{Outcome, Ran, Work, lanes_for, run_on};
 use image::Recovered;
 use image_file::{FileImages, Images, NewImage, Trouble, make_image};
 use recover::Report;
@@ -23,9 +23,10 @@ use std::thread::Threads;
 // The records of a lane in an image that is made.
 const CAPACITY: u32 = 4_000;
 
-/// Lets a thread for each lane do this work on the image file at this path, which has to be of this schema with so many lanes. Where
-/// there is no file, or one of no bytes, a whole image takes its place first, with lanes of 4,000 records. No other process has it until
-/// they have ended. It tells what they leave, and what recovery kept and dropped before they began.
+/// Lets so many threads do this work on the image file at this path, which has to be of this schema, with as many lanes or one more.
+/// Where there is no file, or one of no bytes, a whole image takes its place first: it has lanes of 4,000 records, one for each thread
+/// and one for the helper ([`lanes_for`]). No other process has it until they have ended. It tells what they leave, and what recovery
+/// kept and dropped before they began.
 ///
 /// It refuses as [`run_at`] does.
 pub fn run_file<F, W, R>(
@@ -33,7 +34,7 @@ pub fn run_file<F, W, R>(
     alloc: Global,
     path: &str,
     schema: Schema,
-    lanes: u8,
+    threads: u8,
     work: &W,
 ) -> Result<(Outcome, Report), FileRunError>
 where
@@ -41,20 +42,21 @@ where
     W: Work + Sync,
     R: Files<File = F> + Threads + Wait + Sync,
     // Threads on an image file go on with the heap that recovery gives of its bytes, or with one that was made for them.
-    ensures ok { IfOk result (λ r. HasRunAt (W.does work.now) (device_on {F = Seen F}) schema lanes None None r.0 r.1) }
+    ensures ok { IfOk result (λ r. HasRunAt (W.does work.now) (device_on {F = Seen F}) schema threads None None r.0 r.1) }
     // Threads on an image file are refused only as on the device that it is, or for want of the file.
-    ensures refused { IfErr result (RefusesAt (W.does work.now) (device_on {F = Seen F}) schema lanes None None) }
+    ensures refused { IfErr result (RefusesAt (W.does work.now) (device_on {F = Seen F}) schema threads None None) }
 {
     let trouble = Trouble::none();
     let mut images = FileImages::new(rt, &trouble);
-    let ran = run_at(rt, &mut images, alloc, path, schema, lanes, work);
+    let ran = run_at(rt, &mut images, alloc, path, schema, threads, work);
     drop(images);
     ran
 }
 
-/// Lets a thread for each lane do this work on the image at this path, which has to be of this schema with so many lanes. Where there is
-/// none, or one of no bytes, a whole image takes its place first, with lanes of 4,000 records. Nobody else has it until they have ended.
-/// It tells what they leave, and what recovery kept and dropped before they began.
+/// Lets so many threads do this work on the image at this path, which has to be of this schema, with as many lanes or one more. Where
+/// there is none, or one of no bytes, a whole image takes its place first: it has lanes of 4,000 records, one for each thread and one for
+/// the helper ([`lanes_for`]). Nobody else has it until they have ended. It tells what they leave, and what recovery kept and dropped
+/// before they began.
 ///
 /// Refusals, in this order:
 /// - `File`: the file can't be opened for reading and writing (`Fault`), another process has it (`InUse`), or it has bytes and doesn't
@@ -67,7 +69,7 @@ pub fn run_at<D, P, W, R>(
     alloc: Global,
     path: &str,
     schema: Schema,
-    lanes: u8,
+    threads: u8,
     work: &W,
 ) -> Result<(Outcome, Report), FileRunError>
 where
@@ -77,20 +79,20 @@ where
     R: Threads + Wait + Sync,
     // Threads begin with the image at that path, or with one that was made for them where there was none. What they
     // leave is there afterwards.
-    ensures ok { IfOk result (λ r. HasRunAt (W.does work.now) D.device schema lanes (P.holds images.old path.now) (P.holds images.new path.now) r.0 r.1) }
+    ensures ok { IfOk result (λ r. HasRunAt (W.does work.now) D.device schema threads (P.holds images.old path.now) (P.holds images.new path.now) r.0 r.1) }
     // A refusal of threads tells what is at the path.
-    ensures refused { IfErr result (RefusesAt (W.does work.now) D.device schema lanes (P.holds images.old path.now) (P.holds images.new path.now)) }
+    ensures refused { IfErr result (RefusesAt (W.does work.now) D.device schema threads (P.holds images.old path.now) (P.holds images.new path.now)) }
     // Nothing beside the path is lost.
     ensures beside { KeepsBeside false path.now (P.holds images.old) (P.holds images.new) }
 {
-    let disk = match disk_at(images, alloc, path, &schema, lanes) {
+    let disk = match disk_at(images, alloc, path, &schema, threads) {
         Ok(disk) => disk,
         Err(fault) => {
             drop(schema);
             return Err(fault);
         }
     };
-    match run_on(rt, alloc, disk, schema, lanes, work) {
+    match run_on(rt, alloc, disk, schema, threads, work) {
         Ok((ran, report)) => {
             let Ran { recovered, outcome } = ran;
             give_back(images, path, recovered);
@@ -121,13 +123,13 @@ fn disk_at<D, P>(
     alloc: Global,
     path: &str,
     schema: &Schema,
-    lanes: u8,
+    threads: u8,
 ) -> Result<D, FileRunError>
 where
     D: Disk + Drop,
     P: Images<Medium = D>,
-    ensures ok { IfOk result (λ disk. BeginsAt schema.now lanes (P.holds images.old path.now) (D.device disk)) }
-    ensures refused { IfErr result (HasNoDisk schema.now lanes (P.holds images.old path.now) (P.holds images.new path.now)) }
+    ensures ok { IfOk result (λ disk. BeginsAt schema.now threads (P.holds images.old path.now) (D.device disk)) }
+    ensures refused { IfErr result (HasNoDisk schema.now threads (P.holds images.old path.now) (P.holds images.new path.now)) }
     ensures beside { KeepsBeside false path.now (P.holds images.old) (P.holds images.new) }
 {
     let vacant = match images.is_vacant(path) {
@@ -135,7 +137,7 @@ where
         Err(fault) => return Err(FileRunError::File(fault)),
     };
     if vacant {
-        return made_at(images, alloc, path, schema, lanes);
+        return made_at(images, alloc, path, schema, lanes_for(threads));
     }
     match images.open(alloc, path) {
         Ok(disk) => Ok(disk),

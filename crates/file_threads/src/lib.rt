@@ -1,6 +1,6 @@
 //! Threads of one's own on the heap of an image file.
 //!
-//! [`run_file`] makes the image where there is none, or recovers the one that is there, and lets a thread for each lane do its work
+//! [`run_file`] makes the image where there is none, or recovers the one that is there, and lets so many threads do their work
 //! ([`Work`]). [`run_at`] is what it does over any [`Images`](image_file::Images).
 #![tactic(auto)]
 

@@ -1,7 +1,7 @@
 //! A schema of two objects with a field each, and a disk for it.
 
 use block_disk::MemDisk;
-use heap_threads::{FieldId, ObjectId, Schema, SchemaBuilder};
+use heap_threads::{FieldId, ObjectId, Schema, SchemaBuilder, lanes_for};
 use image::Layout;
 use std::alloc::Global;
 
@@ -30,8 +30,8 @@ pub fn schema(alloc: Global) -> Option<Schema> {
     }
 }
 
-/// A disk for an image of this schema with so many lanes.
-pub fn disk(alloc: Global, schema: &Schema, lanes: u8) -> Option<MemDisk> {
-    let layout = Layout::of(schema, lanes, CAPACITY)?;
+/// A disk for an image of this schema for so many threads.
+pub fn disk(alloc: Global, schema: &Schema, threads: u8) -> Option<MemDisk> {
+    let layout = Layout::of(schema, lanes_for(threads), CAPACITY)?;
     MemDisk::new(alloc, layout.size()).ok()
 }

@@ -2,7 +2,7 @@
 
 use crate::room::{CAPACITY, TABLE, TURN, disk, schema};
 use block_disk::MemDisk;
-use heap_threads::{HeapThread, Joint, RunError, SessionError, Work, run_new, run_on};
+use heap_threads::{HeapThread, Joint, RunError, SessionError, Work, make_heap, run_new, run_on};
 use std::alloc::Global;
 use std::sync::Wait;
 use std::thread::Threads;
@@ -64,18 +64,18 @@ fn played<R: Threads + Wait + Sync>(rt: &R, alloc: Global, rounds: u32) -> Optio
     }
 }
 
-// The turn that so many lanes leave there later, with the count of the chair; or why they don't.
+// The turn that so many threads leave there later, with the count of the chair; or why they don't.
 fn left_later<R: Threads + Wait + Sync>(
     rt: &R,
     alloc: Global,
-    lanes: u8,
+    threads: u8,
 ) -> Option<Result<(u64, u64), RunError>> {
     let disk = played(rt, alloc, 50)?;
     let Some(schema) = schema(alloc) else {
         drop(disk);
         return None;
     };
-    match run_on(rt, alloc, disk, schema, lanes, &Turns { rounds: 10 }) {
+    match run_on(rt, alloc, disk, schema, threads, &Turns { rounds: 10 }) {
         Ok((ran, report)) => {
             drop(report);
             let heap = &ran.outcome.heap;
@@ -100,7 +100,60 @@ fn bodies_wait_for_one_another(rt: HostRuntime) {
 }
 
 #[test]
-fn another_number_of_lanes_is_another_schema(rt: HostRuntime) {
-    let left = left_later(&rt, rt.alloc(), 3);
+fn an_image_with_too_few_lanes_is_of_another_schema(rt: HostRuntime) {
+    let left = left_later(&rt, rt.alloc(), 4);
     assert!(rt; left == Some(Err(RunError::OtherSchema)));
+}
+
+// A disk with an image of so many lanes.
+fn made(alloc: Global, lanes: u8) -> Option<MemDisk> {
+    let schema = schema(alloc)?;
+    let Some(disk) = disk(alloc, &schema, 3) else {
+        drop(schema);
+        return None;
+    };
+    let made = make_heap(alloc, disk, &schema, lanes, CAPACITY);
+    drop(schema);
+    match made {
+        Ok(made) => Some(made.into_disk()),
+        Err((disk, _)) => {
+            drop(disk);
+            None
+        }
+    }
+}
+
+// The turn that two threads leave on an image of so many lanes; or why they don't.
+fn left_on<R: Threads + Wait + Sync>(
+    rt: &R,
+    alloc: Global,
+    lanes: u8,
+) -> Option<Result<u64, RunError>> {
+    let disk = made(alloc, lanes)?;
+    let Some(schema) = schema(alloc) else {
+        drop(disk);
+        return None;
+    };
+    match run_on(rt, alloc, disk, schema, 2, &Turns { rounds: 10 }) {
+        Ok((ran, report)) => {
+            drop(report);
+            let left = ran.outcome.heap.first().copied().unwrap_or(0);
+            drop(ran);
+            Some(Ok(left))
+        }
+        Err((disk, refusal)) => {
+            drop(disk);
+            Some(Err(refusal))
+        }
+    }
+}
+
+// With two lanes the helper has none of its own, and with three the last is its own.
+#[test]
+fn two_threads_go_on_with_two_lanes_or_three(rt: HostRuntime) {
+    let other = Some(Err(RunError::OtherSchema));
+    let cases = [(1, other), (2, Some(Ok(20))), (3, Some(Ok(20))), (4, other)];
+    for (lanes, left) in cases {
+        assert!(rt; left_on(&rt, rt.alloc(), lanes) == left);
+    }
 }

@@ -1,11 +1,11 @@
 -- What a crash left by the end of a run of threads.
-use Rattle.std.proofs.Common.{ℕ, ◌≡◌, true, false, List, inl, inr, refl, sym, ap, subst}
+use Rattle.std.proofs.Common.{ℕ, ◌≡◌, List, inl, inr, sym, ap, subst}
 use Rattle.heap_model.specs.Log.{IsLegal}
 use Rattle.heap_model.specs.declared.event.Event.{Event}
 use Rattle.heap_model.specs.declared.record.Record.{Record}
 use Rattle.block_disk.specs.Device.{Device}
-use Rattle.durable.specs.Runs.{HasRun}
-use Rattle.durable.proofs.Running.{ran_then}
+use Rattle.round_store.specs.Runs.{HasRun}
+use Rattle.round_store.proofs.Running.{run_on}
 use Rattle.image.specs.declared.layout.Layout.{Layout}
 use Rattle.monitor.specs.Seats.{Home}
 use Rattle.running_heap.specs.Life.{HasLived}
@@ -72,19 +72,24 @@ module _ {D : Type 0} (device : D → Device) where
   back_same h x y new e same crashes = subst (λ (z : Parts D). CrashesBy device h z new e) same crashes
 
   -- a closing that was stopped
-  pub closing_left : (h : Home) (opened d : Device) (x : Parts D) (p : Past) (ended : List Ended) → RunTakenLaw → HasLived device h opened x p → Stood x.store.known.layout (plan h) p ended (device x.store.disk) d →
-      IsLeftByCalls h x.store.known.layout opened d
+  pub closing_left : (h : Home) (opened d : Device) (x : Parts D) (p : Past) (ended : List Ended) → RunTakenLaw → HasLived device h opened x p
+      → Stood x.store.known.layout x.store.known.threads (plan h) p ended (device x.store.disk) d → IsLeftByCalls h x.store.known.layout opened d
   closing_left h opened d x p ended law was stood =
       let life = was.life in
       let l = x.store.known.layout in
-      let ran : HasRun l (plan h) no_past opened stood.then d true =
-      ran_then l l (plan h) no_past p stood.then opened (device x.store.disk) d false true refl life.ran (life.ran.whole refl) stood.ran in
+      let n = h.plan.lanes in
+      let since : HasRun l n (plan h) p (device x.store.disk) stood.then d = subst (λ (m : ℕ). HasRun l m (plan h) p (device x.store.disk) stood.then d) (sym was.lanes) stood.ran in
+      let ran : HasRun l n (plan h) no_past opened stood.then d = run_on l n (plan h) no_past p stood.then opened (device x.store.disk) d life.ran since in
+      let here : HasRun life.began.layout life.began.threads (plan h) no_past opened stood.then d =
+      subst (λ (m : ℕ). HasRun life.began.layout m (plan h) no_past opened stood.then d) (sym life.threads)
+      (subst (λ (k : Layout). HasRun k n (plan h) no_past opened stood.then d) (sym life.layout) ran) in
       record {
         began = life.began;
         nothing = life.nothing;
         layout = life.layout;
+        threads = life.threads;
         now = stood.then;
         ran = ran;
         legal = subst (λ (rs : List (ℕ × Record)). IsLegal (plan h) rs) (sym stood.same) stood.legal;
-        takes = law life.began (plan h) no_past stood.then opened d true life.nothing (subst (λ (k : Layout). HasRun k (plan h) no_past opened stood.then d true) (sym life.layout) ran);
+        takes = law life.began (plan h) no_past stood.then opened d life.nothing here;
       }

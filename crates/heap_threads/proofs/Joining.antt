@@ -4,15 +4,18 @@ use Rattle.std.specs.List.{slice_index_or}
 use Rattle.std.proofs.lemmas.List.{map-append}
 use Rattle.std.proofs.lemmas.List.Elements.{All-head, All-nil, All-pop, All-push, All-tail, All-weaker}
 use Rattle.std.specs.declared.alloc.AllocError.{AllocError}
+use Rattle.block_disk.specs.Device.{Device}
 use Rattle.monitor.specs.Seats.{Home}
 use Rattle.running_heap.specs.Joined.{IsJoined}
 use Rattle.session.specs.Sessions.{view_of}
 use Rattle.session.specs.declared.error.SessionError.{SessionError}
 use Rattle.session.specs.declared.session.Session.{Session}
 use Rattle.trim_helper.specs.Endings.{IsEnded, Rings, lanes_ended}
+use Rattle.trim_helper.specs.Parts.{Parts}
 use Rattle.trim_helper.specs.declared.ended.Ended.{Ended}
-use Rattle.heap_threads.specs.Beside.{JoinsOne}
+use Rattle.heap_threads.specs.Beside.{HasServed, HaveWorkedBeside, JoinsOne}
 use Rattle.heap_threads.specs.Bodies.{Answer, AreWorked, HasWorked, HaveWorked, IsFirst, IsFirstRefusal, LeftOpen, WasCalled, WereCalled, both_of, lanes_opened}
+use Rattle.heap_threads.specs.declared.beside.Beside.{Beside}
 use Rattle.heap_threads.specs.declared.body.AllWorked.{AllWorked}
 use Rattle.heap_threads.specs.declared.body.Worked.{Worked}
 
@@ -103,3 +106,9 @@ module _ (does : Home → Session → Session → Answer → Type 0) (h : Home) 
   pub have_none : (sessions : List Session) (answer : Result AllWorked AllocError) → sessions ≡ [] → IfOk answer (λ w. (w.ended.items ≡ []) × (w.answer ≡ Some (Ok tt))) → HaveWorked does h sessions answer
   have_none sessions (Err e) is nobody capacity rings joined = tt
   have_none sessions (Ok w) is nobody capacity rings joined = subst (λ (ss : List Session). AreWorked does h capacity rings ss w) (sym is) (none_worked capacity rings w nobody.0 nobody.1)
+
+  -- so where only a helper has served
+  pub have_nobody : {D : Type 0} (device : D → Device) (sessions : List Session) (helper : Parts D) (answer : Result (Beside D) (Parts D)) → sessions ≡ [] → IfOk answer (λ b. HasServed device h helper b.served)
+      → IfOk answer (λ b. IfOk b.worked (λ w. (w.ended.items ≡ []) × (w.answer ≡ Some (Ok tt)))) → IfOk answer (HaveWorkedBeside does device h sessions helper)
+  have_nobody device sessions helper (Err back) is served nobody = tt
+  have_nobody device sessions helper (Ok b) is served nobody = record { worked = have_none sessions b.worked is nobody; served = served }

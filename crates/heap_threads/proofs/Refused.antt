@@ -18,6 +18,7 @@ use Rattle.recover.specs.declared.studied.Study.{Study}
 use Rattle.session.specs.declared.session.Session.{Session}
 use Rattle.heap_threads.specs.Bodies.{Answer}
 use Rattle.heap_threads.specs.Crashes.{CrashesOf}
+use Rattle.heap_threads.specs.ImageLanes.{lanes_for}
 use Rattle.heap_threads.specs.Runs.{HasFound, Holds, IsMadeOf, IsNotFound, RefusesFinding, RefusesFound, RefusesLook, RefusesNew, RefusesOn, RefusesStudy}
 use Rattle.heap_threads.specs.Stops.{IsHomeOf, StopsBy, StopsRun}
 use Rattle.heap_threads.specs.declared.error.RunError.{RunError}
@@ -116,61 +117,61 @@ not_found_alike old seen new e same later refused = record {
 }
 
 -- what a look at the image refuses
-pub looked : (schema : Declarations) (lanes : ℕ) (old new : Device) (e : RunError) → SameMoments old new → RefusesLook schema lanes old new e → RefusesFound schema lanes old new e
-looked schema lanes old new NoMemory same refused = absurd refused
-looked schema lanes old new NoThread same refused = absurd refused
-looked schema lanes old new (Image e) same refused = absurd refused
-looked schema lanes old new (Helper e) same refused = absurd refused
-looked schema lanes old new Unfinished same refused = absurd refused
-looked schema lanes old new (Close e) same refused = absurd refused
-looked schema lanes old new (Recover e) same refused = inl (refused, same)
-looked schema lanes old new OtherSchema same refused = (refused, same)
+pub looked : (schema : Declarations) (threads : ℕ) (old new : Device) (e : RunError) → SameMoments old new → RefusesLook schema threads old new e → RefusesFound schema threads old new e
+looked schema threads old new NoMemory same refused = absurd refused
+looked schema threads old new NoThread same refused = absurd refused
+looked schema threads old new (Image e) same refused = absurd refused
+looked schema threads old new (Helper e) same refused = absurd refused
+looked schema threads old new Unfinished same refused = absurd refused
+looked schema threads old new (Close e) same refused = absurd refused
+looked schema threads old new (Recover e) same refused = inl (refused, same)
+looked schema threads old new OtherSchema same refused = (refused, same)
 
 module _ (does : Home → Session → Session → Answer → Type 0) {D : Type 0} (device : D → Device) where
   -- a run by the words of a heap, as the heap's
-  pub run_stops : (schema : Declarations) (was : Parts D) (h : Home) (l : Layout) (old new : Device) (e : RunError) → IsHomeOf schema was.heap was.layout.lanes h → l ≡ was.layout → old ≡ device was.disk → CrashesOf h was.layout (device was.disk) new e → StopsBy does h l old new e → StopsRun does device schema was new e
-  run_stops schema was h l old new NoMemory home layouts devices crashes stops = inr (record { shared = h; plan = home; crashes = crashes; stops = tt })
-  run_stops schema was h l old new NoThread home layouts devices crashes stops = record { shared = h; plan = home; crashes = crashes; stops = subst (λ (d : Device). StopsBy does h was.layout d new NoThread) devices (subst (λ (k : Layout). StopsBy does h k old new NoThread) layouts stops) }
-  run_stops schema was h l old new (Image e) home layouts devices crashes stops = absurd stops
-  run_stops schema was h l old new (Helper e) home layouts devices crashes stops = record { shared = h; plan = home; crashes = crashes; stops = subst (λ (d : Device). StopsBy does h was.layout d new (Helper e)) devices (subst (λ (k : Layout). StopsBy does h k old new (Helper e)) layouts stops) }
-  run_stops schema was h l old new Unfinished home layouts devices crashes stops = record { shared = h; plan = home; crashes = crashes; stops = subst (λ (d : Device). StopsBy does h was.layout d new Unfinished) devices (subst (λ (k : Layout). StopsBy does h k old new Unfinished) layouts stops) }
-  run_stops schema was h l old new (Close e) home layouts devices crashes stops = record { shared = h; plan = home; crashes = crashes; stops = subst (λ (d : Device). StopsBy does h was.layout d new (Close e)) devices (subst (λ (k : Layout). StopsBy does h k old new (Close e)) layouts stops) }
-  run_stops schema was h l old new (Recover e) home layouts devices crashes stops = record { shared = h; plan = home; crashes = crashes; stops = subst (λ (d : Device). StopsBy does h was.layout d new (Recover e)) devices (subst (λ (k : Layout). StopsBy does h k old new (Recover e)) layouts stops) }
-  run_stops schema was h l old new OtherSchema home layouts devices crashes stops = absurd stops
+  pub run_stops : (schema : Declarations) (n : ℕ) (was : Parts D) (h : Home) (l : Layout) (old new : Device) (e : RunError) → IsHomeOf schema was.heap n h → l ≡ was.layout → old ≡ device was.disk → CrashesOf h was.layout (device was.disk) new e → StopsBy does h l old new e → StopsRun does device schema n was new e
+  run_stops schema n was h l old new NoMemory home layouts devices crashes stops = inr (record { shared = h; plan = home; crashes = crashes; stops = tt })
+  run_stops schema n was h l old new NoThread home layouts devices crashes stops = record { shared = h; plan = home; crashes = crashes; stops = subst (λ (d : Device). StopsBy does h was.layout d new NoThread) devices (subst (λ (k : Layout). StopsBy does h k old new NoThread) layouts stops) }
+  run_stops schema n was h l old new (Image e) home layouts devices crashes stops = absurd stops
+  run_stops schema n was h l old new (Helper e) home layouts devices crashes stops = record { shared = h; plan = home; crashes = crashes; stops = subst (λ (d : Device). StopsBy does h was.layout d new (Helper e)) devices (subst (λ (k : Layout). StopsBy does h k old new (Helper e)) layouts stops) }
+  run_stops schema n was h l old new Unfinished home layouts devices crashes stops = record { shared = h; plan = home; crashes = crashes; stops = subst (λ (d : Device). StopsBy does h was.layout d new Unfinished) devices (subst (λ (k : Layout). StopsBy does h k old new Unfinished) layouts stops) }
+  run_stops schema n was h l old new (Close e) home layouts devices crashes stops = record { shared = h; plan = home; crashes = crashes; stops = subst (λ (d : Device). StopsBy does h was.layout d new (Close e)) devices (subst (λ (k : Layout). StopsBy does h k old new (Close e)) layouts stops) }
+  run_stops schema n was h l old new (Recover e) home layouts devices crashes stops = record { shared = h; plan = home; crashes = crashes; stops = subst (λ (d : Device). StopsBy does h was.layout d new (Recover e)) devices (subst (λ (k : Layout). StopsBy does h k old new (Recover e)) layouts stops) }
+  run_stops schema n was h l old new OtherSchema home layouts devices crashes stops = absurd stops
 
   -- behind the image that was found
-  pub stopped_on : (schema : Declarations) (lanes : ℕ) (old : Device) (was : Parts D) (report : Report) (new : Device) (e : RunError) → Holds schema lanes old.now.bytes → HasFound device schema lanes old report was
-      → StopsRun does device schema was new e → RefusesOn does device schema lanes old new e
-  stopped_on schema lanes old was report new NoMemory holds found stops = (holds, record { was = was; report = report; found = found.found; theirs = found.theirs; stopped = record { later = found.later; stops = stops } })
-  stopped_on schema lanes old was report new NoThread holds found stops = (holds, record { was = was; report = report; found = found.found; theirs = found.theirs; stopped = record { later = found.later; stops = stops } })
-  stopped_on schema lanes old was report new (Helper e) holds found stops = (holds, record { was = was; report = report; found = found.found; theirs = found.theirs; stopped = record { later = found.later; stops = stops } })
-  stopped_on schema lanes old was report new Unfinished holds found stops = (holds, record { was = was; report = report; found = found.found; theirs = found.theirs; stopped = record { later = found.later; stops = stops } })
-  stopped_on schema lanes old was report new (Close e) holds found stops = (holds, record { was = was; report = report; found = found.found; theirs = found.theirs; stopped = record { later = found.later; stops = stops } })
-  stopped_on schema lanes old was report new (Recover e) holds found stops = inr (holds, inr (record { was = was; report = report; found = found.found; theirs = found.theirs; stopped = record { later = found.later; stops = stops } }))
-  stopped_on schema lanes old was report new (Image e) holds found stops = absurd stops.stops
-  stopped_on schema lanes old was report new OtherSchema holds found stops = absurd stops.stops
+  pub stopped_on : (schema : Declarations) (threads : ℕ) (old : Device) (was : Parts D) (report : Report) (new : Device) (e : RunError) → Holds schema threads old.now.bytes → HasFound device schema threads old report was
+      → StopsRun does device schema threads was new e → RefusesOn does device schema threads old new e
+  stopped_on schema threads old was report new NoMemory holds found stops = (holds, record { was = was; report = report; found = found.found; theirs = found.theirs; stopped = record { later = found.later; stops = stops } })
+  stopped_on schema threads old was report new NoThread holds found stops = (holds, record { was = was; report = report; found = found.found; theirs = found.theirs; stopped = record { later = found.later; stops = stops } })
+  stopped_on schema threads old was report new (Helper e) holds found stops = (holds, record { was = was; report = report; found = found.found; theirs = found.theirs; stopped = record { later = found.later; stops = stops } })
+  stopped_on schema threads old was report new Unfinished holds found stops = (holds, record { was = was; report = report; found = found.found; theirs = found.theirs; stopped = record { later = found.later; stops = stops } })
+  stopped_on schema threads old was report new (Close e) holds found stops = (holds, record { was = was; report = report; found = found.found; theirs = found.theirs; stopped = record { later = found.later; stops = stops } })
+  stopped_on schema threads old was report new (Recover e) holds found stops = inr (holds, inr (record { was = was; report = report; found = found.found; theirs = found.theirs; stopped = record { later = found.later; stops = stops } }))
+  stopped_on schema threads old was report new (Image e) holds found stops = absurd stops.stops
+  stopped_on schema threads old was report new OtherSchema holds found stops = absurd stops.stops
 
   -- before it
-  pub unfound_on : (schema : Declarations) (lanes : ℕ) (old new : Device) (e : RunError) → RefusesFound schema lanes old new e → RefusesOn does device schema lanes old new e
-  unfound_on schema lanes old new NoMemory refused = absurd refused
-  unfound_on schema lanes old new NoThread refused = absurd refused
-  unfound_on schema lanes old new (Image e) refused = absurd refused
-  unfound_on schema lanes old new (Helper e) refused = absurd refused
-  unfound_on schema lanes old new Unfinished refused = absurd refused
-  unfound_on schema lanes old new (Close e) refused = absurd refused
-  unfound_on schema lanes old new (Recover e) refused = elim refused [
+  pub unfound_on : (schema : Declarations) (threads : ℕ) (old new : Device) (e : RunError) → RefusesFound schema threads old new e → RefusesOn does device schema threads old new e
+  unfound_on schema threads old new NoMemory refused = absurd refused
+  unfound_on schema threads old new NoThread refused = absurd refused
+  unfound_on schema threads old new (Image e) refused = absurd refused
+  unfound_on schema threads old new (Helper e) refused = absurd refused
+  unfound_on schema threads old new Unfinished refused = absurd refused
+  unfound_on schema threads old new (Close e) refused = absurd refused
+  unfound_on schema threads old new (Recover e) refused = elim refused [
     | inl study ↦ inl study
     | inr found ↦ inr (found.0, inl found.1)
   ]
-  unfound_on schema lanes old new OtherSchema refused = refused
+  unfound_on schema threads old new OtherSchema refused = refused
 
   -- behind the image that was made
-  pub made_new : (schema : Declarations) (lanes capacity : ℕ) (old : Device) (was : Parts D) (new : Device) (e : RunError) → IsMadeOf device schema lanes capacity old was → old.failures ≤ (device was.disk).failures → StopsRun does device schema was new e → RefusesNew does device schema lanes capacity old new e
-  made_new schema lanes capacity old was new NoMemory made later stops = record { was = was; made = made; stopped = record { later = later; stops = stops } }
-  made_new schema lanes capacity old was new NoThread made later stops = record { was = was; made = made; stopped = record { later = later; stops = stops } }
-  made_new schema lanes capacity old was new (Image e) made later stops = absurd stops.stops
-  made_new schema lanes capacity old was new (Helper e) made later stops = record { was = was; made = made; stopped = record { later = later; stops = stops } }
-  made_new schema lanes capacity old was new Unfinished made later stops = record { was = was; made = made; stopped = record { later = later; stops = stops } }
-  made_new schema lanes capacity old was new (Close e) made later stops = record { was = was; made = made; stopped = record { later = later; stops = stops } }
-  made_new schema lanes capacity old was new (Recover e) made later stops = record { was = was; made = made; stopped = record { later = later; stops = stops } }
-  made_new schema lanes capacity old was new OtherSchema made later stops = absurd stops.stops
+  pub made_new : (schema : Declarations) (threads capacity : ℕ) (old : Device) (was : Parts D) (new : Device) (e : RunError) → IsMadeOf device schema (lanes_for threads) capacity old was → old.failures ≤ (device was.disk).failures → StopsRun does device schema threads was new e → RefusesNew does device schema threads capacity old new e
+  made_new schema threads capacity old was new NoMemory made later stops = record { was = was; made = made; stopped = record { later = later; stops = stops } }
+  made_new schema threads capacity old was new NoThread made later stops = record { was = was; made = made; stopped = record { later = later; stops = stops } }
+  made_new schema threads capacity old was new (Image e) made later stops = absurd stops.stops
+  made_new schema threads capacity old was new (Helper e) made later stops = record { was = was; made = made; stopped = record { later = later; stops = stops } }
+  made_new schema threads capacity old was new Unfinished made later stops = record { was = was; made = made; stopped = record { later = later; stops = stops } }
+  made_new schema threads capacity old was new (Close e) made later stops = record { was = was; made = made; stopped = record { later = later; stops = stops } }
+  made_new schema threads capacity old was new (Recover e) made later stops = record { was = was; made = made; stopped = record { later = later; stops = stops } }
+  made_new schema threads capacity old was new OtherSchema made later stops = absurd stops.stops

@@ -75,9 +75,9 @@ crashes_then device h x y z before after opened p was =
     after opened mid.0 mid.1
 
 -- before the first round nothing is applied, and so it is of what was seen, of nothing
-pub begins_living : {D : Type 0} (device : D → Device) (h : Home) (x : Parts D) → BirthLaw device → IsServing device x (plan h) no_past → x.store.known.has_failed ≡ false → IsLiving device h (device x.store.disk) x no_past
-begins_living device h x birth serving running = record {
-  lived = birth h x serving running;
+pub begins_living : {D : Type 0} (device : D → Device) (h : Home) (x : Parts D) → BirthLaw device → h.plan.lanes ≡ x.store.known.threads → IsServing device x (plan h) no_past → x.store.known.has_failed ≡ false → IsLiving device h (device x.store.disk) x no_past
+begins_living device h x birth lanes serving running = record {
+  lived = birth h x lanes serving running;
   seen = [];
   legal = tt;
   of = λ l low. ([], refl);

@@ -2,12 +2,13 @@
 use Rattle.std.proofs.Common.{ℕ, ◌≡◌, ◌≤◌, ◌^◌, ◌-◌, true, false, List, [], ◌∷◌, Result, Ok, Err, IfErr, inl, inr, ⊎_elim, refl, sym, ◌∙◌, arith}
 use Rattle.block_disk.specs.Device.{Device, HasCause, HasFailed}
 use Rattle.block_disk.proofs.Images.{image_now}
-use Rattle.durable.specs.Store.{Known}
+use Rattle.round_store.specs.Store.{Known}
+use Rattle.round_survival.specs.Laws.{RoundLaw}
 use Rattle.image.specs.declared.layout.Layout.{Layout}
 use Rattle.monitor.specs.Seats.{Home}
-use Rattle.recover.specs.Reading.{RefusesImage}
 use Rattle.recover.specs.Recovery.{RefusesRecovery}
-use Rattle.survival.specs.Accepted.{AcceptedLaw, CurrentLaw}
+use Rattle.survival.specs.Taken.{IsTaken}
+use Rattle.survival.specs.WholeRun.{CannotRecover}
 use Rattle.recover.specs.declared.error.RecoverError.{RecoverError}
 use Rattle.recover.specs.declared.error.RecoverError.TheVariants as recover
 use Rattle.running_heap.specs.Closed.{IsClosed}
@@ -105,33 +106,38 @@ telling_stops closed new (recover.BadRecord lane place) refused cause = refused
 telling_stops closed new (recover.IllegalLog lane place) refused cause = refused
 telling_stops closed new recover.NoMemory refused cause = refused
 
--- no such image is refused by itself
-no_other : (h : Home) (l : Layout) (es : List Ended) (closed : Device) (e : RecoverError) → AcceptedLaw → IsClosed h l es closed → RefusesImage closed.now.bytes e → (e ≡ recover.Fault → ⊥) → (e ≡ recover.NoMemory → ⊥) → ⊥
-no_other h l es closed e law ran refused fault memory = ⊎_elim fault memory (law l (plan h) ran.now closed.now.bytes e (ran.left closed.now.bytes (image_now closed)) refused)
-
 -- recovery takes what a good closing gave back
-pub loses_closed : (h : Home) (l : Layout) (es : List Ended) (closed new : Device) (e : RecoverError) → AcceptedLaw → CurrentLaw → IsClosed h l es closed → RefusesTelling closed new e → LosesClosed closed new e
-loses_closed h l es closed new recover.Fault law young ran refused = refused
-loses_closed h l es closed new recover.NotFormatted law young ran refused = no_other h l es closed recover.NotFormatted law ran refused (λ is. absurd cc) (λ is. absurd cc)
-loses_closed h l es closed new recover.BadHeader law young ran refused = no_other h l es closed recover.BadHeader law ran refused (λ is. absurd cc) (λ is. absurd cc)
-loses_closed h l es closed new recover.TooSmall law young ran refused = no_other h l es closed recover.TooSmall law ran refused (λ is. absurd cc) (λ is. absurd cc)
-loses_closed h l es closed new recover.NoControl law young ran refused = no_other h l es closed recover.NoControl law ran refused (λ is. absurd cc) (λ is. absurd cc)
-loses_closed h l es closed new recover.BadControl law young ran refused = no_other h l es closed recover.BadControl law ran refused (λ is. absurd cc) (λ is. absurd cc)
-loses_closed h l es closed new recover.OldVersion law young ran refused = absurd (young l (plan h) ran.now closed.now.bytes (ran.left closed.now.bytes (image_now closed)) refused)
-loses_closed h l es closed new recover.Worn law young ran refused = refused.1
-loses_closed h l es closed new (recover.BadRecord lane place) law young ran refused = no_other h l es closed (recover.BadRecord lane place) law ran refused.1 (λ is. absurd cc) (λ is. absurd cc)
-loses_closed h l es closed new (recover.IllegalLog lane place) law young ran refused = no_other h l es closed (recover.IllegalLog lane place) law ran refused.1 (λ is. absurd cc) (λ is. absurd cc)
-loses_closed h l es closed new recover.NoMemory law young ran refused = tt
+closed_taken : RoundLaw → (h : Home) (l : Layout) (es : List Ended) (closed : Device) → IsClosed h l es closed → IsTaken closed.now.bytes
+closed_taken law h l es closed ran =
+    let shown = ran.left closed.now.bytes (image_now closed) in
+    (law l h.plan.lanes (plan h) ran.now.logged ran.now.cut shown.sections closed.now.bytes shown.round shown.shows).accepted
 
-pub told_stops : (does : Home → Session → Session → Answer → Type 0) (h : Home) (l : Layout) (old closed new : Device) (es : List Ended) (e : RunError) → HoldNone es → IsComplete l.lanes es → old.failures ≤ closed.failures → IsClosed h l es closed → AcceptedLaw → CurrentLaw → StopsTelling closed new e → StopsEnd does h l old new e
-told_stops does h l old closed new es NoMemory none complete later ran law young stops = tt
-told_stops does h l old closed new es NoThread none complete later ran law young stops = absurd stops
-told_stops does h l old closed new es (Image e) none complete later ran law young stops = absurd stops
-told_stops does h l old closed new es (Helper e) none complete later ran law young stops = absurd stops
-told_stops does h l old closed new es Unfinished none complete later ran law young stops = absurd stops
-told_stops does h l old closed new es (Close e) none complete later ran law young stops = absurd stops
-told_stops does h l old closed new es (Recover e) none complete later ran law young stops = record { ended = es; none = none; complete = complete; closed = closed; later = later; ran = ran; refused = loses_closed h l es closed new e law young ran stops }
-told_stops does h l old closed new es OtherSchema none complete later ran law young stops = absurd stops
+-- no such image is refused by itself
+no_other : (image : List ℕ) (e : RecoverError) → CannotRecover image e → (e ≡ recover.Fault → ⊥) → (e ≡ recover.NoMemory → ⊥) → (e ≡ recover.Worn → ⊥) → ⊥
+no_other image e cannot fault memory worn = ⊎_elim fault (λ more. ⊎_elim memory (λ is. worn is.0) more) cannot
+
+loses_closed : (closed new : Device) (e : RecoverError) → IsTaken closed.now.bytes → RefusesTelling closed new e → LosesClosed closed new e
+loses_closed closed new recover.Fault is refused = refused
+loses_closed closed new recover.NotFormatted is refused = no_other closed.now.bytes recover.NotFormatted (is.taken recover.NotFormatted refused) (λ is. absurd cc) (λ is. absurd cc) (λ is. absurd cc)
+loses_closed closed new recover.BadHeader is refused = no_other closed.now.bytes recover.BadHeader (is.taken recover.BadHeader refused) (λ is. absurd cc) (λ is. absurd cc) (λ is. absurd cc)
+loses_closed closed new recover.TooSmall is refused = no_other closed.now.bytes recover.TooSmall (is.taken recover.TooSmall refused) (λ is. absurd cc) (λ is. absurd cc) (λ is. absurd cc)
+loses_closed closed new recover.NoControl is refused = no_other closed.now.bytes recover.NoControl (is.taken recover.NoControl refused) (λ is. absurd cc) (λ is. absurd cc) (λ is. absurd cc)
+loses_closed closed new recover.BadControl is refused = no_other closed.now.bytes recover.BadControl (is.taken recover.BadControl refused) (λ is. absurd cc) (λ is. absurd cc) (λ is. absurd cc)
+loses_closed closed new recover.OldVersion is refused = no_other closed.now.bytes recover.OldVersion (is.taken recover.OldVersion refused) (λ is. absurd cc) (λ is. absurd cc) (λ is. absurd cc)
+loses_closed closed new recover.Worn is refused = refused.1
+loses_closed closed new (recover.BadRecord lane place) is refused = no_other closed.now.bytes (recover.BadRecord lane place) (is.taken (recover.BadRecord lane place) refused) (λ is. absurd cc) (λ is. absurd cc) (λ is. absurd cc)
+loses_closed closed new (recover.IllegalLog lane place) is refused = no_other closed.now.bytes (recover.IllegalLog lane place) (is.taken (recover.IllegalLog lane place) refused) (λ is. absurd cc) (λ is. absurd cc) (λ is. absurd cc)
+loses_closed closed new recover.NoMemory is refused = tt
+
+pub told_stops : (does : Home → Session → Session → Answer → Type 0) (h : Home) (l : Layout) (old closed new : Device) (es : List Ended) (e : RunError) → HoldNone es → IsComplete h.plan.lanes es → old.failures ≤ closed.failures → IsClosed h l es closed → RoundLaw → StopsTelling closed new e → StopsEnd does h l old new e
+told_stops does h l old closed new es NoMemory none complete later ran law stops = tt
+told_stops does h l old closed new es NoThread none complete later ran law stops = absurd stops
+told_stops does h l old closed new es (Image e) none complete later ran law stops = absurd stops
+told_stops does h l old closed new es (Helper e) none complete later ran law stops = absurd stops
+told_stops does h l old closed new es Unfinished none complete later ran law stops = absurd stops
+told_stops does h l old closed new es (Close e) none complete later ran law stops = absurd stops
+told_stops does h l old closed new es (Recover e) none complete later ran law stops = record { ended = es; none = none; complete = complete; closed = closed; later = later; ran = ran; refused = loses_closed closed new e (closed_taken law h l es closed ran) stops }
+told_stops does h l old closed new es OtherSchema none complete later ran law stops = absurd stops
 
 -- a run's stop since a later moment is one since an earlier one
 pub stops_since : (does : Home → Session → Session → Answer → Type 0) (h : Home) (l : Layout) (first old new : Device) (e : RunError) → first.failures ≤ old.failures → StopsEnd does h l old new e → StopsBy does h l first new e

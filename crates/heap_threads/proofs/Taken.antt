@@ -1,10 +1,10 @@
 -- Recovery takes what a crash left.
 use Rattle.std.proofs.Common.{ℕ, ◌≡◌, ◌++◌, List, length, inl, inr, ⊎_elim, refl, sym, ap, subst, ◌∙◌, arith}
+use Rattle.heap_model.specs.declared.record.Record.{Record}
 use Rattle.heap_model.specs.Setting.{Setting}
 use Rattle.block_disk.specs.Device.{Device, synced}
 use Rattle.block_disk.specs.Images.{Always, LeavesOnly}
 use Rattle.block_disk.proofs.Images.{after_sync, and_then, image_now, leaves_synced, left_now, left_since, stays, weaker}
-use Rattle.durable.specs.declared.store_call.StoreCall.{StoreCall}
 use Rattle.durable.proofs.Adopting.{rows_recovered, setting_is, setting_of}
 use Rattle.durable.proofs.Begun.{begins, empty_committed}
 use Rattle.durable.proofs.Running.{left_always}
@@ -20,11 +20,13 @@ use Rattle.recover.specs.declared.report.Report.{Report}
 use Rattle.recover.specs.declared.studied.Study.{Study}
 use Rattle.recover.specs.declared.versions.Versions.TheVariants.{Current}
 use Rattle.recover.proofs.RecoveryLemmas.{not_old}
-use Rattle.store_past.specs.Past.{Past, no_past}
+use Rattle.store_past.specs.Past.{Past, applied, no_past}
 use Rattle.survival.specs.Accepted.{IsLeftBy}
 use Rattle.survival.specs.Again.{ByStore, HasStudyLaw}
 use Rattle.survival.proofs.Accepts.{accepted, isnt_old, of_today}
-use Rattle.survival.proofs.WholeRuns.{cannot, left_by, shows_some}
+use Rattle.survival.proofs.WholeRuns.{cannot}
+use Rattle.helper_sections.specs.Image.{ShowsCutOf}
+use Rattle.round_survival.specs.Laws.{RoundLaw}
 use Rattle.survival.specs.Taken.{IsTaken}
 use Rattle.heap_threads.specs.Crashes.{RecoveredLaw, RecoveryTakenLaw, RunTakenLaw}
 
@@ -47,12 +49,11 @@ recovered_taken studied d l rows slot sequence heap is image left =
     let consistent = begins l s d rows slot sequence heap is (record { guard = λ f low. set.guards f no_row low; mark = λ f low. set.marks f no_row low; first = set.values }) in
     taken_of studied l s no_past image (left_always l s no_past (empty_committed slot sequence) d consistent image (left_now d image left))
 
-pub run_taken : HasStudyLaw → RunTakenLaw
-run_taken studied x s p q old new failed has ran image left =
-    let all : List StoreCall = ran.calls ++ ran.cut_off in
-    let some = shows_some x s p all old new image has ran.shown left in
-    let by = left_by x.layout s some.then some.doubt image some.is some.of_lanes some.shows in
-    taken_of studied x.layout s by.past image by.is
+pub run_taken : RoundLaw → RunTakenLaw
+run_taken law x s p q old new has ran image left =
+    let taken : (log : List (ℕ × Record)) (cut : ℕ → ℕ) → ShowsCutOf x.layout x.threads s log cut image → IsTaken image =
+    (λ log cut shows. (law x.layout x.threads s shows.shown shows.kept shows.sections image shows.round shows.shows).accepted) in
+    ⊎_elim (λ before. taken (applied p) p.cut (has.images image (left_now old image before))) (λ after. taken (applied q) p.cut after) (ran.shown.each (length old.past) image (omega arith) left)
 
 -- An image with a study of a control of version 2.
 

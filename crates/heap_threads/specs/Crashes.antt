@@ -1,11 +1,11 @@
 -- What a crash left of a run of threads, at whatever moment it came (this project's own).
-use Rattle.std.specs.Prelude.{ℕ, ◌≡◌, ◌⊎◌, ◌≤◌, Bool, true, List, length}
+use Rattle.std.specs.Prelude.{ℕ, ◌≡◌, ◌⊎◌, ◌≤◌, List, length}
 use Rattle.heap_model.specs.declared.event.Event.{Event}
 use Rattle.heap_model.specs.Log.{IsLegal}
 use Rattle.heap_model.specs.Setting.{Setting}
 use Rattle.block_disk.specs.Device.{Device}
-use Rattle.durable.specs.Runs.{HasRun}
-use Rattle.durable.specs.Store.{Known, HasPast}
+use Rattle.round_store.specs.Runs.{HasRun}
+use Rattle.round_store.specs.Store.{Known, HasPast}
 use Rattle.image.specs.Recovered.{IsRecovered}
 use Rattle.image.specs.declared.guard_row.GuardRow.{GuardRow}
 use Rattle.image.specs.declared.layout.Layout.{Layout}
@@ -43,15 +43,17 @@ pub record KeepsSome (h : Home) (l : Layout) (old new : Device) : Type 0 where
   -- ones of each legal history that goes on from it.
   pub each : KeepsSeen h l seen old new
 
--- Calls of a store that had been told nothing have made the one device of the other; the last of them may be cut off. What they have
+-- A store that had been told nothing has run from the one device to the other; a fault may have cut its last call off. What it has
 -- applied is a legal log. Recovery takes whatever a crash left meanwhile.
 pub record IsLeftByCalls (h : Home) (l : Layout) (opened new : Device) : Type 0 where
   pub began : Known
   pub nothing : HasPast began (plan h) no_past opened
   pub layout : began.layout ≡ l
+  pub threads : began.threads ≡ h.plan.lanes
   pub now : Past
-  -- Where the closing after threads was stopped, the device is what calls of its store have made.
-  pub ran : HasRun l (plan h) no_past opened now new true
+  -- Where the closing after threads was stopped, whatever a crash left since the opening shows a whole closed cut of a beginning of what
+  -- was applied.
+  pub ran : HasRun l h.plan.lanes (plan h) no_past opened now new
   -- Where the closing after threads was stopped, what these calls have applied is a legal log.
   pub legal : IsLegal (plan h) (applied now)
   -- Where the closing after threads was stopped, recovery accepts whatever a crash left since the opening.
@@ -63,7 +65,7 @@ pub record IsLeftByCalls (h : Home) (l : Layout) (opened new : Device) : Type 0 
 pub record IsLeftBehind (h : Home) (l : Layout) (opened new : Device) : Type 0 where
   pub ended : List Ended
   pub none : HoldNone ended
-  pub complete : IsComplete l.lanes ended
+  pub complete : IsComplete h.plan.lanes ended
   pub closed : Device
   pub ran : IsClosed h l ended closed
   -- After the closing, recovery would have kept whole sections of the closing's history at each moment before.
@@ -75,7 +77,7 @@ pub record IsLeftBehind (h : Home) (l : Layout) (opened new : Device) : Type 0 w
 
 -- What recovery makes of each image that a crash left at any moment since a heap was opened on the one device, where its run was stopped so on the other, and what
 -- that one is. It takes them all. Where a round was refused, or a body held a monitor, or memory was wanting before the heap was closed, it keeps whole sections of
--- one history, each with all that it depends on; where the closing was stopped, the device is what calls of its store have made; and behind the closing it
+-- one history, each with all that it depends on; where the closing was stopped, the device is what its store has run to; and behind the closing it
 -- is what a recovery leaves.
 abbrev pub CrashesOf : Home → Layout → (opened new : Device) → RunError → Type 0
 CrashesOf h l opened new NoMemory = KeepsSome h l opened new ⊎ IsLeftBehind h l opened new
@@ -90,9 +92,9 @@ CrashesOf h l opened new _ = ⊥
 abbrev pub RecoveredLaw : Type 0
 RecoveredLaw = (d : Device) (l : Layout) (rows : List GuardRow) (slot : Slot) (sequence : ℕ) (heap : List ℕ) → IsRecovered d l rows slot sequence heap → TakesEach d d
 
--- It does of a run of store calls.
+-- It does of a run of a store.
 abbrev pub RunTakenLaw : Type 0
-RunTakenLaw = (x : Known) (s : Setting) (p q : Past) (old new : Device) (has_failed : Bool) → HasPast x s p old → HasRun x.layout s p old q new has_failed → TakesEach old new
+RunTakenLaw = (x : Known) (s : Setting) (p q : Past) (old new : Device) → HasPast x s p old → HasRun x.layout x.threads s p old q new → TakesEach old new
 
 -- And then of a recovery of what that left, wherever it ends.
 abbrev pub RecoveryTakenLaw : Type 0

@@ -2,6 +2,8 @@
 pub mod Outcomes
 pub mod Stops
 pub mod Runs
+-- How many lanes the image of a heap has for its threads.
+pub mod ImageLanes
 -- What a thread's calls say, and what `durable` keeps.
 pub mod Threads
 pub mod Durable

@@ -1,5 +1,5 @@
 -- What is known of a heap whose threads have come back (this project's own).
-use Rattle.std.specs.Prelude.{◌≡◌, ◌≤◌, All, Some, false}
+use Rattle.std.specs.Prelude.{ℕ, ◌≡◌, ◌≤◌, All, Some, false}
 use Rattle.std.specs.List.{range_with_len}
 use Rattle.block_disk.specs.Device.{Device}
 use Rattle.guards.specs.Schema.{Declarations}
@@ -23,14 +23,14 @@ IsHanded h w y r = (a : Answer) × (w.answer ≡ Some a) × (r ≡ record { shar
 
 -- what a body does, and the device of a disk
 module _ (does : Home → Session → Session → Answer → Type 0) {D : Type 0} (device : D → Device) where
-  -- The helper of a heap whose threads have come back hasn't failed. There is one session a lane, which has ended ready to meet it, and a body was called
+  -- The helper of a heap whose threads have come back hasn't failed. There is one session a thread, which has ended ready to meet it, and a body was called
   -- for each.
   pub record IsBack (r : Returned D) : Type 0 where
     pub helping : IsHelping device r.shared r.helper
     pub running : r.helper.store.known.has_failed ≡ false
     pub ended : All (IsEnded r.shared r.helper.store.known.layout.capacity r.helper.rings) r.ended.items
-    pub lanes : lanes_ended r.ended.items ≡ range_with_len 0 r.helper.store.known.layout.lanes
-    -- A body was called for each lane of a heap whose threads have come back, and has done with its session what its
+    pub lanes : lanes_ended r.ended.items ≡ range_with_len 0 r.shared.plan.lanes
+    -- A body was called for each thread of a heap whose threads have come back, and has done with its session what its
     -- `Work` says. What is answered is the refusal of the least lane whose body has answered one.
     pub called : WereCalled does r.shared r.helper.store.known.layout.capacity r.answer r.ended.items
 
@@ -41,9 +41,9 @@ module _ (does : Home → Session → Session → Answer → Type 0) {D : Type 0
     pub lives : LivesOn device h helper r.helper
     pub back : IsBack r
 
-  -- The threads of a heap of this schema have come back, which began with an image in this state.
-  pub record HasReturned (schema : Declarations) (was : Parts D) (r : Returned D) : Type 0 where
-    pub plan : IsHomeOf schema was.heap was.layout.lanes r.shared
+  -- So many threads of a heap of this schema have come back, which began with an image in this state.
+  pub record HasReturned (schema : Declarations) (threads : ℕ) (was : Parts D) (r : Returned D) : Type 0 where
+    pub plan : IsHomeOf schema was.heap threads r.shared
     pub layout : r.helper.store.known.layout ≡ was.layout
     pub later : (device was.disk).failures ≤ (device r.helper.store.disk).failures
     pub past : Past

@@ -19,24 +19,25 @@ use Rattle.session.specs.declared.session.Session.{Session}
 use Rattle.store_image.specs.Formatting.{RefusesFormat, layout_with}
 use Rattle.trim_helper.specs.Opening.{FitsSchema}
 use Rattle.heap_threads.specs.Bodies.{Answer}
+use Rattle.heap_threads.specs.ImageLanes.{HasLanesFor, lanes_for}
 use Rattle.heap_threads.specs.Outcomes.{HasRunFrom}
 use Rattle.heap_threads.specs.Stops.{StopsRun}
 use Rattle.heap_threads.specs.declared.error.RunError.{RunError}
 use Rattle.heap_threads.specs.declared.error.RunError.TheVariants.{Image, Recover, OtherSchema}
 use Rattle.heap_threads.specs.declared.outcome.Outcome.{Outcome}
 
--- an image of this layout with these guard rows is of this schema, with so many lanes
-pub record IsOf (schema : Declarations) (lanes : ℕ) (layout : Layout) (guards : List GuardRow) : Type 0 where
-  pub lanes_are : layout.lanes ≡ lanes
+-- an image of this layout with these guard rows is of this schema, with lanes for so many threads
+pub record IsOf (schema : Declarations) (threads : ℕ) (layout : Layout) (guards : List GuardRow) : Type 0 where
+  pub lanes : HasLanesFor threads layout.lanes
   pub fits : FitsSchema schema layout guards
 
 -- this is such an image
-abbrev pub Holds : (schema : Declarations) (lanes : ℕ) (image : List ℕ) → Type 0
-Holds schema lanes image = (s : Study) × IsStudyOf image s × IsOf schema lanes s.layout s.guards.items
+abbrev pub Holds : (schema : Declarations) (threads : ℕ) (image : List ℕ) → Type 0
+Holds schema threads image = (s : Study) × IsStudyOf image s × IsOf schema threads s.layout s.guards.items
 
 -- this is an image, and none of these
-abbrev pub HoldsAnother : (schema : Declarations) (lanes : ℕ) (image : List ℕ) → Type 0
-HoldsAnother schema lanes image = (s : Study) × IsStudyOf image s × (IsOf schema lanes s.layout s.guards.items → ⊥)
+abbrev pub HoldsAnother : (schema : Declarations) (threads : ℕ) (image : List ℕ) → Type 0
+HoldsAnother schema threads image = (s : Study) × IsStudyOf image s × (IsOf schema threads s.layout s.guards.items → ⊥)
 
 -- the image on a device isn't studied
 abbrev pub RefusesStudy : (old new : Device) → RecoverError → Type 0
@@ -44,10 +45,10 @@ RefusesStudy old new recover.Fault = HasFailed old.failures new.failures
 RefusesStudy old new e = RefusesImage old.now.bytes e
 
 -- an image isn't one with which threads of this schema go on: it is only read
-abbrev pub RefusesLook : (schema : Declarations) (lanes : ℕ) (old new : Device) → RunError → Type 0
-RefusesLook schema lanes old new (Recover e) = RefusesStudy old new e
-RefusesLook schema lanes old new OtherSchema = HoldsAnother schema lanes old.now.bytes
-RefusesLook schema lanes old new _ = ⊥
+abbrev pub RefusesLook : (schema : Declarations) (threads : ℕ) (old new : Device) → RunError → Type 0
+RefusesLook schema threads old new (Recover e) = RefusesStudy old new e
+RefusesLook schema threads old new OtherSchema = HoldsAnother schema threads old.now.bytes
+RefusesLook schema threads old new _ = ⊥
 
 -- why an image that was studied isn't recovered
 abbrev pub RefusesFinding : (old new : Device) → RecoverError → Type 0
@@ -76,67 +77,67 @@ pub record IsMadeOf {D : Type 0} (device : D → Device) (schema : Declarations)
   -- An image that was made for threads is what formatting the given device has made, so that no earlier image is kept.
   pub calls : device made.disk ≡ after (format_calls made.layout schema) old
 
--- Recovery has found this image of this schema with so many lanes on this device, of which it has told this.
-pub record HasFound {D : Type 0} (device : D → Device) (schema : Declarations) (lanes : ℕ) (old : Device) (report : Report) (was : Parts D) : Type 0 where
+-- Recovery has found this image of this schema, with lanes for so many threads, on this device, of which it has told this.
+pub record HasFound {D : Type 0} (device : D → Device) (schema : Declarations) (threads : ℕ) (old : Device) (report : Report) (was : Parts D) : Type 0 where
   pub found : IsRecovery old (device was.disk) was report
-  -- A heap that was found for threads is of their schema, with a lane for each.
-  pub theirs : IsOf schema lanes was.layout was.guards
+  -- A heap that was found for threads is of their schema, with a lane for each thread.
+  pub theirs : IsOf schema threads was.layout was.guards
   pub later : old.failures ≤ (device was.disk).failures
 
--- no image of this schema with so many lanes is found on a device
-abbrev pub RefusesFound : (schema : Declarations) (lanes : ℕ) (old new : Device) → RunError → Type 0
-RefusesFound schema lanes old new OtherSchema = HoldsAnother schema lanes old.now.bytes × SameMoments old new
-RefusesFound schema lanes old new (Recover e) = (RefusesStudy old new e × SameMoments old new) ⊎ (Holds schema lanes old.now.bytes × IsNotFound old new e)
-RefusesFound schema lanes old new _ = ⊥
+-- no image of this schema with lanes for so many threads is found on a device
+abbrev pub RefusesFound : (schema : Declarations) (threads : ℕ) (old new : Device) → RunError → Type 0
+RefusesFound schema threads old new OtherSchema = HoldsAnother schema threads old.now.bytes × SameMoments old new
+RefusesFound schema threads old new (Recover e) = (RefusesStudy old new e × SameMoments old new) ⊎ (Holds schema threads old.now.bytes × IsNotFound old new e)
+RefusesFound schema threads old new _ = ⊥
 
 -- what a body does, and the device of a disk
 module _ (does : Home → Session → Session → Answer → Type 0) {D : Type 0} (device : D → Device) where
-  -- A heap ran from its beginning: on the image that formatting this device had made.
-  pub record HasRunNew (schema : Declarations) (lanes capacity : ℕ) (old : Device) (now : Parts D) (outcome : Outcome) : Type 0 where
+  -- A heap ran with so many threads from its beginning: on the image that formatting this device had made for them.
+  pub record HasRunNew (schema : Declarations) (threads capacity : ℕ) (old : Device) (now : Parts D) (outcome : Outcome) : Type 0 where
     pub was : Parts D
-    pub made : IsMadeOf device schema lanes capacity old was
-    pub ran : HasRunFrom does device schema was now outcome
+    pub made : IsMadeOf device schema (lanes_for threads) capacity old was
+    pub ran : HasRunFrom does device schema threads was now outcome
 
-  -- A heap of this schema with so many lanes ran on: from what recovery found on this device, of which it has told this.
-  pub record HasRunOn (schema : Declarations) (lanes : ℕ) (old : Device) (report : Report) (now : Parts D) (outcome : Outcome) : Type 0 where
+  -- A heap of this schema with so many threads ran on: from what recovery found on this device, of which it has told this.
+  pub record HasRunOn (schema : Declarations) (threads : ℕ) (old : Device) (report : Report) (now : Parts D) (outcome : Outcome) : Type 0 where
     pub was : Parts D
     pub found : IsRecovery old (device was.disk) was report
-    -- The heap that threads go on with is of their schema, with a lane for each.
-    pub theirs : IsOf schema lanes was.layout was.guards
-    pub ran : HasRunFrom does device schema was now outcome
+    -- The heap that threads go on with is of their schema, with a lane for each thread.
+    pub theirs : IsOf schema threads was.layout was.guards
+    pub ran : HasRunFrom does device schema threads was now outcome
 
   -- A run was stopped that had begun on an image in this state. Until it began the device had failed no less often than at first.
-  pub record IsStoppedThere (schema : Declarations) (old : Device) (was : Parts D) (new : Device) (e : RunError) : Type 0 where
+  pub record IsStoppedThere (schema : Declarations) (threads : ℕ) (old : Device) (was : Parts D) (new : Device) (e : RunError) : Type 0 where
     pub later : old.failures ≤ (device was.disk).failures
     -- A run of threads on a new image, or on one that was found, is stopped only as a run of its heap is.
-    pub stops : StopsRun does device schema was new e
+    pub stops : StopsRun does device schema threads was new e
 
   -- it had begun on the image that formatting the device had made
-  pub record IsStoppedFirst (schema : Declarations) (lanes capacity : ℕ) (old new : Device) (e : RunError) : Type 0 where
+  pub record IsStoppedFirst (schema : Declarations) (threads capacity : ℕ) (old new : Device) (e : RunError) : Type 0 where
     pub was : Parts D
-    pub made : IsMadeOf device schema lanes capacity old was
-    pub stopped : IsStoppedThere schema old was new e
+    pub made : IsMadeOf device schema (lanes_for threads) capacity old was
+    pub stopped : IsStoppedThere schema threads old was new e
 
   -- it had begun from what recovery found on the device
-  pub record IsStoppedLater (schema : Declarations) (lanes : ℕ) (old new : Device) (e : RunError) : Type 0 where
+  pub record IsStoppedLater (schema : Declarations) (threads : ℕ) (old new : Device) (e : RunError) : Type 0 where
     pub was : Parts D
     pub report : Report
     pub found : IsRecovery old (device was.disk) was report
-    pub theirs : IsOf schema lanes was.layout was.guards
-    pub stopped : IsStoppedThere schema old was new e
+    pub theirs : IsOf schema threads was.layout was.guards
+    pub stopped : IsStoppedThere schema threads old was new e
 
   -- an image of this schema isn't recovered, or the run on it was stopped
-  abbrev pub RefusesGoingOn : (schema : Declarations) (lanes : ℕ) (old new : Device) → RunError → Type 0
-  RefusesGoingOn schema lanes old new (Recover e) = IsNotFound old new e ⊎ IsStoppedLater schema lanes old new (Recover e)
-  RefusesGoingOn schema lanes old new e = IsStoppedLater schema lanes old new e
+  abbrev pub RefusesGoingOn : (schema : Declarations) (threads : ℕ) (old new : Device) → RunError → Type 0
+  RefusesGoingOn schema threads old new (Recover e) = IsNotFound old new e ⊎ IsStoppedLater schema threads old new (Recover e)
+  RefusesGoingOn schema threads old new e = IsStoppedLater schema threads old new e
 
   -- threads don't run on an image that is to be made of a device
-  abbrev pub RefusesNew : (schema : Declarations) (lanes capacity : ℕ) (old new : Device) → RunError → Type 0
-  RefusesNew schema lanes capacity old new (Image e) = RefusesFormat schema lanes capacity old new e
-  RefusesNew schema lanes capacity old new e = IsStoppedFirst schema lanes capacity old new e
+  abbrev pub RefusesNew : (schema : Declarations) (threads capacity : ℕ) (old new : Device) → RunError → Type 0
+  RefusesNew schema threads capacity old new (Image e) = RefusesFormat schema (lanes_for threads) capacity old new e
+  RefusesNew schema threads capacity old new e = IsStoppedFirst schema threads capacity old new e
 
   -- threads don't go on with the image on a device
-  abbrev pub RefusesOn : (schema : Declarations) (lanes : ℕ) (old new : Device) → RunError → Type 0
-  RefusesOn schema lanes old new OtherSchema = HoldsAnother schema lanes old.now.bytes × SameMoments old new
-  RefusesOn schema lanes old new (Recover e) = (RefusesStudy old new e × SameMoments old new) ⊎ (Holds schema lanes old.now.bytes × RefusesGoingOn schema lanes old new (Recover e))
-  RefusesOn schema lanes old new e = Holds schema lanes old.now.bytes × RefusesGoingOn schema lanes old new e
+  abbrev pub RefusesOn : (schema : Declarations) (threads : ℕ) (old new : Device) → RunError → Type 0
+  RefusesOn schema threads old new OtherSchema = HoldsAnother schema threads old.now.bytes × SameMoments old new
+  RefusesOn schema threads old new (Recover e) = (RefusesStudy old new e × SameMoments old new) ⊎ (Holds schema threads old.now.bytes × RefusesGoingOn schema threads old new (Recover e))
+  RefusesOn schema threads old new e = Holds schema threads old.now.bytes × RefusesGoingOn schema threads old new e

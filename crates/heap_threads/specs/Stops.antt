@@ -57,7 +57,7 @@ LosesClosed closed new _ = ⊥
 pub record IsLostAfter (h : Home) (l : Layout) (old new : Device) (e : RecoverError) : Type 0 where
   pub ended : List Ended
   pub none : HoldNone ended
-  pub complete : IsComplete l.lanes ended
+  pub complete : IsComplete h.plan.lanes ended
   pub closed : Device
   pub later : old.failures ≤ closed.failures
   pub ran : IsClosed h l ended closed
@@ -65,7 +65,7 @@ pub record IsLostAfter (h : Home) (l : Layout) (old new : Device) (e : RecoverEr
   -- has failed since, memory ran out, or its control is at its last sequence.
   pub refused : LosesClosed closed new e
 
--- the words of a heap of this schema that begins with these values, of so many lanes
+-- the words of a heap of this schema that begins with these values, with so many lanes for threads
 abbrev pub IsHomeOf : Declarations → (values : List ℕ) → (lanes : ℕ) → Home → Type 0
 IsHomeOf schema values lanes h = h.plan ≡ record { schema = schema; first = values; last = LAST_NUMBER; lanes = lanes }
 
@@ -87,11 +87,11 @@ module _ (does : Home → Session → Session → Answer → Type 0) where
 
 -- what a body does, and the device of a disk
 module _ (does : Home → Session → Session → Answer → Type 0) {D : Type 0} (device : D → Device) where
-  -- A heap of this schema ran on an image in this state, and was stopped. Of whatever a crash left since then, at any moment of the run, of the closing,
+  -- A heap of this schema ran with so many threads on an image in this state, and was stopped. Of whatever a crash left since then, at any moment of the run, of the closing,
   -- and of the recovery behind it, recovery makes this.
-  pub record IsStopped (schema : Declarations) (was : Parts D) (new : Device) (e : RunError) : Type 0 where
+  pub record IsStopped (schema : Declarations) (threads : ℕ) (was : Parts D) (new : Device) (e : RunError) : Type 0 where
     pub shared : Home
-    pub plan : IsHomeOf schema was.heap was.layout.lanes shared
+    pub plan : IsHomeOf schema was.heap threads shared
     -- A run of threads is refused with its cause: a lane that got no thread leaves the device as it was; `Unfinished`
     -- means that a body has ended with a monitor held; and a round, a closing or a recovery is refused by a fault of the
     -- device since the run began, or because its control is at its last sequence.
@@ -99,8 +99,8 @@ module _ (does : Home → Session → Session → Answer → Type 0) {D : Type 0
     -- Where a run of threads is stopped, whatever the refusal, recovery accepts whatever a crash left since it began.
     pub crashes : CrashesOf shared was.layout (device was.disk) new e
 
-  -- Why a run of a heap of this schema is stopped, on an image in this state: memory was wanting before there was a heap, so that nothing was done; or there
+  -- Why a run of so many threads on a heap of this schema is stopped, on an image in this state: memory was wanting before there was a heap, so that nothing was done; or there
   -- is a cause. Either way recovery takes whatever a crash left since then.
-  abbrev pub StopsRun : (schema : Declarations) → (was : Parts D) → (new : Device) → RunError → Type 0
-  StopsRun schema was new NoMemory = ((new ≡ device was.disk) × TakesEach (device was.disk) new) ⊎ IsStopped schema was new NoMemory
-  StopsRun schema was new e = IsStopped schema was new e
+  abbrev pub StopsRun : (schema : Declarations) (threads : ℕ) → (was : Parts D) → (new : Device) → RunError → Type 0
+  StopsRun schema threads was new NoMemory = ((new ≡ device was.disk) × TakesEach (device was.disk) new) ⊎ IsStopped schema threads was new NoMemory
+  StopsRun schema threads was new e = IsStopped schema threads was new e

@@ -4,20 +4,22 @@ ghost use Rattle.heap_threads.specs.Durable.{KeepsDurableAtRestLaw, KeepsDurable
 
 use block_disk::Disk;
 use recover::{one_study_law, studied_law};
+use round_survival::two_syncs_law;
 use running_life::stable_law;
 use survival::has_study_law;
 
-/// Recovery takes whatever a crash left of a device that was recovered, at any moment of a run of store calls behind that, and at any
+/// Recovery takes whatever a crash left of a device that was recovered, at any moment of a run of its store behind that, and at any
 /// moment of a recovery of what the run left.
 pub fn taken_law()
     // Recovery accepts whatever a crash leaves of a device that was recovered, and on which nothing was done since.
     ensures recovered { RecoveredLaw }
-    // Recovery accepts whatever a crash left at any moment of a run of store calls.
+    // Recovery accepts whatever a crash left at any moment of a run of a store.
     ensures run { RunTakenLaw }
     // Recovery accepts whatever a crash left of a recovery of what such a run left, wherever that ended.
     ensures recovery { RecoveryTakenLaw }
 {
     has_study_law();
+    two_syncs_law();
     one_study_law();
     studied_law();
 }
@@ -27,7 +29,7 @@ pub fn taken_law()
 /// thread's lane. They are of one legal history, in which each lane's part is just what its session had been told when the crash came.
 /// [`stable_law`] says more; this is what it says of `durable`.
 pub fn durable_law<D: Disk>()
-    // What a thread had ended when `durable` answered Ok no crash takes back, at any moment of any run of store calls
+    // What a thread had ended when `durable` answered Ok no crash takes back, at any moment of any run of its store
     // since, though the heap is never closed.
     ensures since { KeepsDurableLaw D.device }
     // What a thread had ended when `durable` answered Ok is kept of a crash in a round, whatever that answers.

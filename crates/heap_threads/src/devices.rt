@@ -12,6 +12,7 @@ ghost use Rattle.trim_helper.specs.Opening.{FitsSchema};
 
 use crate::error::RunError;
 use crate::fitting::is_of;
+use crate::image_lanes::{has_lanes_for, lanes_for};
 use crate::outcome::Outcome;
 use crate::running::run_heap;
 use crate::work::Work;
@@ -33,8 +34,8 @@ pub struct Ran<D: Disk> {
     pub outcome: Outcome,
 }
 
-/// Makes an image of the device, with so many lanes of so many records, and lets a thread for each lane do this work on it
-/// ([`run_heap`]).
+/// Makes an image of the device for so many threads, with lanes of so many records, and lets the threads do this work on it
+/// ([`run_heap`]). It has a lane for each, and one for the helper where there are fewer than 32 ([`lanes_for`]).
 ///
 /// Refusals, in this order, each with the device: `Image`: no image was made, for the reasons of [`Store::format`]; those of
 /// [`run_heap`].
@@ -43,17 +44,18 @@ pub fn run_new<D: Disk + Drop, W: Work + Sync, R: Threads + Wait + Sync>(
     alloc: Global,
     disk: D,
     schema: Schema,
-    lanes: u8,
+    threads: u8,
     capacity: u32,
     work: &W,
 ) -> Result<Ran<D>, (D, RunError)>
     // Threads that begin on a new image run on what formatting the given device has made.
-    ensures ok { IfOk result (λ r. HasRunNew (W.does work.now) D.device schema lanes capacity (D.device disk) r.recovered r.outcome) }
+    ensures ok { IfOk result (λ r. HasRunNew (W.does work.now) D.device schema threads capacity (D.device disk) r.recovered r.outcome) }
     // Threads get no new image only where `Store::format` refuses it. Else they are stopped only as their heap's run is.
-    ensures refused { IfErr result (λ back. RefusesNew (W.does work.now) D.device schema lanes capacity (D.device disk) (D.device back.0) back.1) }
+    ensures refused { IfErr result (λ back. RefusesNew (W.does work.now) D.device schema threads capacity (D.device disk) (D.device back.0) back.1) }
 {
+    let lanes = lanes_for(threads);
     match make_heap(alloc, disk, &schema, lanes, capacity) {
-        Ok(made) => run_there(rt, alloc, made, schema, work),
+        Ok(made) => run_there(rt, alloc, made, schema, threads, work),
         Err((disk, refusal)) => {
             drop(schema);
             Err((disk, RunError::Image(refusal)))
@@ -83,12 +85,12 @@ pub fn make_heap<D: Disk>(
     }
 }
 
-/// Recovers the image that is on the device, maybe after a crash, and lets a thread for each lane do this work on it ([`run_heap`]). It
+/// Recovers the image that is on the device, maybe after a crash, and lets so many threads do this work on it ([`run_heap`]). It
 /// tells what recovery kept and dropped.
 ///
 /// Refusals, in this order, each with the device; but for the last two it is as it was:
 /// - `Recover`: the image is refused by [`study`];
-/// - `OtherSchema`: it isn't one of this schema with so many lanes;
+/// - `OtherSchema`: it isn't one of this schema, or hasn't as many lanes as there are threads, or one more;
 /// - `Recover`: it wasn't recovered, for want of memory, by a fault, since it is of version 1, or since its control is worn. It is as it
 ///   was then, but that a sync was made; or after a fault, maybe on recovery's way;
 /// - those of [`run_heap`].
@@ -97,25 +99,25 @@ pub fn run_on<D: Disk + Drop, W: Work + Sync, R: Threads + Wait + Sync>(
     alloc: Global,
     disk: D,
     schema: Schema,
-    lanes: u8,
+    threads: u8,
     work: &W,
 ) -> Result<(Ran<D>, Report), (D, RunError)>
     // Threads that go on with an image begin with the heap that recovery found on the device.
-    ensures ok { IfOk result (λ r. HasRunOn (W.does work.now) D.device schema lanes (D.device disk) r.1 r.0.recovered r.0.outcome) }
-    // Threads go on only with an image of their schema that has a lane for each.
-    ensures theirs { IfOk result (λ r. Holds schema lanes (D.device disk).now.bytes) }
+    ensures ok { IfOk result (λ r. HasRunOn (W.does work.now) D.device schema threads (D.device disk) r.1 r.0.recovered r.0.outcome) }
+    // Threads go on only with an image of their schema that has a lane for each, and at most one more.
+    ensures theirs { IfOk result (λ r. Holds schema threads (D.device disk).now.bytes) }
     // A device that holds no image is refused by the reason of its study, and one that holds another image as of another
     // schema. Either is only read.
-    ensures refused { IfErr result (λ back. RefusesOn (W.does work.now) D.device schema lanes (D.device disk) (D.device back.0) back.1) }
+    ensures refused { IfErr result (λ back. RefusesOn (W.does work.now) D.device schema threads (D.device disk) (D.device back.0) back.1) }
 {
-    let (found, report) = match find_heap(alloc, disk, &schema, lanes) {
+    let (found, report) = match find_heap(alloc, disk, &schema, threads) {
         Ok(found) => found,
         Err(back) => {
             drop(schema);
             return Err(back);
         }
     };
-    match run_there(rt, alloc, found, schema, work) {
+    match run_there(rt, alloc, found, schema, threads, work) {
         Ok(ran) => Ok((ran, report)),
         Err(back) => {
             drop(report);
@@ -124,40 +126,42 @@ pub fn run_on<D: Disk + Drop, W: Work + Sync, R: Threads + Wait + Sync>(
     }
 }
 
-/// Recovers the image that is on the device, maybe after a crash, where it is of this schema with so many lanes.
+/// Recovers the image that is on the device, maybe after a crash, where it is of this schema, with as many lanes as there are
+/// threads, or one more.
 ///
 /// Refusals, in this order, each with the device; but for the last it is as it was:
 /// - `Recover`: the image is refused by [`study`];
-/// - `OtherSchema`: it isn't one of this schema with so many lanes;
+/// - `OtherSchema`: it isn't one of this schema, or hasn't as many lanes as there are threads, or one more;
 /// - `Recover`: it wasn't recovered, for want of memory, by a fault, since it is of version 1, or since its control is worn. It is as it
 ///   was then, but that a sync was made; or after a fault, maybe on recovery's way.
 pub fn find_heap<D: Disk>(
     alloc: Global,
     disk: D,
     schema: &Schema,
-    lanes: u8,
+    threads: u8,
 ) -> Result<(Recovered<D>, Report), (D, RunError)>
     // A heap is found for threads by a recovery of the device.
-    ensures found { IfOk result (λ r. HasFound D.device schema.now lanes (D.device disk) r.1 r.0) }
-    // A heap is found for threads only where the device holds an image of their schema with a lane for each.
-    ensures theirs { IfOk result (λ r. Holds schema.now lanes (D.device disk).now.bytes) }
+    ensures found { IfOk result (λ r. HasFound D.device schema.now threads (D.device disk) r.1 r.0) }
+    // A heap is found for threads only where the device holds an image of their schema with a lane for each, and at most
+    // one more.
+    ensures theirs { IfOk result (λ r. Holds schema.now threads (D.device disk).now.bytes) }
     // No heap is found for threads only where the image's study, its schema or its recovery refuses it.
-    ensures refused { IfErr result (λ back. RefusesFound schema.now lanes (D.device disk) (D.device back.0) back.1) }
+    ensures refused { IfErr result (λ back. RefusesFound schema.now threads (D.device disk) (D.device back.0) back.1) }
 {
     let mut disk = disk;
-    if let Err(refusal) = look(alloc, &mut disk, schema, lanes) {
+    if let Err(refusal) = look(alloc, &mut disk, schema, threads) {
         return Err((disk, refusal));
     }
-    match find(alloc, disk, schema, lanes) {
+    match find(alloc, disk, schema, threads) {
         Ok(found) => Ok(found),
         Err((disk, refusal)) => Err((disk, RunError::Recover(refusal))),
     }
 }
 
-// Whether the image is of this schema with so many lanes. The device is only read.
-fn look<D: Disk>(alloc: Global, disk: &mut D, schema: &Schema, lanes: u8) -> Result<(), RunError>
-    ensures ok { OnOk result (Holds schema.now lanes (D.device disk.old).now.bytes) }
-    ensures refused { IfErr result (RefusesLook schema.now lanes (D.device disk.old) (D.device disk.new)) }
+// Whether the image is of this schema, with lanes for so many threads. The device is only read.
+fn look<D: Disk>(alloc: Global, disk: &mut D, schema: &Schema, threads: u8) -> Result<(), RunError>
+    ensures ok { OnOk result (Holds schema.now threads (D.device disk.old).now.bytes) }
+    ensures refused { IfErr result (RefusesLook schema.now threads (D.device disk.old) (D.device disk.new)) }
     ensures same { SameMoments (D.device disk.old) (D.device disk.new) }
     ensures failures { (D.device disk.old).failures ≤ (D.device disk.new).failures }
 {
@@ -165,18 +169,18 @@ fn look<D: Disk>(alloc: Global, disk: &mut D, schema: &Schema, lanes: u8) -> Res
         Ok(study) => study,
         Err(refusal) => return Err(RunError::Recover(refusal)),
     };
-    if is_theirs(schema, &study, lanes) {
+    if is_theirs(schema, &study, threads) {
         return Ok(());
     }
     Err(RunError::OtherSchema)
 }
 
-// Whether an image with this study is of this schema with so many lanes.
-fn is_theirs(schema: &Schema, study: &Study, lanes: u8) -> bool
+// Whether an image with this study is of this schema, with lanes for so many threads.
+fn is_theirs(schema: &Schema, study: &Study, threads: u8) -> bool
     requires { length study.now.guards.items ≡ study.now.layout.fields }
-    ensures { IsTrue result ↔ IsOf schema.now lanes study.now.layout study.now.guards.items }
+    ensures { IsTrue result ↔ IsOf schema.now threads study.now.layout study.now.guards.items }
 {
-    study.layout.lanes == lanes && is_of(schema, &study.layout, &study.guards)
+    has_lanes_for(threads, study.layout.lanes) && is_of(schema, &study.layout, &study.guards)
 }
 
 // Recovers an image of this schema: it stays one. Refused, it is as it was, or after a fault maybe on recovery's way.
@@ -184,10 +188,10 @@ fn find<D: Disk>(
     alloc: Global,
     disk: D,
     schema: &Schema,
-    lanes: u8,
+    threads: u8,
 ) -> Result<(Recovered<D>, Report), (D, RecoverError)>
-    requires { Holds schema.now lanes (D.device disk).now.bytes }
-    ensures theirs { IfOk result (λ r. IsOf schema.now lanes r.0.layout r.0.guards) }
+    requires { Holds schema.now threads (D.device disk).now.bytes }
+    ensures theirs { IfOk result (λ r. IsOf schema.now threads r.0.layout r.0.guards) }
     ensures found { IfOk result (λ r. IsRecovery (D.device disk) (D.device r.0.disk) r.0 r.1) }
     ensures failures { IfOk result (λ r. (D.device disk).failures ≤ (D.device r.0.disk).failures) }
     ensures refused { IfErr result (λ back. IsNotFound (D.device disk) (D.device back.0) back.1) }
@@ -195,7 +199,7 @@ fn find<D: Disk>(
     one_study_law();
     studied_law();
     let _schema = schema;
-    let _lanes = lanes;
+    let _threads = threads;
     match recover(alloc, disk) {
         Ok(found) => Ok(found),
         Err(back) => Err(back),
@@ -208,13 +212,14 @@ fn run_there<D: Disk + Drop, W: Work + Sync, R: Threads + Wait + Sync>(
     alloc: Global,
     made: Recovered<D>,
     schema: Schema,
+    threads: u8,
     work: &W,
 ) -> Result<Ran<D>, (D, RunError)>
-    requires fits { FitsSchema schema made.layout made.guards }
-    ensures ok { IfOk result (λ r. HasRunFrom (W.does work.now) D.device schema made r.recovered r.outcome) }
-    ensures cause { IfErr result (λ back. StopsRun (W.does work.now) D.device schema made (D.device back.0) back.1) }
+    requires theirs { IsOf schema threads made.layout made.guards }
+    ensures ok { IfOk result (λ r. HasRunFrom (W.does work.now) D.device schema threads made r.recovered r.outcome) }
+    ensures cause { IfErr result (λ back. StopsRun (W.does work.now) D.device schema threads made (D.device back.0) back.1) }
 {
-    match run_heap(rt, alloc, work, schema, made) {
+    match run_heap(rt, alloc, work, schema, made, threads) {
         Ok((recovered, outcome)) => Ok(Ran { recovered, outcome }),
         Err(back) => Err(back),
     }

@@ -1,7 +1,7 @@
 //! Why threads of a heap haven't run to their end.
-use durable::StoreError;
 use image::ImageError;
 use recover::RecoverError;
+use store_past::StoreError;
 use thiserror::Error;
 use trim_helper::CloseError;
 
@@ -29,7 +29,7 @@ pub enum RunError {
     /// The device wasn't recovered.
     #[error("{0}")]
     Recover(RecoverError),
-    /// The image isn't of this schema with so many lanes.
+    /// The image isn't of this schema, with lanes for so many threads.
     #[error("other schema")]
     OtherSchema,
 }

@@ -5,7 +5,7 @@ use session::SessionError;
 /// What threads have left of a heap, by the device that was recovered after them.
 #[derive(Drop)]
 pub struct Outcome {
-    /// How many sections of each lane are acknowledged, since the heap began to run.
+    /// How many sections of each thread are acknowledged, since the heap began to run.
     pub acknowledged: Vec<u64>,
     /// The values of the heap, by field.
     pub heap: Vec<u64>,

@@ -3,6 +3,7 @@ ghost use Rattle.std.specs.Prelude.{◌≡◌, ◌<◌, All, IfErr, IfNone, IfOk
 ghost use Rattle.heap_threads.specs.Returns.{HasReturned, HaveReturned, IsBack, IsHanded};
 ghost use Rattle.std.specs.List.{range_with_len, slice_index_or};
 ghost use Rattle.heap_threads.specs.Bodies.{WereCalled};
+ghost use Rattle.heap_threads.specs.ImageLanes.{HasLanesFor};
 ghost use Rattle.heap_threads.specs.Outcomes.{EndsRun, HasRunFrom, IsTold};
 ghost use Rattle.heap_threads.specs.Serving.{CrashesBy};
 ghost use Rattle.heap_threads.specs.Stops.{StopsBy, StopsEnd, StopsRun, StopsTelling};
@@ -27,16 +28,17 @@ use image::Recovered;
 use lane_rings::RingRecords;
 use monitor::Shared;
 use recover::recover;
+use round_survival::two_syncs_law;
 use running_heap::{RunningHeap, close, joined_law, life_law, open};
 use running_life::{crash_law, round_law};
 use std::alloc::Global;
 use std::sync::Wait;
 use std::thread::Threads;
-use survival::accepted_law;
 use trim_helper::{Ended, Helper};
 
-/// Lets a thread for each lane do this work on a heap of this schema that was recovered, closes the heap, and recovers the device: what
-/// is told is what recovery finds there.
+/// Lets so many threads do this work on a heap of this schema that was recovered, each with a lane of its own, closes the heap, and
+/// recovers the device: what is told is what recovery finds there. Where the image has one lane more, the last one is the helper's, and
+/// a round takes two syncs in place of four.
 ///
 /// A crash may come at any moment of it: recovery takes what that leaves, and keeps whole sections, each with all that it depends on.
 ///
@@ -48,23 +50,25 @@ pub fn run_heap<D: Disk + Drop, W: Work + Sync, R: Threads + Wait + Sync>(
     work: &W,
     schema: Schema,
     recovered: Recovered<D>,
+    threads: u8,
 ) -> Result<(Recovered<D>, Outcome), (D, RunError)>
     requires schema { FitsSchema schema recovered.layout recovered.guards }
-    // A run of threads calls the body of each lane, and what it tells at its end is what recovery gives of the device
+    requires lanes { HasLanesFor threads recovered.layout.lanes }
+    // A run of threads calls the body of each thread, and what it tells at its end is what recovery gives of the device
     // that the closing gave back.
-    ensures ok { IfOk result (λ r. HasRunFrom (W.does work.now) D.device schema recovered r.0 r.1) }
+    ensures ok { IfOk result (λ r. HasRunFrom (W.does work.now) D.device schema threads recovered r.0 r.1) }
     // A run of threads is refused only for the cause that it names, and recovery accepts whatever a crash left since it
     // began.
-    ensures cause { IfErr result (λ back. StopsRun (W.does work.now) D.device schema recovered (D.device back.0) back.1) }
+    ensures cause { IfErr result (λ back. StopsRun (W.does work.now) D.device schema threads recovered (D.device back.0) back.1) }
 {
-    match work_on(rt, alloc, work, schema, recovered) {
+    match work_on(rt, alloc, work, schema, recovered, threads) {
         Ok(returned) => close_returned(alloc, work, returned),
         Err(back) => Err(back),
     }
 }
 
-/// Lets a thread for each lane do this work on a heap of this schema that was recovered, until each body has returned. The heap isn't
-/// closed: whether it is may hang on what the bodies have answered.
+/// Lets so many threads do this work on a heap of this schema that was recovered, until each body has returned. Each has a lane of its
+/// own, and where the image has one lane more, the last one is the helper's. The heap isn't closed: whether it is may hang on what the bodies have answered.
 ///
 /// Refusals, in this order, each with the device as a stop leaves it; it may be recovered:
 /// - `NoMemory`: there was no room for what the threads share. No body was called;
@@ -78,19 +82,28 @@ pub fn work_on<D: Disk + Drop, W: Work + Sync, R: Threads + Wait + Sync>(
     work: &W,
     schema: Schema,
     recovered: Recovered<D>,
+    threads: u8,
 ) -> Result<Returned<D>, (D, RunError)>
     requires schema { FitsSchema schema recovered.layout recovered.guards }
-    // Threads come back from a heap of their schema, and a body was called for each of its lanes.
-    ensures ok { IfOk result (HasReturned (W.does work.now) D.device schema recovered) }
+    requires lanes { HasLanesFor threads recovered.layout.lanes }
+    // Threads come back from a heap of their schema, and a body was called for each of them.
+    ensures ok { IfOk result (HasReturned (W.does work.now) D.device schema threads recovered) }
     // Threads that don't come back are stopped only for the cause that is named, and recovery accepts whatever a crash
     // left since they began.
-    ensures cause { IfErr result (λ back. StopsRun (W.does work.now) D.device schema recovered (D.device back.0) back.1) }
+    ensures cause { IfErr result (λ back. StopsRun (W.does work.now) D.device schema threads recovered (D.device back.0) back.1) }
 {
     taken_law();
     life_law::<D>();
     round_law::<D>();
     let _layout = recovered.layout();
-    match open(alloc, schema, recovered, LAST_NUMBER, RingRecords::usual()) {
+    match open(
+        alloc,
+        schema,
+        recovered,
+        threads,
+        LAST_NUMBER,
+        RingRecords::usual(),
+    ) {
         Ok(heap) => run(rt, alloc, work, heap),
         Err((disk, _)) => Err((disk, RunError::NoMemory)),
     }
@@ -105,7 +118,7 @@ fn run<D: Disk + Drop, W: Work + Sync, R: Threads + Wait + Sync>(
 ) -> Result<Returned<D>, (D, RunError)>
     requires joined { All (IsJoined heap.shared heap.helper.store.known.layout.capacity heap.helper.rings) heap.sessions.items }
     requires new { AreNew 0 heap.sessions.items }
-    requires count { length heap.sessions.items ≡ heap.helper.store.known.layout.lanes }
+    requires count { length heap.sessions.items ≡ heap.shared.plan.lanes }
     requires helping { IsHelping D.device heap.shared heap.helper }
     requires running { heap.helper.store.known.has_failed ≡ false }
     ensures ok { IfOk result (HaveReturned (W.does work.now) D.device heap.shared heap.helper) }
@@ -225,32 +238,34 @@ fn close_all<D: Disk, W: Work>(
     requires helper { IsHelping D.device shared helper }
     requires running { helper.store.known.has_failed ≡ false }
     requires ended { All (IsEnded shared helper.store.known.layout.capacity helper.rings) ended.items }
-    requires lanes { lanes_ended ended.items ≡ range_with_len 0 helper.store.known.layout.lanes }
+    requires lanes { lanes_ended ended.items ≡ range_with_len 0 shared.plan.lanes }
     requires called { WereCalled (W.does work.now) shared helper.store.known.layout.capacity answer ended.items }
     requires none { HoldNone ended.items }
-    requires complete { IsComplete helper.store.known.layout.lanes ended.items }
+    requires complete { IsComplete shared.plan.lanes ended.items }
     ensures ok { IfOk result (λ r. EndsRun (W.does work.now) D.device shared helper r.0 r.1) }
     ensures answer { IfOk result (λ r. r.1.answer ≡ answer) }
     ensures cause { IfErr result (λ back. StopsEnd (W.does work.now) shared helper.store.known.layout (D.device helper.store.disk) (D.device back.0) back.1) }
     ensures crashes { IfErr result (λ back. CrashesBy D.device shared helper (D.device back.0) back.1) }
 {
-    accepted_law();
+    two_syncs_law();
     crash_law::<D>();
     taken_law();
     let _work = work;
+    let threads = helper.threads();
     match close(shared, ended, helper) {
-        Ok(disk) => tell(alloc, answer, disk),
+        Ok(disk) => tell(alloc, answer, threads, disk),
         Err((disk, refusal)) => Err((disk, RunError::Close(refusal))),
     }
 }
 
-// Recovers the device, and tells what is there.
+// Recovers the device, and tells what is there, with the sections of so many lanes.
 fn tell<D: Disk>(
     alloc: Global,
     answer: Answer,
+    lanes: u8,
     disk: D,
 ) -> Result<(Recovered<D>, Outcome), (D, RunError)>
-    ensures ok { IfOk result (λ r. IsTold D.device (D.device disk) r.0 r.1) }
+    ensures ok { IfOk result (λ r. IsTold D.device lanes (D.device disk) r.0 r.1) }
     ensures answer { IfOk result (λ r. r.1.answer ≡ answer) }
     ensures cause { IfErr result (λ back. StopsTelling (D.device disk) (D.device back.0) back.1) }
     ensures cut_off { IfErr result (λ back. IsCutOff (D.device disk) (D.device back.0)) }
@@ -259,7 +274,7 @@ fn tell<D: Disk>(
         Ok(found) => found,
         Err((disk, refusal)) => return Err((disk, RunError::Recover(refusal))),
     };
-    let counts = first_counts(&report.kept.counts, recovered.layout().lanes);
+    let counts = first_counts(&report.kept.counts, lanes);
     let Ok(acknowledged) = counts.to_vec(alloc) else {
         return Err((recovered.into_disk(), RunError::NoMemory));
     };

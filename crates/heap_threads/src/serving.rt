@@ -7,12 +7,12 @@ ghost use Rattle.trim_helper.specs.Heard.{HasSeen};
 
 use crate::bell::Bell;
 use block_disk::Disk;
-use durable::StoreError;
 use monitor::Shared;
 use running_heap::{helping_law, life_law};
 use running_life::round_law;
 use std::sync::Wait;
 use std::thread;
+use store_past::StoreError;
 use trim_helper::{Helper, seen_law};
 
 /// The helper, and why it has stopped.

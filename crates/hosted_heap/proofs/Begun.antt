@@ -26,7 +26,7 @@ not_begun most x y room none tells same looked = record {
   nothing = λ is. same;
   rounds = tt;
   heard = tt;
-  kept = record { home = same.home; unused = same.unused; out = same.out; stop = same.stop; layout = ap (λ (h : Parts Deferred). h.store.known.layout) same.helper };
+  kept = record { home = same.home; unused = same.unused; out = same.out; stop = same.stop; layout = ap (λ (h : Parts Deferred). h.store.known.layout) same.helper; threads = ap (λ (h : Parts Deferred). h.store.known.threads) same.helper };
   calls = looked;
 }
 
@@ -47,6 +47,7 @@ module _ (most : Option ℕ) (x z w : Hosting) (room : Bool) (some : room ≡ tr
     out = kept.out ∙ same.out;
     stop = kept.stop ∙ same.stop;
     layout = kept.layout ∙ ap (λ (h : Parts Deferred). h.store.known.layout) same.helper;
+    threads = kept.threads ∙ ap (λ (h : Parts Deferred). h.store.known.threads) same.helper;
   }
 
   hears : HearsThreads x w

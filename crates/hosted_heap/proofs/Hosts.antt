@@ -5,7 +5,7 @@ use Rattle.block_disk.specs.Memory.{device_of, fresh}
 use Rattle.deferred_disk.specs.Deferred.{Deferred}
 use Rattle.deferred_disk.specs.Host.{Host, IsHostOf, host_name}
 use Rattle.deferred_disk.proofs.Names.{consumer_name}
-use Rattle.durable.specs.Store.{Known}
+use Rattle.round_store.specs.Store.{Known}
 use Rattle.image.specs.Calls.{Call, Write, Sync, after, after_one}
 use Rattle.image.specs.Recovered.{Parts as Recovered}
 use Rattle.image.specs.declared.layout.Layout.{Layout}
@@ -67,7 +67,7 @@ module _ (h : Home) (x : Parts Deferred) (c : Host) (l : Layout) (word : ℕ) (u
   with_helper y k same serving host = record {
     helping = record {
       seat = subst (λ (s : Helping). IsHelper h s) (sym same.seat) was.helping.seat;
-      lanes = was.helping.lanes ∙ ap (λ (z : Known). z.layout.lanes) (sym same.known);
+      lanes = was.helping.lanes ∙ ap (λ (z : Known). z.threads) (sym same.known);
       rings = subst (λ (r : Rings). length r ≡ h.plan.lanes) (sym same.rings) was.helping.rings;
       nobody = ap taken_in same.seat ∙ was.helping.nobody;
       past = was.helping.past;

@@ -7,11 +7,11 @@ use Rattle.deferred_disk.specs.Host.{Fetches, HasLooked, HaveMet, Host}
 use Rattle.deferred_disk.specs.Syncs.{LeftAt, durable_moments, moments_of, syncs_in}
 use Rattle.deferred_disk.specs.declared.call.DeviceCall.{DeviceCall}
 use Rattle.deferred_disk.specs.declared.call.Handed.{Handed}
-use Rattle.durable.specs.Store.{Known, ShowsStep}
+use Rattle.helper_sections.specs.Image.{ShowsCutOf}
 use Rattle.monitor.specs.Seats.{Home}
 use Rattle.rtrb.specs.Ring.{known_items}
 use Rattle.steps.specs.Views.{plan}
-use Rattle.store_past.specs.Past.{Past}
+use Rattle.store_past.specs.Past.{Past, applied}
 use Rattle.trim_helper.specs.Meets.{SameHelper}
 use Rattle.trim_helper.specs.Parts.{IsServing, Parts}
 use Rattle.hosted_heap.specs.Hosting.{Hosting, SameHeap, hosted_device}
@@ -62,7 +62,7 @@ asked_heap x y z w one met two = record {
 
 -- Where the host has made all calls, whatever a crash leaves of its device shows what the helper serves.
 pub kept_at : (was now : Hosting) (p : Past) (image : List ℕ) → SameButMet was now → HaveMet now.helper.store.disk now.calls → AreAllMade now.calls → IsServing hosted_device was.helper (plan was.home) p
-    → Image (host_moment now) image → ShowsStep was.helper.store.known.layout (plan was.home) p was.helper.store.known.doubt image
+    → Image (host_moment now) image → ShowsCutOf was.helper.store.known.layout was.helper.store.known.threads (plan was.home) (applied p) p.cut image
 kept_at was now p image same met made serving is =
     let d = hosted_device now.helper.store.disk in
     let count : durable_moments (moments_of d) ≡ suc (syncs_in now.calls.made) = met.all made.none_left made.none_known in

@@ -44,8 +44,8 @@ pub record StopsBy (h : Home) (x : Parts Deferred) (disk : Deferred) (e : CloseE
   pub ended : List Ended
   pub are : All (IsEnded h x.store.known.layout.capacity x.rings) ended
   -- A heap to which each session has come back is never stopped for want of one: one a lane meets the helper.
-  pub complete : IsComplete x.store.known.layout.lanes ended
-  pub refuses : RefusesClosing x.store.known.layout.lanes ended e
+  pub complete : IsComplete x.store.known.threads ended
+  pub refuses : RefusesClosing x.store.known.threads ended e
   -- A closing that the sessions stop leaves the disk as it was.
   pub untouched : IsOfSessions e → disk ≡ x.store.disk
   pub why : IsCloseWhy x.store.known (hosted_device x.store.disk) (hosted_device disk) e

@@ -58,7 +58,7 @@ pub record IsClosedWith (h : Home) (x : Parts Deferred) (disk : Deferred) : Type
   pub ended : List Ended
   pub are : All (IsEnded h x.store.known.layout.capacity x.rings) ended
   pub none : HoldNone ended
-  pub complete : IsComplete x.store.known.layout.lanes ended
+  pub complete : IsComplete x.store.known.threads ended
   pub closed : IsClosed h x.store.known.layout ended (hosted_device disk)
   pub from : (p : Past) → IsServing hosted_device x (plan h) p → IsClosedFrom h x.store.known.layout ended p x.seat (hosted_device x.store.disk) (hosted_device disk)
   -- Whatever a crash leaves of the disk after a closing, good or stopped, recovery accepts. Each image shows what store

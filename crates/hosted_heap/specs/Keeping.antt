@@ -14,8 +14,8 @@ use Rattle.hosted_heap.specs.Sessions.{Seated}
 use Rattle.hosted_heap.specs.declared.lane_end.LaneEnd.{LaneEnd}
 
 -- The helper is of these words, and the host's calls are those of its disk. The sessions that weren't handed out are of these words too, and
--- learn of a stop by this word, and what comes back meets the helper. There is an end for each lane, the last lane's first, and the sessions
--- that weren't handed out are awaited by the first of these.
+-- learn of a stop by this word, and what comes back meets the helper. There is an end for each lane of the threads', the last one's
+-- first, and the sessions that weren't handed out are awaited by the first of these.
 pub record IsHosting (h : Home) (x : Parts Deferred) (c : Host) (l : Layout) (word : ℕ) (unused : List Seated) (lanes : List LaneEnd) : Type 0 where
   pub helping : IsHelping hosted_device h x
   pub host : IsHostOf x.store.disk c
@@ -24,6 +24,6 @@ pub record IsHosting (h : Home) (x : Parts Deferred) (c : Host) (l : Layout) (wo
   pub unused_are : AreNewHere h word unused
   pub count : length unused ≤ length lanes
   pub lanes_are : All (IsLaneEnd h x.store.known.layout.capacity x.rings) lanes
-  pub order : lanes_at lanes ≡ range_with_len 0 l.lanes
+  pub order : lanes_at lanes ≡ range_with_len 0 h.plan.lanes
   pub joined : All (IsJoinedHere h x.store.known.layout.capacity x.rings) unused
   pub paired : ArePaired unused lanes

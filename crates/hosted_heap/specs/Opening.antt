@@ -1,5 +1,5 @@
 -- What a hosted heap begins with, and which refusal comes when (this project's own).
-use Rattle.std.specs.Prelude.{ℕ, ◌≡◌, ◌<◌, true, false, List, [], None, replicate, slice_index}
+use Rattle.std.specs.Prelude.{ℕ, ◌≡◌, ◌<◌, ◌-◌, ◌&&◌, if◌then◌else◌, nat_le, nat_lt, true, false, List, [], None, replicate, slice_index}
 use Rattle.std.specs.List.{range_with_len, slice_index_or}
 use Rattle.block_disk.specs.Device.{Device, synced}
 use Rattle.block_disk.specs.Images.{LeavesOnly}
@@ -34,10 +34,17 @@ use Rattle.hosted_heap.specs.declared.error.HostError.TheVariants.{NoMemory, Sch
 abbrev pub device_on : Host → List ℕ → Device
 device_on c bytes = record (device_of (fresh bytes)) { name = host_name c }
 
--- It runs with what was recovered: with its values, its lanes and its device, nothing was told to it, and all is settled. The calls of its host are that device's: it has made none and has
--- fetched none, and no session was handed out: the lanes' sessions come by number.
-pub record HasBegun (schema : Declarations) (r : Parts Deferred) (x : Hosting) : Type 0 where
-  pub plan_is : x.home.plan ≡ record { schema = schema; first = r.heap; last = LAST_NUMBER; lanes = r.layout.lanes }
+-- how many of an image's lanes are the threads', where its caller has so many threads: all of them; but where the image has more, the last
+-- one is the helper's own, unless it is the only one
+abbrev pub threads_of : (lanes wanted : ℕ) → ℕ
+threads_of lanes wanted = if nat_lt wanted lanes && nat_le 2 lanes then lanes - 1 else lanes
+
+-- It runs with what was recovered: with its values, its layout and its device, nothing was told to it, and all is settled. So many of its lanes
+-- are the threads'. The calls of its host are that device's: it has made none and has fetched none, and no session was handed out: the
+-- threads' sessions come by number.
+pub record HasBegun (schema : Declarations) (threads : ℕ) (r : Parts Deferred) (x : Hosting) : Type 0 where
+  pub plan_is : x.home.plan ≡ record { schema = schema; first = r.heap; last = LAST_NUMBER; lanes = threads }
+  pub threads_are : x.helper.store.known.threads ≡ threads
   pub layout_is : x.helper.store.known.layout ≡ r.layout
   pub disk_is : x.helper.store.disk ≡ r.disk
   -- The host's calls are those of the heap's own disk.
@@ -49,8 +56,8 @@ pub record HasBegun (schema : Declarations) (r : Parts Deferred) (x : Hosting) :
   pub unmade : x.calls.made ≡ []
   -- A heap begins with no call fetched.
   pub none_left : x.calls.left ≡ []
-  -- A heap begins with all its sessions to hand out.
-  pub unused : x.unused ≡ range_with_len 0 r.layout.lanes
+  -- A heap begins with all its sessions to hand out, one for each lane of the threads'.
+  pub unused : x.unused ≡ range_with_len 0 threads
   -- A heap begins with no session handed out.
   pub none_out : x.out ≡ []
   pub unstopped : x.stop.seen ≡ None
@@ -59,9 +66,9 @@ pub record HasBegun (schema : Declarations) (r : Parts Deferred) (x : Hosting) :
 abbrev pub HasRings : (records : ℕ) → Hosting → Type 0
 HasRings records x = HaveRoom records x.helper.rings
 
--- It was made of so many objects and of these fields, with so many lanes of so many records, and begins with their first values. The calls
--- made the image of a device of zeros.
-pub record IsMade (objects : ℕ) (rows : List GuardRow) (lanes capacity : ℕ) (x : Hosting) : Type 0 where
+-- It was made of so many objects and of these fields, with so many lanes of so many records, for so many threads, and begins with their
+-- first values. The calls made the image of a device of zeros.
+pub record IsMade (objects : ℕ) (rows : List GuardRow) (lanes capacity wanted : ℕ) (x : Hosting) : Type 0 where
   pub limits : AreLimits lanes capacity
   pub made : Parts Deferred
   pub layout_is : made.layout ≡ layout_with (numbered objects rows) lanes capacity
@@ -69,17 +76,20 @@ pub record IsMade (objects : ℕ) (rows : List GuardRow) (lanes capacity : ℕ) 
   pub formatted : hosted_device made.disk ≡ after (format_calls made.layout (numbered objects rows)) (device_on x.calls (replicate (size_of made.layout) 0))
   -- Each field of a new heap has its first value.
   pub values : (f : ℕ) (d : GuardRow) → f < made.layout.fields → slice_index made.heap f ≡ (slice_index_or rows f d).first
-  pub begun : HasBegun (numbered objects rows) made x
+  -- Where a heap is made with more lanes than its caller has threads, the last lane is the helper's, unless it is the only one.
+  pub begun : HasBegun (numbered objects rows) (threads_of made.layout.lanes wanted) made x
 
--- It runs with what recovery finds in these bytes, an image of one of these versions, which it reports.
-pub record IsFound (versions : Versions) (bytes : List ℕ) (x : Hosting) (report : Report) : Type 0 where
+-- It runs, for so many threads, with what recovery finds in these bytes, an image of one of these versions, which it reports.
+pub record IsFound (versions : Versions) (wanted : ℕ) (bytes : List ℕ) (x : Hosting) (report : Report) : Type 0 where
   pub taken : IsTooOld versions bytes → ⊥
   pub found : Parts Deferred
   -- An opened heap is what recovery finds in these bytes.
   pub recovery : IsRecovery (device_on x.calls bytes) (hosted_device found.disk) found report
   -- Whatever a crash leaves of an opening, once its first sync was answered, is an image on recovery's way.
   pub any_moment : (s : Study) → IsStudyOf bytes s → LeavesOnly (synced (device_on x.calls bytes)) (hosted_device found.disk) (IsOnTheWay s)
-  pub begun : HasBegun (numbered found.layout.objects found.guards) found x
+  -- Where the image of a heap that is opened has more lanes than its caller has threads, the last lane is the helper's, unless it is the
+  -- only one.
+  pub begun : HasBegun (numbered found.layout.objects found.guards) (threads_of found.layout.lanes wanted) found x
 
 -- why no heap is made
 abbrev pub RefusesMaking : (objects : ℕ) (rows : List GuardRow) (lanes capacity : ℕ) → HostError → Type 0

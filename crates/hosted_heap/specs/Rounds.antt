@@ -37,6 +37,7 @@ pub record KeepsSessions (x y : Hosting) : Type 0 where
   pub out : y.out ≡ x.out
   pub stop : y.stop ≡ x.stop
   pub layout : y.helper.store.known.layout ≡ x.helper.store.known.layout
+  pub threads : y.helper.store.known.threads ≡ x.helper.store.known.threads
 
 -- The helper goes on. Where its store hadn't failed, it has seen one legal history, of which what it has taken of each lane, up to the last
 -- release, is the beginning; and that history goes on from the one that it had seen before.

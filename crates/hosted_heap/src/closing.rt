@@ -216,7 +216,7 @@ fn close_all(
 ) -> Result<Closed, NotClosed>
     requires helping { IsHelping hosted_device shared helper }
     requires lanes { All (IsLaneEnd shared helper.store.known.layout.capacity helper.rings) lanes.items }
-    requires order { lanes_at lanes.items ≡ range_with_len 0 helper.store.known.layout.lanes }
+    requires order { lanes_at lanes.items ≡ range_with_len 0 helper.store.known.threads }
     requires came { All HasCome lanes.items }
     ensures ok { IfOk result (λ closed. IsClosedWith shared helper closed.disk) }
     ensures calls { IfOk result (λ closed. closed.calls ≡ calls) }

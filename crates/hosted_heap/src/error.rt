@@ -1,8 +1,8 @@
 //! Why a hosted heap isn't opened, told of, or closed.
-use durable::StoreError;
 use guards::SchemaError;
 use image::ImageError;
 use recover::RecoverError;
+use store_past::StoreError;
 use thiserror::Error;
 use trim_helper::CloseError;
 
@@ -46,7 +46,7 @@ pub enum FailedCall {
 /// Why it isn't told how many sections of a lane are acknowledged.
 #[derive(Clone, Copy, Debug, Drop, Error, PartialEq, Eq)]
 pub enum AcknowledgedError {
-    /// There is no such lane.
+    /// No thread has such a lane.
     #[error("bad lane")]
     BadLane,
     /// The host has yet to make a call that it was given.

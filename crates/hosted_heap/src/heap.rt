@@ -6,7 +6,6 @@ use crate::seated::HostedSession;
 use crate::stop::Stopper;
 use crate::stop_word::StopWord;
 use deferred_disk::{DeferredDisk, DeviceCall, HostCalls, SYNCS};
-use durable::StoreError;
 use heap_model::Lane;
 use image::Layout;
 use monitor::Shared;
@@ -14,6 +13,7 @@ use running_heap::{helping_law, joined_law};
 use std::alloc::Global;
 use std::marker::Model;
 use std::sync::Arc;
+use store_past::StoreError;
 use trim_helper::Helper;
 
 /// A running heap, whose host makes the device's calls: its helper, the sessions that weren't handed out yet, and what the host has
@@ -70,8 +70,8 @@ impl HostedHeap {
     ghost use Rattle.hosted_heap.specs.declared.error.AcknowledgedError.TheVariants.{BadLane, CallsLeft};
     ghost use Rattle.image.specs.Layout.{size_of};
     ghost use Rattle.steps.specs.Views.{plan};
-    ghost use Rattle.store_past.specs.Past.{Past};
-    ghost use Rattle.durable.specs.Store.{ShowsStep};
+    ghost use Rattle.store_past.specs.Past.{Past, applied};
+    ghost use Rattle.helper_sections.specs.Image.{ShowsCutOf};
     ghost use Rattle.hosted_heap.specs.Meeting.{AreAllMade, FetchesAll, SameButMet, host_moment};
     ghost use Rattle.trim_helper.specs.Parts.{IsServing};
 
@@ -87,6 +87,14 @@ impl HostedHeap {
         ensures { result ≡ size_of self.now.helper.store.known.layout }
     {
         self.layout.size()
+    }
+
+    /// How many of its lanes are the threads': each of them has a session. Where the image has one lane more, that one is the helper's
+    /// own, and a round takes two syncs in place of four.
+    pub fn threads(&self) -> u8
+        ensures { result ≡ self.now.helper.store.known.threads }
+    {
+        self.helper.threads()
     }
 
     /// Hands out a session that was told nothing, of the least lane of which none was handed out; it is joined to the helper, and comes
@@ -267,23 +275,23 @@ impl HostedHeap {
         ensures ok { (p : Past) → IsServing hosted_device self.old.helper (plan self.old.home) p → IfOk result (λ n. n ≡ p.cut lane.0) }
         // What is acknowledged is told only where no call is left, of those fetched or handed over.
         ensures all_made { OnOk result (AreAllMade self.new.calls) }
-        // When a count is told, whatever a crash of the host's device leaves shows the past that the helper serves, or
-        // what a failed call of its store was making of it.
+        // When a count is told, whatever a crash of the host's device leaves shows the acknowledged cut of what was
+        // applied, or a later one.
         ensures kept { OnOk result ((p : Past) (image : List ℕ) → IsServing hosted_device self.old.helper (plan self.old.home) p → Image (host_moment self.new) image
-            → ShowsStep self.old.helper.store.known.layout (plan self.old.home) p self.old.helper.store.known.doubt image) }
-        // `BadLane` is answered exactly for a lane that the heap hasn't.
-        ensures bad_lane { (result ≡ Err BadLane) ↔ (self.old.helper.store.known.layout.lanes ≤ lane.0) }
-        // `CallsLeft` is answered exactly where the heap has the lane and a call is left.
-        ensures calls_left { IsErrOf result CallsLeft ↔ (lane.0 < self.old.helper.store.known.layout.lanes) × (¬ AreAllMade self.new.calls) }
+            → ShowsCutOf self.old.helper.store.known.layout self.old.helper.store.known.threads (plan self.old.home) (applied p) p.cut image) }
+        // `BadLane` is answered exactly for a lane that isn't one of the threads'.
+        ensures bad_lane { (result ≡ Err BadLane) ↔ (self.old.helper.store.known.threads ≤ lane.0) }
+        // `CallsLeft` is answered exactly where the lane is one of the threads' and a call is left.
+        ensures calls_left { IsErrOf result CallsLeft ↔ (lane.0 < self.old.helper.store.known.threads) × (¬ AreAllMade self.new.calls) }
         // The calls that were handed over are fetched first.
-        ensures fetches { lane.0 < self.old.helper.store.known.layout.lanes → FetchesAll self.old.calls self.new.calls }
-        // The disk and the host's calls meet whenever the heap is asked what is acknowledged of a lane that it has.
-        ensures met { lane.0 < self.old.helper.store.known.layout.lanes → HaveMet self.new.helper.store.disk self.new.calls }
-        // For a lane that the heap hasn't nothing is done.
-        ensures untouched { self.old.helper.store.known.layout.lanes ≤ lane.0 → self.new ≡ self.old }
+        ensures fetches { lane.0 < self.old.helper.store.known.threads → FetchesAll self.old.calls self.new.calls }
+        // The disk and the host's calls meet whenever the heap is asked what is acknowledged of a lane of the threads'.
+        ensures met { lane.0 < self.old.helper.store.known.threads → HaveMet self.new.helper.store.disk self.new.calls }
+        // For a lane that isn't one of the threads' nothing is done.
+        ensures untouched { self.old.helper.store.known.threads ≤ lane.0 → self.new ≡ self.old }
         ensures heap { SameButMet self.old self.new }
     {
-        if lane.0 >= self.layout.lanes {
+        if lane.0 >= self.helper.threads() {
             return Err(AcknowledgedError::BadLane);
         }
         if self.has_calls() {

@@ -1,8 +1,9 @@
 //! A running heap for a host that isn't written in Rattle, and that makes the device's calls itself.
 //!
 //! [`format`] and [`open`] make of objects and fields, or of the bytes that the host's device has, a [`HostedHeap`] on a
-//! [`DeferredDisk`](deferred_disk::DeferredDisk); [`format_with`] and [`open_with`] also take the room of its rings. It hands out a
-//! [`HostedSession`] for each lane, which may go to a thread of the host's. What has to be written and synced the host asks of
+//! [`DeferredDisk`](deferred_disk::DeferredDisk); [`format_with`] and [`open_with`] also take how many threads the host has, and the room
+//! of the rings. It hands out a [`HostedSession`] for each lane of the threads', which may go to a thread of the host's. Where the image
+//! has more lanes than the host has threads, the last one is the helper's own. What has to be written and synced the host asks of
 //! [`HostedHeap::next_call`]. No call waits, and no two values that belong to different heaps are ever passed to one call.
 #![tactic(auto)]
 

@@ -2,7 +2,7 @@
 use Rattle.std.proofs.Common.{length, refl, arith}
 use Rattle.block_disk.specs.Device.{Device}
 use Rattle.block_disk.proofs.Images.{image_now, left_since}
-use Rattle.durable.proofs.Running.{ran_none}
+use Rattle.round_store.proofs.Running.{run_none}
 use Rattle.running_life.specs.Running.{CrashNowLaw}
 use Rattle.steps.specs.Views.{plan}
 use Rattle.survival.specs.WholeRun.{MayBeLeft}
@@ -18,8 +18,8 @@ pub copy_safe : KeptRunLaw → CopyLaw
 copy_safe kept x p serving =
     let d : Device = hosted_device x.helper.store.disk in
     let known = x.helper.store.known in
-    kept known.layout (plan x.home) p d d d.now.bytes
-    (record { store = known; layout = refl; has = serving.taken.has; now = p; has_failed = known.has_failed; ran = ran_none known.layout (plan x.home) p d known.has_failed }) (left_as_is d)
+    kept known.layout known.threads (plan x.home) p d d d.now.bytes
+    (record { store = known; layout = refl; threads = refl; has = serving.taken.has; now = p; ran = run_none known.layout known.threads (plan x.home) p d }) (left_as_is d)
 
 pub copy_keeps : CrashNowLaw hosted_device → RunningCopyLaw
 copy_keeps now x p seen rests = now x.home p x.helper seen (hosted_device x.helper.store.disk).now.bytes rests (left_as_is (hosted_device x.helper.store.disk))

@@ -1,13 +1,14 @@
 -- What a crash of the host's device keeps while threads run.
-use Rattle.std.proofs.Common.{suc, Bool, List, ℕ, false, refl, sym, subst, ◌∙◌, arith}
+use Rattle.std.proofs.Common.{suc, List, ℕ, sym, ◌∙◌, arith}
 use Rattle.block_disk.specs.Device.{Device}
 use Rattle.block_disk.specs.Images.{Continues}
 use Rattle.deferred_disk.specs.Deferred.{Deferred, onto}
 use Rattle.deferred_disk.specs.Host.{Host}
 use Rattle.deferred_disk.specs.Syncs.{syncs_in}
 use Rattle.deferred_disk.proofs.Moments.{left_since_then}
-use Rattle.durable.specs.Runs.{HasRun}
-use Rattle.durable.proofs.Running.{ran_then}
+use Rattle.image.specs.declared.layout.Layout.{Layout}
+use Rattle.round_store.specs.Runs.{HasRun}
+use Rattle.round_store.proofs.Running.{run_on}
 use Rattle.running_heap.specs.Life.{ClosedLifeLaw}
 use Rattle.running_life.specs.Crashes.{CrashLaw}
 use Rattle.running_life.specs.Running.{CrashInRunLaw}
@@ -17,7 +18,7 @@ use Rattle.trim_helper.specs.Heard.{SeenLaw}
 use Rattle.hosted_heap.specs.Hosting.{hosted_device}
 use Rattle.hosted_life.specs.Running.{HostClosingLaw, HostRoundLaw, HostRunLaw}
 use Rattle.hosted_life.specs.Safe.{LeavesSince}
-use Rattle.hosted_life.proofs.Safe.{syncs_onto}
+use Rattle.hosted_life.proofs.Safe.{run_of, syncs_onto}
 
 -- it is left of the heap's own disk, since then
 left_since : (old : Device) (d : Deferred) (c : Host) (image : List ℕ) → Continues old (hosted_device d) → LeavesSince old d c image → MayBeLeft old (hosted_device d) image
@@ -35,12 +36,15 @@ round_keeps keeps seen_of x y answer p old c image ran makes heard since =
     let round = makes run.now ran.serves in
     let seen = heard.seen ran.running in
     let same = heard.goes_on.layout in
-    let before : HasRun x.helper.store.known.layout (plan x.home) p old run.now (hosted_device x.helper.store.disk) false =
-    subst (λ (b : Bool). HasRun x.helper.store.known.layout (plan x.home) p old run.now (hosted_device x.helper.store.disk) b) ran.whole run.ran in
-    let on = ran_then x.helper.store.known.layout y.helper.store.known.layout (plan x.home) p run.now round.now old (hosted_device x.helper.store.disk) (hosted_device y.helper.store.disk) false y.helper.store.known.has_failed same before (before.whole refl) round.ran in
+    let as_many = heard.goes_on.threads in
+    let l : Layout = y.helper.store.known.layout in
+    let t : ℕ = y.helper.store.known.threads in
+    let before : HasRun l t (plan x.home) p old run.now (hosted_device x.helper.store.disk) =
+    run_of x.helper.store.known.layout l x.helper.store.known.threads t (plan x.home) p run.now old (hosted_device x.helper.store.disk) same as_many run.ran in
+    let on = run_on l t (plan x.home) p run.now round.now old (hosted_device x.helper.store.disk) (hosted_device y.helper.store.disk) before round.ran in
     run_keeps keeps x.home p old y.helper y.helper.seat.view.history c image
     (record {
-      run = record { store = run.store; layout = run.layout ∙ sym same; has = run.has; now = round.now; has_failed = y.helper.store.known.has_failed; ran = on };
+      run = record { store = run.store; layout = run.layout ∙ sym same; threads = run.threads ∙ sym as_many; has = run.has; now = round.now; ran = on };
       serves = round.serves;
       legal = seen.legal;
       seen_of = seen_of x.home (plan x.home) round.now y.helper seen round.serves;

@@ -1,7 +1,5 @@
 -- What a crash of the host's device leaves.
-use Rattle.std.proofs.Common.{ℕ, suc, ◌≡◌, ◌≤◌, ◌∷◌, ◌++◌, [], Bool, true, false, List, Result, refl, sym, ap, ◌∙◌, subst, inl, inr, arith}
-use Rattle.heap_model.specs.Cuts.{counts_of}
-use Rattle.heap_model.specs.Setting.{Setting}
+use Rattle.std.proofs.Common.{ℕ, suc, ◌≡◌, ◌≤◌, ◌∷◌, [], List, refl, sym, subst, inl, inr, arith}
 use Rattle.block_disk.specs.Device.{Device, Image, LeftSince, synced}
 use Rattle.deferred_disk.specs.Deferred.{Deferred, onto, stop_of}
 use Rattle.deferred_disk.specs.Host.{Host}
@@ -10,47 +8,28 @@ use Rattle.deferred_disk.specs.declared.call.DeviceCall.{DeviceCall}
 use Rattle.deferred_disk.specs.declared.call.DeviceCall.TheVariants.{Write, Sync}
 use Rattle.deferred_disk.proofs.Moments.{left_since_then}
 use Rattle.block_disk.specs.Memory.{Stop}
-use Rattle.durable.specs.Runs.{HasRun}
-use Rattle.durable.specs.Store.{HasPast, Known}
-use Rattle.durable.specs.declared.store_call.StoreCall.{StoreCall}
-use Rattle.durable.proofs.Running.{ran_none, ran_then}
 use Rattle.image.specs.declared.layout.Layout.{Layout}
+use Rattle.heap_model.specs.Setting.{Setting}
 use Rattle.monitor.specs.Seats.{Home}
-use Rattle.recover.specs.declared.versions.Versions.TheVariants.{Current}
+use Rattle.round_store.specs.Runs.{HasRun}
+use Rattle.round_store.specs.Store.{HasPast}
+use Rattle.round_store.proofs.Running.{run_none, run_on}
+use Rattle.round_survival.specs.Histories.{HasLogged, RoundRunsLaw}
+use Rattle.running_life.proofs.Shown.{run_shows}
 use Rattle.steps.specs.Views.{plan}
-use Rattle.store_past.specs.Past.{Past, no_past}
-use Rattle.survival.specs.Again.{ByStore, HasStudyLaw}
-use Rattle.survival.specs.WholeRun.{MayBeLeft}
-use Rattle.survival.proofs.Accepts.{accepted, isnt_old, of_today}
-use Rattle.survival.proofs.WholeRuns.{cannot, found, left_by, of_run, shows_some}
+use Rattle.store_past.specs.Past.{Past, applied, no_past}
+use Rattle.survival.specs.Running.{KeepsIn}
 use Rattle.trim_helper.specs.Closed.{disk_of}
-use Rattle.trim_helper.specs.Parts.{IsServing, Parts}
+use Rattle.trim_helper.specs.Parts.{IsServing}
 use Rattle.hosted_heap.specs.Hosting.{hosted_device}
-use Rattle.hosted_life.specs.Safe.{AcknowledgedLaw, BegunLaw, ClosedLaw, EndsLaw, HostLaw, IsSafe, KeptRunLaw, LivesLaw, NowLaw, OpeningLaw}
+use Rattle.hosted_life.specs.Safe.{AcknowledgedLaw, BegunLaw, ClosedLaw, EndsLaw, HostLaw, KeptRunLaw, LivesLaw, NowLaw, OpeningLaw}
 use Rattle.hosted_heap.specs.Opening.{device_on}
 
--- what a crash left of a store's run
-store_keeps : HasStudyLaw → (x : Known) (s : Setting) (p q : Past) (old new : Device) (failed : Bool) (image : List ℕ) → HasPast x s p old → HasRun x.layout s p old q new failed → MayBeLeft old new image → IsSafe x.layout p.cut image
-store_keeps studied x s p q old new failed image has ran left =
-    let all : List StoreCall = ran.calls ++ ran.cut_off in
-    let some = shows_some x s p all old new image has ran.shown left in
-    let by = left_by x.layout s some.then some.doubt image some.is some.of_lanes some.shows in
-    let study = studied x.layout s by.past image (ByStore by.is) in
-    let kept = counts_of study.0.report.kept in
-    let survives = of_run x s p all image study.0.heap.items kept has.past some (found x.layout s some.then some.doubt image some.is some.of_lanes some.shows study.0 study.1) in
-    record {
-      accepted = record {
-        study = study.0;
-        of = study.1;
-        taken = λ e refused. cannot Current image (λ r refuses. accepted x.layout s by.past image (of_today x.layout s by.past image by.is) r refuses) (isnt_old x.layout s by.past image (of_today x.layout s by.past image by.is) refl) e refused;
-      };
-      keeps = λ lane below. let stays = survives.stays lane in let same = survives.kept_are lane below in omega (arith, stays, same);
-    }
-
-pub keeps_run : HasStudyLaw → KeptRunLaw
-keeps_run studied l s p old new image run left =
-    let ran : HasRun run.store.layout s p old run.now new run.has_failed = subst (λ (k : Layout). HasRun k s p old run.now new run.has_failed) (sym run.layout) run.ran in
-    subst (λ (k : Layout). IsSafe k p.cut image) run.layout (store_keeps studied run.store s p run.now old new run.has_failed image run.has ran left)
+pub keeps_run : RoundRunsLaw → KeptRunLaw
+keeps_run keeps l t s p old new image run left =
+    let log = applied run.now in
+    let kept : KeepsIn (HasLogged s log) l s p image = keeps l t s p log image (run_shows l t s p old new image run left) in
+    record { accepted = kept.accepted; keeps = λ lane below. let stays = kept.stays lane in let same = kept.kept_are lane below in omega (arith, stays, same) }
 
 -- no call takes a sync back
 pub syncs_onto : (made : List Stop) (calls : List DeviceCall) → syncs_in made ≤ syncs_in (onto made calls)
@@ -59,27 +38,27 @@ syncs_onto made (Write at bytes ∷ calls) = syncs_onto (stop_of (Write at bytes
 syncs_onto made (Sync ∷ calls) = let more = syncs_onto (stop_of Sync ∷ made) calls in omega (arith, more)
 
 pub by_host : KeptRunLaw → HostLaw
-by_host kept l s p old d c image run since =
+by_host kept l t s p old d c image run since =
     let by = since.by in
     let far = since.made in
     let up = syncs_onto c.made by.next in
     let synced = by.met.synced by.next by.more image by.left by.leaves in
-    kept l s p old (hosted_device d) image run
+    kept l t s p old (hosted_device d) image run
     (left_since_then (suc (syncs_in (onto c.made by.next))) old (hosted_device d) image run.ran.shown.grows (omega (arith, far, up)) synced)
 
 pub by_host_begun : KeptRunLaw → BegunLaw
-by_host_begun kept schema r x q d failed c image begun ran since =
+by_host_begun kept schema threads r x q d c image begun ran since =
     let had : HasPast x.helper.store.known (plan x.home) no_past (hosted_device r.disk) =
     subst (λ (e : Deferred). HasPast x.helper.store.known (plan x.home) no_past (hosted_device e)) begun.disk_is begun.untold.taken.has in
-    by_host kept r.layout (plan x.home) no_past (hosted_device r.disk) d c image
-    (record { store = x.helper.store.known; layout = begun.layout_is; has = had; now = q; has_failed = failed; ran = ran }) since
+    by_host kept r.layout threads (plan x.home) no_past (hosted_device r.disk) d c image
+    (record { store = x.helper.store.known; layout = begun.layout_is; threads = begun.threads_are; has = had; now = q; ran = ran }) since
 
 pub by_host_acknowledged : KeptRunLaw → AcknowledgedLaw
 by_host_acknowledged kept x y same were made p d c image serving run later =
     let old = hosted_device y.helper.store.disk in
     let more_made = later.made in
     let all : durable_moments (moments_of old) ≡ suc (syncs_in y.calls.made) = were.all made.none_left made.none_known in
-    by_host kept x.helper.store.known.layout (plan x.home) p old d c image run (record { by = later.by; made = omega (arith, all, more_made) })
+    by_host kept x.helper.store.known.layout x.helper.store.known.threads (plan x.home) p old d c image run (record { by = later.by; made = omega (arith, all, more_made) })
 
 pub by_host_now : KeptRunLaw → NowLaw
 by_host_now kept x y same met made p image serving left =
@@ -87,25 +66,32 @@ by_host_now kept x y same met made p image serving left =
     let disk = y.helper.store.disk in
     let had : HasPast known (plan x.home) p (hosted_device disk) = subst (λ (e : Device). HasPast known (plan x.home) p e) (sym same.helper.device_is) serving.taken.has in
     by_host_acknowledged kept x y same met made p disk y.calls image serving
-    (record { store = known; layout = refl; has = had; now = p; has_failed = false; ran = ran_none known.layout (plan x.home) p (hosted_device disk) false })
+    (record { store = known; layout = refl; threads = refl; has = had; now = p; ran = run_none known.layout known.threads (plan x.home) p (hosted_device disk) })
     (record { by = record { met = met; next = []; more = []; left = made.none_left; leaves = left }; made = omega arith })
+
+-- a run, where it is of this layout and of so many threads
+pub run_of : (l k : Layout) (t u : ℕ) (s : Setting) (p q : Past) (old new : Device) → k ≡ l → u ≡ t → HasRun l t s p old q new → HasRun k u s p old q new
+run_of l k t u s p q old new layout threads ran =
+    subst (λ (n : ℕ). HasRun k n s p old q new) (sym threads) (subst (λ (o : Layout). HasRun o t s p old q new) (sym layout) ran)
 
 pub lives_on : LivesLaw
 lives_on x y answer old first p serving ran makes stays =
     let round = makes p serving in
-    let on = ran_then x.helper.store.known.layout y.helper.store.known.layout (plan x.home) first p round.now old (hosted_device x.helper.store.disk) (hosted_device y.helper.store.disk) false y.helper.store.known.has_failed
-    stays.layout ran (ran.whole refl) round.ran in (
+    let l : Layout = y.helper.store.known.layout in
+    let t : ℕ = y.helper.store.known.threads in
+    let before : HasRun l t (plan x.home) first old p (hosted_device x.helper.store.disk) =
+    run_of x.helper.store.known.layout l x.helper.store.known.threads t (plan x.home) first p old (hosted_device x.helper.store.disk) stays.layout stays.threads ran in
+    let on = run_on l t (plan x.home) first p round.now old (hosted_device x.helper.store.disk) (hosted_device y.helper.store.disk) before round.ran in (
       round.now,
       subst (λ (h : Home). IsServing hosted_device y.helper (plan h) round.now) (sym stays.home) round.serves,
-      subst (λ (h : Home). HasRun y.helper.store.known.layout (plan h) first old round.now (hosted_device y.helper.store.disk) y.helper.store.known.has_failed) (sym stays.home) on,
+      subst (λ (h : Home). HasRun l t (plan h) first old round.now (hosted_device y.helper.store.disk)) (sym stays.home) on,
     )
 
 pub ends_on : EndsLaw
 ends_on h x ended answer old first p serving ran met =
-    let stood = (met p serving).stood in (
-      stood.then,
-      ran_then x.store.known.layout x.store.known.layout (plan h) first p stood.then old (hosted_device x.store.disk) (hosted_device (disk_of answer)) false true refl ran (ran.whole refl) stood.ran,
-    )
+    let l : Layout = x.store.known.layout in
+    let stood = (met p serving).stood in
+    (stood.then, run_on l x.store.known.threads (plan h) first p stood.then old (hosted_device x.store.disk) (hosted_device (disk_of answer)) ran stood.ran)
 
 -- where its moments are so many, it is of the last one
 left_last : (n : ℕ) (d : Device) (image : List ℕ) → durable_moments (moments_of d) ≡ n → LeftAt n (moments_of d) image → Image d.now image
@@ -124,7 +110,7 @@ as_found c bytes image (inr (inl first)) = first.1
 as_found c bytes image (inr (inr none)) = elim none [ ]
 
 pub opens_on : OpeningLaw
-opens_on versions bytes x report s c image found of by =
+opens_on versions wanted bytes x report s c image found of by =
     let left : LeftSince 0 (hosted_device found.found.disk) image =
     subst (λ (e : Deferred). LeftSince 0 (hosted_device e) image) found.begun.disk_is (by.met.earlier by.next by.more image by.left by.leaves) in
     elim ((found.any_moment s of).each 0 image (omega arith) left) [

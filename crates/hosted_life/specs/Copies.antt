@@ -27,4 +27,4 @@ RunningCopyLaw = (x : Hosting) (p : Past) (seen : List (ℕ × Event)) → Rests
 -- A copy of a heap that was closed is the heap of the closing's history, with all its sections.
 abbrev pub ClosedCopyLaw : Type 0
 ClosedCopyLaw = (h : Home) (x : Parts Deferred) (d : Deferred) → (closing : IsClosedWith h x d)
-    → IsHeapOf (plan h) x.store.known.layout closing.closed.history closing.closed.now (copy_of d)
+    → IsHeapOf (plan h) x.store.known.layout h.plan.lanes closing.closed.history closing.closed.now (copy_of d)

@@ -7,25 +7,25 @@ use Rattle.deferred_disk.specs.Host.{Host}
 use Rattle.monitor.specs.Seats.{Home}
 use Rattle.running_heap.specs.Life.{HasLived}
 use Rattle.running_life.specs.Running.{KeepsRunning, RunsOn}
+use Rattle.running_life.specs.Runs.{RunsSince}
 use Rattle.steps.specs.Views.{plan}
 use Rattle.store_past.specs.Past.{Past, no_past}
 use Rattle.store_past.specs.declared.error.StoreError.{StoreError}
-use Rattle.survival.specs.Running.{KeepsOfHistory, RunsSince}
+use Rattle.survival.specs.Running.{KeepsOfHistory}
 use Rattle.trim_helper.specs.Parts.{IsServing, Parts}
 use Rattle.hosted_heap.specs.Hosting.{Hosting, IsClosedWith, hosted_device}
 use Rattle.hosted_heap.specs.Rounds.{HearsThreads, MakesRound}
 use Rattle.hosted_life.specs.Safe.{LeavesSince}
 
--- A store of this past had the old device, and has made calls since. A helper serves it now, and has seen this history of what is applied. What the
+-- A store of this past had the old device, and has run since. A helper serves it now, and has seen this history of what is applied. What the
 -- host's device keeps since are whole sections of each legal history that goes on from that, with all that was acknowledged then.
 abbrev pub HostRunLaw : Type 0
 HostRunLaw = (h : Home) (p : Past) (old : Device) (y : Parts Deferred) (seen : List (ℕ × Event)) (c : Host) (image : List ℕ)
     → RunsOn hosted_device h p old y seen → LeavesSince old y.store.disk c image → KeepsRunning y.store.known.layout (plan h) p seen image
 
--- Since the old device, when its store had this past, the heap's calls have made what its helper serves now. None has failed.
+-- Since the old device, when its store had this past, the store has run to what the helper serves now. It hasn't failed.
 pub record HasRunOn (x : Hosting) (p : Past) (old : Device) : Type 0 where
-  pub run : RunsSince x.helper.store.known.layout (plan x.home) p old (hosted_device x.helper.store.disk)
-  pub whole : run.has_failed ≡ false
+  pub run : RunsSince x.helper.store.known.layout x.helper.store.known.threads (plan x.home) p old (hosted_device x.helper.store.disk)
   pub serves : IsServing hosted_device x.helper (plan x.home) run.now
   pub running : x.helper.store.known.has_failed ≡ false
 

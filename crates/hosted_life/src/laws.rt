@@ -6,18 +6,18 @@ ghost use Rattle.hosted_life.specs.Stopped.{StillClosingLaw, StillRoundLaw};
 ghost use Rattle.hosted_life.specs.Told.{AcknowledgedToldLaw, HostReadLaw};
 
 use deferred_disk::DeferredDisk;
+use round_survival::round_run_law;
 use running_heap::life_law;
 use running_life::{crash_law, round_law, stable_law};
-use survival::has_study_law;
 use trim_helper::seen_law;
 
-/// Recovery accepts whatever a crash left at any moment of a run of store calls, and keeps every section that was acknowledged when the run
+/// Recovery accepts whatever a crash left at any moment of a store's run, and keeps every section that was acknowledged when the run
 /// began.
 pub fn kept_law()
-    // Each image that a crash left at any moment of a run keeps all that was acknowledged before the run's first call.
+    // Each image that a crash left at any moment of a run keeps all that was acknowledged when the run began.
     ensures { KeptRunLaw }
 {
-    has_study_law();
+    round_run_law();
 }
 
 /// What a crash of the host's device leaves, at whatever moment it comes: before a call that the host makes, in it or after it.
@@ -31,7 +31,7 @@ pub fn kept_law()
 /// - `copy`, `closed_copy`: a copy of the disk in memory is kept so too: each section that is acknowledged by then, or all of them after
 ///   the closing.
 pub fn host_law()
-    // What was acknowledged before a run of store calls is kept of whatever a crash of the host's device leaves, once
+    // What was acknowledged before a run of the store is kept of whatever a crash of the host's device leaves, once
     // the host has made the calls that had been handed over by then: before a call, in the midst of it, or after it.
     ensures any_moment { HostLaw }
     // Once the host has made the calls by which a heap was made or opened, recovery accepts whatever a crash of its
@@ -44,9 +44,9 @@ pub fn host_law()
     // Right when a count of sections was acknowledged, recovery accepts whatever a crash of the host's device leaves,
     // and keeps at least so many sections of the lane.
     ensures now { NowLaw }
-    // A round of the heap goes on with one run of store calls, unless the store had failed before.
+    // A round of the heap goes on with one run of the store, whatever it answers.
     ensures lives { LivesLaw }
-    // A closing goes on with the run of store calls, whatever it answers.
+    // A closing goes on with the run of the store, whatever it answers.
     ensures ends { EndsLaw }
     // Once the host has made all calls that are left after a closing, recovery accepts whatever a crash of its device
     // leaves, and it stands for the heap of the closing's history with all its sections.

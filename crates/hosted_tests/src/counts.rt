@@ -111,9 +111,10 @@ fn counted(alloc: Global) -> Option<(u64, Counts)> {
     }
 }
 
-// By docs/FORMAT.md: 3,000 records of 16 bytes, the first 1,000 of them at the end of the lane's area and the others at its beginning,
-// 4 writes and 8 of 4,096 bytes at most; two cells, one behind the other; and two commits, the first a body of 1,040 bytes and a gate, the second such a body without its
-// sequence and a gate.
+// Each lane is a thread's, so a round takes two commits and four syncs. By docs/FORMAT.md: 3,000 records of 16 bytes, the first 1,000 of them
+// at the end of the lane's area and the others at its beginning, 4 writes and 8 of 4,096 bytes at most; two cells in one write, since a
+// round writes the changed fields in their order; and two commits, the first a body of 1,040 bytes and a gate, the second such a body
+// without its sequence and a gate.
 #[test]
 fn a_round_makes_few_calls(rt: HostRuntime) {
     let counts = Counts {

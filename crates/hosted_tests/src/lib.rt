@@ -2,7 +2,7 @@
 //!
 //! A hosted heap, by its public calls alone: what recovery keeps of its host's device, at the end of a life and where the host stops between
 //! two calls. Also: how many calls a round makes and how many records it applies, how many a lane's ring has room for, what sessions learn
-//! of a call that failed, and lanes whose sessions come and go.
+//! of a call that failed, lanes whose sessions come and go, and which lane is the helper's.
 #![tactic(auto)]
 
 #[cfg(test)]
@@ -11,6 +11,8 @@ mod again;
 mod counts;
 #[cfg(test)]
 mod device;
+#[cfg(test)]
+mod helpers_lane;
 #[cfg(test)]
 mod host;
 #[cfg(test)]

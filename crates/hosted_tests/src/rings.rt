@@ -65,7 +65,7 @@ fn work_unhelped(heap: &mut HostedHeap) -> Option<u64> {
 // The same of a heap whose rings have room for so many records, and whose lanes for more. `None` where rings can't have that room.
 fn sections_with(alloc: Global, records: usize) -> Option<u64> {
     let ring = RingRecords::of(records)?;
-    match format_with(alloc, 2, &ROWS, 1, 20_000, ring) {
+    match format_with(alloc, 2, &ROWS, 1, 20_000, 1, ring) {
         Ok(mut heap) => {
             let made = work_unhelped(&mut heap);
             drop(heap);

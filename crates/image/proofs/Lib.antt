@@ -13,3 +13,4 @@ pub mod Puts
 pub mod Fresh
 pub mod Reading
 pub mod Places
+pub mod Heads

@@ -6,6 +6,7 @@ pub mod Cells
 pub mod Rows
 pub mod Control
 pub mod Slots
+pub mod Head
 pub mod Image
 pub mod Calls
 pub mod Format

@@ -24,8 +24,8 @@ pub const GATE_AT: u64 = 8;
 /// A gate that is closed.
 pub const CLOSED: u8 = 0;
 
-// The first bytes of an image: its name and the open gate.
-const FORMATTED: [u8; 9] = *b"MONIHEAP\xa5";
+/// The first bytes of an image: its name and the open gate.
+pub const FORMATTED: [u8; 9] = *b"MONIHEAP\xa5";
 
 /// The bytes of the layout's header, with the gate open.
 pub fn encode_header(layout: &Layout) -> [u8; 64]
@@ -55,8 +55,8 @@ fn candidate(bytes: &[u8; 64]) -> Layout
     }
 }
 
-// The layout whose header these bytes are. What they leave out is tested at once: a layout has one header.
-fn decode_header(bytes: &[u8; 64]) -> Option<Layout>
+/// The layout whose header these bytes are. What they leave out is tested at once: a layout has one header.
+pub fn decode_header(bytes: &[u8; 64]) -> Option<Layout>
     ensures some { IfSome result (λ l. (bytes.now ≡ header_bytes l) × IsLayout l) }
     ensures none { IfNone result ((l : Shape) → IsLayout l → bytes.now ≡ header_bytes l → ⊥) }
 {

@@ -13,7 +13,8 @@ const GUARDS_AT: u64 = HEAD_BYTES as u64;
 
 const GUARD_BYTES: u64 = 16;
 
-const CELL_BYTES: u64 = 8;
+/// The bytes of a home cell.
+pub const CELL_BYTES: u64 = 8;
 
 const RECORD_BYTES: u64 = 16;
 

@@ -16,6 +16,7 @@ mod error;
 mod format;
 mod guard_row;
 mod guard_rows;
+mod head;
 mod header;
 mod lane_row;
 mod laws;
@@ -32,9 +33,10 @@ pub use control::{Control, OLD_VERSION, VERSION};
 pub use either_gate::commit_by_turning;
 pub use error::{ControlError, GuardsError, HeaderError, ImageError};
 pub use format::write_header;
-pub use guard_row::GuardRow;
+pub use guard_row::{GuardRow, decode_guard};
 pub use guard_rows::read_guards;
-pub use header::read_header;
+pub use head::{areas_at, fields_in, has_control, is_formatted, is_named, layout_in};
+pub use header::{HEADER_BYTES, read_header};
 pub use lane_row::LaneRow;
 pub use laws::{
     empty_rows_law, fresh_law, place_law, reading_law, spelling_law, steady_law, survival_law,

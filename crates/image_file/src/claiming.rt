@@ -3,6 +3,7 @@
 use crate::error::FileFault;
 use crate::trouble::{Place, Trouble};
 use file_disk::{BackingFile, Claim};
+use image::{HEADER_BYTES, is_formatted};
 use sector_file::label_of;
 use std::fs::{OpenFile, OpenOptions};
 use std::io;
@@ -24,20 +25,9 @@ pub enum Content {
 // What the system says where there is no file (ENOENT).
 const NO_FILE: i32 = 2;
 
-/// How many bytes a header has.
-pub(crate) const HEADER_BYTES: usize = 64;
-
-// Those that it begins with, of an image whose gate is open.
-const FORMATTED: [u8; 9] = *b"MONIHEAP\xa5";
-
 /// What is told of a path at which there is no file.
 pub(crate) fn no_file() -> io::Error {
     io::Error::from_raw_os_error(NO_FILE)
-}
-
-/// Whether these first bytes of a file are what an image begins with (docs/FORMAT.md, "Header").
-pub(crate) fn begins_as_image(head: &[u8]) -> bool {
-    head.len() >= HEADER_BYTES && head[..9] == FORMATTED[..]
 }
 
 /// What a file has. No more than its header is read.
@@ -67,7 +57,7 @@ fn read_content<F: BackingFile + OpenFile>(file: &mut F) -> io::Result<Content> 
         return Ok(Content::Other);
     }
     file.read_from(0, &mut head)?;
-    if begins_as_image(&head) {
+    if is_formatted(&head) {
         return Ok(Content::Image);
     }
     match label_of(file) {

@@ -2,13 +2,12 @@
 ghost use Rattle.std.specs.Prelude.{IfOk};
 ghost use Rattle.image_file.specs.Showing.{ReadsImage};
 
-use crate::claiming::{HEADER_BYTES, begins_as_image};
 use crate::error::FileFault;
 use crate::trouble::{Place, Trouble};
 use crate::watched::Watched;
 use file_disk::{BackingFile, Claim};
 use heap_model::{LANES, MOST_CAPACITY, MOST_FIELDS};
-use image::HEAD_BYTES;
+use image::{HEAD_BYTES, HEADER_BYTES, is_formatted};
 use sector_disk::Label;
 use sector_file::ImageBytes;
 use std::alloc::Global;
@@ -92,7 +91,7 @@ fn begin_to_read<'a, F: BackingFile + Read + Drop>(
             return Err(fault);
         }
     };
-    if begins_as_image(&head) {
+    if is_formatted(&head) {
         return Ok(reader_of(ImageBytes::Plain(file), head));
     }
     let placed = placed_in(alloc, file, &head);
@@ -111,7 +110,7 @@ fn begin_to_read_placed<'a, F: BackingFile + Read + Drop>(
     let mut bytes = bytes;
     match read_head(alloc, &mut bytes) {
         Ok(head) => {
-            if begins_as_image(&head) {
+            if is_formatted(&head) {
                 Ok(reader_of(bytes, head))
             } else {
                 drop(head);

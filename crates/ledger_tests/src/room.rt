@@ -1,7 +1,7 @@
 //! Accounts, and a disk for them.
 
 use block_disk::MemDisk;
-use heap_threads::{Schema, SchemaBuilder};
+use heap_threads::{Schema, SchemaBuilder, lanes_for};
 use image::Layout;
 use std::alloc::Global;
 
@@ -35,8 +35,8 @@ pub fn schema(alloc: Global) -> Option<Schema> {
     }
 }
 
-/// A disk for an image of this schema, with one lane.
+/// A disk for an image of this schema, for one thread.
 pub fn disk(alloc: Global, schema: &Schema) -> Option<MemDisk> {
-    let layout = Layout::of(schema, 1, CAPACITY)?;
+    let layout = Layout::of(schema, lanes_for(1), CAPACITY)?;
     MemDisk::new(alloc, layout.size()).ok()
 }

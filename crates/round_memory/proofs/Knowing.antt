@@ -22,6 +22,7 @@ use Rattle.round_memory.specs.Rounds.{Changes, HasFound, KnowsRounds, MayKeep, M
 use Rattle.round_memory.specs.Surveys.{FitsLane, IsOfTakers, IsSurvey, TellsDownTo, is_marked}
 use Rattle.round_memory.specs.declared.survey.Survey.{Survey}
 use Rattle.round_memory.proofs.Cuts.{Agree, agree, ahead, counts_ahead, is_one, left_is, left_untaken, older_untaken, or_else, since_since, since_store, store_is, stored_field, until_since, until_store, value_is}
+use Rattle.round_memory.proofs.Finding.{count_within}
 use Rattle.round_memory.proofs.Fitting.{EachFits, all_within, fits_append, from_log, legal_fits, of_lanes, since_lanes, to_log}
 use Rattle.round_memory.proofs.Lists.{log_append, log_long}
 use Rattle.round_memory.proofs.Writing.{Once, field_found}
@@ -141,9 +142,10 @@ module _ (s : Setting) (m : Rounds) (p : Past) (next : ℕ → ℕ) (places coun
         let at = field_found v.changed.items f d ((survey.marked.listed f).1 is) in
         subst (λ (g : ℕ). has_store g (records_until cut xs) ≡ true) at.2 (store_is counts cut (get_or v.changed.items at.0 d).field.0 xs agrees ∙ ap is_one (over.values at.0 d at.1))
 
-    pub has_found : (after : Rounds) → after.changed ≡ v.changed.items → after.marks ≡ v.marks.items → after.first ≡ v.first.items → HasFound s after p next
-    has_found after changed marks first = record {
+    pub has_found : (after : Rounds) → fields ≡ s.fields → after.changed ≡ v.changed.items → after.marks ≡ v.marks.items → after.first ≡ v.first.items → HasFound s after p next
+    has_found after size changed marks first = record {
       once = subst Once (sym changed) survey.marked.once;
+      few = omega (arith, ap (λ (cs : List HomeValue). length cs) changed, survey.marked.many, count_within v.marks.items, survey.marks, size);
       each = subst (All (Changes s p next)) (sym changed) (λ k d lt. change (get_or v.changed.items k d) (over.values k d lt));
       listed = λ f. (
         (λ has. ap (λ (ms : List Bool). is_marked ms f) marks ∙ (survey.marked.listed f).0 (subst (λ (cs : List HomeValue). Contains (fields_of cs) f) changed has)),

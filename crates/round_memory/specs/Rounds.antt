@@ -69,6 +69,7 @@ pub record Changes (s : Setting) (p : Past) (next : ℕ → ℕ) (c : HomeValue)
 -- what the next cut keeps of the records beyond the cut was found
 pub record HasFound (s : Setting) (m : Rounds) (p : Past) (next : ℕ → ℕ) : Type 0 where
   pub once : AllPairs (λ c d. c.field.0 ≢ d.field.0) m.changed
+  pub few : length m.changed ≤ s.fields
   pub each : All (Changes s p next) m.changed
   pub listed : (f : ℕ) → Contains (fields_of m.changed) f ↔ (is_marked m.marks f ≡ true)
   -- a field is marked exactly where the next cut keeps a store to it beyond the cut

@@ -1,5 +1,6 @@
 -- What a survey finds of records (this project's own). A list of (lane, record) has its newest record first.
 use Rattle.std.specs.Prelude.{ℕ, ◌≡◌, ◌≢◌, ◌↔◌, ◌+◌, ◌<◌, ◌≤◌, ◌^◌, Bool, true, false, List, [], ◌∷◌, ◌++◌, All, AllPairs, Contains, length, slice_index, slice_index_or, slice_set, Some, None, vec_capacity, if◌then◌else◌}
+use Rattle.std.specs.List.Sorted.{IsNonDecreasingBy}
 use Rattle.heap_model.specs.declared.ids.FieldId.{FieldId}
 use Rattle.heap_model.specs.declared.record.LaneRecord.{LaneRecord}
 use Rattle.heap_model.specs.declared.record.Record.{Record}
@@ -28,6 +29,10 @@ HasLane e = e.lane.0 < 32
 -- the value is of one of so many fields
 abbrev pub HasField : (fields : ℕ) → HomeValue → Type 0
 HasField fields c = c.field.0 < fields
+
+-- the values stand in the order of their fields
+abbrev pub IsSortedByField : List HomeValue → Type 0
+IsSortedByField changed = IsNonDecreasingBy (λ c. c.field.0) changed
 
 -- how many of the marks are set
 abbrev pub count_set : List Bool → ℕ

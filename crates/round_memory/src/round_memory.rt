@@ -4,7 +4,7 @@ ghost use Rattle.heap_model.specs.Log.{log_from};
 ghost use Rattle.heap_model.specs.Setting.{Setting};
 ghost use Rattle.store_past.specs.Past.{Past, after_log, after_settle, after_trim, no_past};
 ghost use Rattle.round_memory.specs.Rounds.{HasFound, KeepsFound, KnowsRounds, MayKeep, MayLog, SurveysOnly};
-ghost use Rattle.round_memory.specs.Surveys.{is_marked};
+ghost use Rattle.round_memory.specs.Surveys.{IsSortedByField, is_marked};
 
 use crate::counting::counts_between;
 use crate::keeping::{append, leave, write_all};
@@ -83,18 +83,20 @@ impl RoundMemory {
     }
 
     /// Finds what the cut behind these places keeps of the records beyond the acknowledged one, and forgets what was found before.
-    /// The time is linear in these records and in what was found before.
+    /// The time is linear in these records and in what was found before, but for a sort of the fields found.
     pub fn survey(&mut self, places: &[u64; 32])
         // A survey finds each field of which a later cut keeps a store beyond the acknowledged one, with the value that it keeps, and at which
         // number each object is first taken beyond the later cut.
         ensures found { (s : Setting) (p : Past) (next : ℕ → ℕ) → MayKeep s self.old p next places.now → HasFound s self.new p next }
+        // A survey leaves the changed fields in their order.
+        ensures sorted { IsSortedByField self.new.changed }
         ensures only { SurveysOnly self.old self.new }
     {
         let counts = counts_between(&self.starts, places);
         self.found.make(&self.beyond, &counts);
     }
 
-    /// The fields that the last survey found to change, each once, with their new values.
+    /// The fields that the last survey found to change, each once and in their order, with their new values.
     pub fn changed(&self) -> &[HomeValue]
         ensures { result.now ≡ self.now.changed }
     {

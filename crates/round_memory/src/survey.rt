@@ -5,7 +5,7 @@ ghost use Rattle.heap_model.specs.declared.record.Record.{Record as AnyRecord};
 ghost use Rattle.heap_model.specs.Log.{log_from};
 ghost use Rattle.helper_sections.specs.HelperSections.{first_taken};
 ghost use Rattle.round_memory.specs.Counting.{is_kept as is_kept_of, without_taken};
-ghost use Rattle.round_memory.specs.Surveys.{Fits, FitsLane, FoundNothing, HasField, IsOfTakers, IsSurvey, NotesStore, TellsDownTo, is_marked};
+ghost use Rattle.round_memory.specs.Surveys.{Fits, FitsLane, FoundNothing, HasField, IsOfTakers, IsSortedByField, IsSurvey, NotesStore, TellsDownTo, is_marked};
 
 use crate::counting::lane_counts;
 use heap_model::{FieldId, Lane, LaneRecord, ObjectId, Record};
@@ -15,7 +15,7 @@ use std::alloc::{AllocError, Global};
 /// What a survey has found of the records beyond a cut.
 #[derive(Drop)]
 pub(crate) struct Survey {
-    // The fields that change, each once, with their new values.
+    // The fields that change, each once, with their new values. `make` leaves them in their order.
     pub(crate) changed: Vec<HomeValue>,
     // By field: whether it is one of these.
     pub(crate) marks: Vec<bool>,
@@ -42,9 +42,11 @@ impl Survey {
         requires takers { IsOfTakers (log_from records.now) self.old }
         ensures survey { (objects fields : ℕ) → IsSurvey objects fields self.old → IsSurvey objects fields self.new }
         ensures tells { TellsDownTo counts.now (log_from records.now) [] self.new }
+        ensures sorted { IsSortedByField self.new.changed.items }
     {
         self.forget(records);
         self.note_all(records, counts);
+        self.sort_changed();
     }
 
     // Forgets what was found. The time is linear in that and in the records.
@@ -72,6 +74,16 @@ impl Survey {
             let is_kept = is_newest_kept(&mut left, counts, entry.lane);
             self.note(entry.record, is_kept);
         }
+    }
+
+    // Puts the values in the order of their fields. Neighbours are then written one after the other, and a device that joins such writes
+    // makes one of them.
+    fn sort_changed(&mut self)
+        ensures survey { (objects fields : ℕ) → IsSurvey objects fields self.old → IsSurvey objects fields self.new }
+        ensures tells { (counts : List ℕ) (all older : List (ℕ × AnyRecord)) → TellsDownTo counts all older self.old → TellsDownTo counts all older self.new }
+        ensures sorted { IsSortedByField self.new.changed.items }
+    {
+        self.changed.sort_unstable_by_key(|change| change.field.0);
     }
 
     // Notes a record that is older than those noted.

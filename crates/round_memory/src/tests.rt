@@ -68,7 +68,7 @@ fn counts() -> [u64; 32] {
     counts
 }
 
-// Of field 0 the newer store's value is found, and of the objects the one that is taken beyond the cut.
+// Of field 0 the newer store's value is found, and of the objects the one that is taken beyond the cut. The fields stand in their order.
 fn is_surveyed_as_worked(alloc: Global) -> Result<bool, AllocError> {
     let records = [
         acquire(0, 0, 0),
@@ -84,7 +84,7 @@ fn is_surveyed_as_worked(alloc: Global) -> Result<bool, AllocError> {
     let mut found = Survey::new(alloc, 2, 3)?;
     found.make(&records, &counts());
     Ok(
-        found.changed.as_slice() == [change(1, 21), change(0, 12)].as_slice()
+        found.changed.as_slice() == [change(0, 12), change(1, 21)].as_slice()
             && found.marks.as_slice() == [true, true, false].as_slice()
             && found.first.as_slice() == [0, 6].as_slice(),
     )

@@ -1,3 +1,4 @@
+pub mod Orders
 pub mod Numbers
 pub mod Runs
 pub mod Stores

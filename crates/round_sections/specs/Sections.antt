@@ -1,6 +1,6 @@
 -- The helper's sections of changed fields, one for each guard (this project's own). The changed fields stand in the order of their guards.
 -- A list of sections has the newest first: that of the last guard is the oldest.
-use Rattle.std.specs.Prelude.{ℕ, zero, suc, ◌≡◌, ◌≢◌, ◌+◌, ◌-◌, ◌<◌, ◌≤◌, ◌==◌, if◌then◌else◌, List, [], ◌∷◌, ◌++◌, drop, slice_index, Option, Some, None}
+use Rattle.std.specs.Prelude.{ℕ, zero, suc, ◌≡◌, ◌≢◌, ◌+◌, ◌-◌, ◌<◌, ◌≤◌, ◌==◌, if◌then◌else◌, List, [], ◌∷◌, ◌++◌, drop, length, slice_index, Option, Some, None}
 use Rattle.std.specs.List.{slice_index_or}
 use Rattle.std.specs.List.Sorted.{IsNonDecreasingBy}
 use Rattle.heap_model.specs.declared.ids.ObjectId.{ObjectId}
@@ -19,6 +19,11 @@ guard_of guards c = slice_index_or guards c.field.0 no_object
 -- the changed fields stand in the order of their guards
 abbrev pub IsSortedByGuard : (guards : List ObjectId) → List HomeValue → Type 0
 IsSortedByGuard guards changed = IsNonDecreasingBy (λ c. (guard_of guards c).0) changed
+
+-- those of one guard stand in the order of their numbers
+abbrev pub IsSortedWithinGuards : (guards : List ObjectId) → List HomeValue → Type 0
+IsSortedWithinGuards guards changed = (i j : ℕ) (d : HomeValue) → i ≤ j → j < length changed →
+    guard_of guards (slice_index_or changed i d) ≡ guard_of guards (slice_index_or changed j d) → (slice_index_or changed i d).field.0 ≤ (slice_index_or changed j d).field.0
 
 -- the number that one more than it tells; 0 tells that there is none
 abbrev pub told : ℕ → Option ℕ

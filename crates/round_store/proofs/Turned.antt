@@ -249,6 +249,12 @@ module _ (x : Known) (s : Setting) (p : Past) (d : Device) (has : HasPast x s p 
         pub may_join : (cells : List HomeValue) → cells ≡ settled_values x.rounds x.pending → MayMake l t s p.logged p.cut run.helped p.fresh later x.committed d next places cells fresh helper
         may_join cells same = subst (λ (xs : List HomeValue). MayMake l t s p.logged p.cut run.helped p.fresh later x.committed d next places xs fresh helper) (sym same) may_join_own
 
+-- no more fields are found than the image has
+pub found_few : (x : Known) (s : Setting) (p : Past) (d : Device) → HasPast x s p d → (next : Cut) (places : List ℕ) → IsPlan x.sections x.rounds next places →
+    (changed : List HomeValue) → changed ≡ x.rounds.changed → length changed ≤ x.layout.fields
+found_few x s p d has next places plan changed same =
+    omega (arith, (found x.threads s p x.memory x.sections x.rounds next places (tells_now x s p d has) plan).few, has.setting.fields, ap (λ (cs : List HomeValue). length cs) same)
+
 -- the cut is the acknowledged one where the rows count its sections
 module _ (x : Known) (s : Setting) (p : Past) (d : Device) (has : HasPast x s p d) where
   none_of : (cut : ℕ → ℕ) → IsWhole (actions (applied p)) cut → (k : ℕ) → x.threads ≤ k → cut k ≡ 0

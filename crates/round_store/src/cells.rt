@@ -68,13 +68,11 @@ pub(crate) fn is_joined(
     rows: &[LaneRow; 32],
 ) -> bool
     requires room { layout.now.fields ≤ vec_capacity cells.old }
+    // A field is found once, so there is room for all.
+    requires few { length changed.now ≤ layout.now.fields }
     ensures joined { result ≡ true → IsJoined layout.now threads (row_of rows.now threads) guards.now changed.now cells.new.items }
     ensures capacity { vec_capacity cells.new ≡ vec_capacity cells.old }
 {
-    // A field is found once, so there is room for all.
-    if changed.len() > layout.fields as usize {
-        return false;
-    }
     take_down(cells, changed, guards);
     is_helped(layout, threads, rows, cells, guards)
 }

@@ -1,15 +1,13 @@
 -- A helper whose store has failed goes on as it is.
-use Rattle.std.proofs.Common.{ℕ, ◌≡◌, ◌<◌, ◌≤◌, ◌++◌, List, false, true, OnErr, Result, sym, ap, ◌∙◌, subst, arith}
+use Rattle.std.proofs.Common.{ℕ, ◌≡◌, ◌++◌, List, false, true, OnErr, Result, sym, ap, ◌∙◌, subst, arith}
 use Rattle.block_disk.specs.Device.{Device}
-use Rattle.durable.specs.Store as stores
-use Rattle.durable.specs.Store.{HasPast}
+use Rattle.round_store.specs.Store as stores
+use Rattle.round_store.specs.Store.{HasPast}
 use Rattle.heap_model.specs.declared.record.Record.{Record}
-use Rattle.monitor.specs.Seats.{Home}
 use Rattle.steps.specs.Views.{plan}
-use Rattle.store_past.specs.Past.{Past, applied}
+use Rattle.store_past.specs.Past.{applied}
 use Rattle.store_past.specs.declared.error.StoreError.{StoreError}
 use Rattle.trim_helper.specs.Hearing.{IsNoted}
-use Rattle.trim_helper.specs.Parts.{IsServing, Parts}
 use Rattle.trim_helper.specs.Rings.{held_back, stream, waiting_in}
 use Rattle.trim_helper.proofs.Counting.{count_kept}
 use Rattle.trim_helper.proofs.Noting.{count_noted, place_noted}
@@ -23,7 +21,7 @@ failed_on {D} device h p x y answer was on round off =
     let noted : IsNoted x.seat y.seat = subst (λ (a : Result ℕ StoreError). OnErr a (IsNoted x.seat y.seat)) refused round.unpublished in
     let unsettled : y.is_settled ≡ false = subst (λ (a : Result ℕ StoreError). OnErr a (y.is_settled ≡ false)) refused round.unsettled in
     let none : applied round.now ≡ applied p = round.same ∙ ap (λ (newer : List (ℕ × Record)). newer ++ applied p) still.0 in
-    let lanes : y.store.known.layout.lanes ≡ x.store.known.layout.lanes = ap (λ (z : stores.Parts D). z.known.layout.lanes) same in (
+    let lanes : y.store.known.threads ≡ x.store.known.threads = ap (λ (z : stores.Parts D). z.known.threads) same in (
       record {
         taken = record {
           has = subst (λ (z : stores.Parts D). HasPast z.known (plan h) p (device z.disk)) (sym same) was.taken.has;

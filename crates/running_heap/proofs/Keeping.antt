@@ -1,5 +1,5 @@
 -- A session stays joined to its helper, and a helper goes on.
-use Rattle.std.proofs.Common.{ℕ, zero, suc, List, [], ◌∷◌, sym, ap, ◌∙◌, subst}
+use Rattle.std.proofs.Common.{ℕ, zero, suc, List, [], ◌∷◌, sym, ◌∙◌, subst}
 use Rattle.rtrb.specs.Ring.{SameProducer}
 use Rattle.lane_rings.specs.Rings.{Receiving, Sending}
 use Rattle.block_disk.specs.Device.{Device}
@@ -47,7 +47,7 @@ over_ended h c rings later e ended same = record {
 helps_on : {D : Type 0} (device : D → Device) (h : Home) (x y : Parts D) (now : Past) → IsHelping device h x → HasGoneOn h x y → IsServing device y (plan h) now → IsHelping device h y
 helps_on device h x y now was on serving = record {
   seat = on.seat;
-  lanes = was.lanes ∙ ap (λ l. l.lanes) (sym on.layout);
+  lanes = was.lanes ∙ sym on.threads;
   rings = on.rings.count ∙ was.rings;
   nobody = on.taken ∙ was.nobody;
   past = now;
@@ -59,6 +59,6 @@ goes_on device h p x y answer was on round = helps_on device h x y round.now was
 
 pub drains_on : {D : Type 0} (device : D → Device) → DrainLaw device
 drains_on device h x y n was seat drained quiet =
-    let on : HasGoneOn h x y = goes_drained h x y was.seat seat drained.same drained.layout in
+    let on : HasGoneOn h x y = goes_drained h x y was.seat seat drained.same drained.layout drained.threads in
     let served = drained_serves device x y n (plan h) was.past drained seat quiet was.serving in
     (on, helps_on device h x y served.now was on served.serves)

@@ -1,5 +1,5 @@
 -- What stands once a running heap is closed.
-use Rattle.std.specs.Prelude.{ℕ, ◌≡◌, ◌≤◌, false, List, [], All}
+use Rattle.std.specs.Prelude.{ℕ, ◌≡◌, ◌≤◌, List, [], All}
 use Rattle.heap_model.specs.declared.event.Event.{Event}
 use Rattle.heap_model.specs.declared.record.Record.{Record}
 use Rattle.heap_model.specs.Cuts.{all_ended}
@@ -12,7 +12,8 @@ use Rattle.image.specs.declared.layout.Layout.{Layout}
 use Rattle.undo_log.specs.StandsFor.{StandsFor}
 use Rattle.store_image.specs.KeptHeap.{StandsForCut, values_below}
 use Rattle.store_past.specs.Past.{Past, applied}
-use Rattle.durable.specs.Runs.{HasRun, IsLeftBy}
+use Rattle.round_store.specs.Runs.{HasRun}
+use Rattle.round_store.specs.Stops.{ShowsCut}
 use Rattle.monitor.specs.Rule.{Spelled}
 use Rattle.monitor.specs.Seats.{Helping, Home}
 use Rattle.monitor.specs.Views.{GoesOn}
@@ -24,8 +25,8 @@ use Rattle.trim_helper.specs.Settled.{closed_value}
 use Rattle.trim_helper.specs.Taken.{trimmed_of}
 use Rattle.trim_helper.specs.declared.ended.Ended.{Ended}
 
--- One legal history has what each of these sessions was told as its lane's part, and no other lane has any. The store calls of the run
--- have applied its logs, lane by lane. Whatever a crash leaves, a store of that past leaves: recovery takes it. It stands for the heap
+-- One legal history has what each of these sessions was told as its lane's part, and no other lane has any. The store has
+-- applied its logs, lane by lane. Whatever a crash leaves shows the acknowledged cut of that past: recovery takes it. It stands for the heap
 -- of that history with all its sections: after it the persistent fields have these values, and the transient ones begin anew.
 pub record IsClosed (h : Home) (l : Layout) (ended : List Ended) (d : Device) : Type 0 where
   pub history : List (ℕ × Event)
@@ -40,8 +41,8 @@ pub record IsClosed (h : Home) (l : Layout) (ended : List Ended) (d : Device) : 
   pub spelled : Spelled h.plan words (state_after (plan h) history)
   pub now : Past
   pub logs : (k : ℕ) → lane k (applied now) ≡ lane k (log_of (plan h) history)
-  -- Whatever a crash leaves after a closing is what a store may leave, so that recovery accepts it.
-  pub left : Always d (IsLeftBy l (plan h) now)
+  -- Whatever a crash leaves after a closing shows the acknowledged cut, so that recovery accepts it.
+  pub left : Always d (ShowsCut l h.plan.lanes (plan h) now.logged now.cut)
   -- Whatever a crash leaves after a closing stands for the history's heap with all sections.
   pub stands : Always d (StandsForCut l (plan h) (log_of (plan h) history) (all_ended (actions (log_of (plan h) history))))
   -- After a closing the heap has the last values of persistent fields, and the first values of transient fields.
@@ -65,13 +66,14 @@ WereTold log seat acknowledged trimmed ended = All (WasTold log seat acknowledge
 
 -- The heap was closed from this past, on the one device, which then was the other, by a helper with this seat. The history goes on from the
 -- one that the helper had seen. Each session was told of what was acknowledged and trimmed by then, by counts of cuts of the history's log;
--- and whatever a crash left since shows what some of the store calls that were made since make of that past.
+-- and whatever a crash left since shows a whole closed cut of a beginning of what was applied, with all that was acknowledged.
 pub record IsClosedFrom (h : Home) (l : Layout) (ended : List Ended) (p : Past) (seat : Helping) (since d : Device) : Type 0 where
   pub closed : IsClosed h l ended d
   -- The history of a closing goes on from the one that the helper had seen.
   pub later : GoesOn closed.history seat.view.history
-  -- A closing names the store calls that it made.
-  pub ran : HasRun l (plan h) p since closed.now d false
+  -- A closing is a run of the store: whatever a crash left meanwhile shows a whole closed cut of a beginning of what was applied, with all
+  -- that was acknowledged before.
+  pub ran : HasRun l h.plan.lanes (plan h) p since closed.now d
   pub told : WereTold (log_of (plan h) closed.history) seat p.cut (trimmed_of p) ended
 
 module _ {D : Type 0} (device : D → Device) where

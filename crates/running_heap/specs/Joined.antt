@@ -29,10 +29,10 @@ AreNew l [] = Unit {0}
 AreNew l (x ∷ xs) = ((view_of x).lane.0 ≡ l) × ((view_of x).events ≡ []) × AreNew (suc l) xs
 
 module _ {D : Type 0} (device : D → Device) where
-  -- The helper is of these words and has their lanes, it took in nobody, and its store has a past under their setting.
+  -- The helper is of these words and its store's threads have their lanes, it took in nobody, and its store has a past under their setting.
   pub record IsHelping (h : Home) (x : Parts D) : Type 0 where
     pub seat : IsHelper h x.seat
-    pub lanes : h.plan.lanes ≡ x.store.known.layout.lanes
+    pub lanes : h.plan.lanes ≡ x.store.known.threads
     pub rings : length x.rings ≡ h.plan.lanes
     pub nobody : taken_in x.seat ≡ []
     pub past : Past

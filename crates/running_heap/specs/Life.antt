@@ -1,8 +1,8 @@
--- A heap's life since its opening: the store calls that its helper made (this project's own).
+-- A heap's life since its opening: what its helper's store has run (this project's own).
 use Rattle.std.specs.Prelude.{ℕ, ◌≡◌, true, false, List, Result}
 use Rattle.block_disk.specs.Device.{Device}
-use Rattle.durable.specs.Runs.{HasRun}
-use Rattle.durable.specs.Store.{Known, HasPast}
+use Rattle.round_store.specs.Runs.{HasRun}
+use Rattle.round_store.specs.Store.{Known, HasPast}
 use Rattle.image.specs.declared.layout.Layout.{Layout}
 use Rattle.monitor.specs.Seats.{Home}
 use Rattle.steps.specs.Views.{plan}
@@ -13,23 +13,25 @@ use Rattle.trim_helper.specs.Calls.{HasGoneOn, Rounds}
 use Rattle.trim_helper.specs.Parts.{HasDrained, IsServing, Parts}
 use Rattle.running_heap.specs.Closed.{IsClosedFrom}
 
--- From the one device, when its store had been told nothing, to the other these calls of the store were made, and none of them failed.
+-- From the one device, when its store had been told nothing, the store has run to the other. Its threads have the lanes of these words.
 pub record HasLivedTo (h : Home) (l : Layout) (opened : Device) (now : Past) (d : Device) : Type 0 where
   pub began : Known
   pub nothing : HasPast began (plan h) no_past opened
   pub layout : began.layout ≡ l
-  pub ran : HasRun l (plan h) no_past opened now d false
+  pub threads : began.threads ≡ h.plan.lanes
+  pub ran : HasRun l h.plan.lanes (plan h) no_past opened now d
 
 module _ {D : Type 0} (device : D → Device) where
-  -- the helper serves this past, which store calls since the opening have made, and its store hasn't failed
+  -- the helper serves this past, to which its store has run since the opening; its threads have the words' lanes, and the store hasn't failed
   pub record HasLived (h : Home) (opened : Device) (x : Parts D) (p : Past) : Type 0 where
     pub life : HasLivedTo h x.store.known.layout opened p (device x.store.disk)
+    pub lanes : h.plan.lanes ≡ x.store.known.threads
     pub serving : IsServing device x (plan h) p
     pub running : x.store.known.has_failed ≡ false
 
-  -- so it begins: on the device that it has then
+  -- so it begins, where its threads have the words' lanes: on the device that it has then
   abbrev pub BirthLaw : Type 0
-  BirthLaw = (h : Home) (x : Parts D) → IsServing device x (plan h) no_past → x.store.known.has_failed ≡ false → HasLived h (device x.store.disk) x no_past
+  BirthLaw = (h : Home) (x : Parts D) → h.plan.lanes ≡ x.store.known.threads → IsServing device x (plan h) no_past → x.store.known.has_failed ≡ false → HasLived h (device x.store.disk) x no_past
 
   -- and it goes on over a round after which the store hasn't failed
   abbrev pub LifeLaw : Type 0

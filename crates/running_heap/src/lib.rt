@@ -1,8 +1,9 @@
 //! A heap whose sessions run in threads beside a helper, from its opening to its end.
 //!
-//! [`open`] makes of a recovered heap the words that threads share, one session a lane and the helper. Each session may go to a thread of its
-//! own, and the helper to another. [`end`] makes of a session what the helper meets, and [`close`] lets them meet. The device then has the heap
-//! of one legal history. In it each session's part is what its calls told.
+//! [`open`] makes of a recovered heap the words that threads share, one session for each of their lanes, and the helper. Each session may go
+//! to a thread of its own, and the helper to another. Where the image has one lane more than there are threads, it is the helper's own.
+//! [`end`] makes of a session what the helper meets, and [`close`] lets them meet. The device then has the heap of one legal history. In it
+//! each session's part is what its calls told.
 #![tactic(auto)]
 
 mod closing;

@@ -1,8 +1,8 @@
 -- What a crash keeps after a fault.
 use Rattle.std.proofs.Common.{ℕ, ◌≡◌, sym, ap, ◌∙◌, subst}
 use Rattle.block_disk.specs.Device.{Device}
-use Rattle.durable.specs.Runs.{HasRun}
-use Rattle.durable.specs.Store as stores
+use Rattle.round_store.specs.Runs.{HasRun}
+use Rattle.round_store.specs.Store as stores
 use Rattle.steps.specs.Views.{plan}
 use Rattle.survival.specs.WholeRun.{MayBeLeft}
 use Rattle.trim_helper.specs.Heard.{IsSeenOf}
@@ -17,14 +17,15 @@ module _ {D : Type 0} (device : D → Device) where
       let still = failed h run.now y z answer on.serves goes round off in
       let same : z.store ≡ y.store = still.1 in
       let layout : z.store.known.layout ≡ y.store.known.layout = ap (λ (x : stores.Parts D). x.known.layout) same in
+      let threads : z.store.known.threads ≡ y.store.known.threads = ap (λ (x : stores.Parts D). x.known.threads) same in
       record {
         run = record {
           store = run.store;
           layout = run.layout ∙ sym layout;
+          threads = run.threads ∙ sym threads;
           has = run.has;
           now = run.now;
-          has_failed = run.has_failed;
-          ran = subst (λ (x : stores.Parts D). HasRun x.known.layout (plan h) p old run.now (device x.disk) run.has_failed) (sym same) run.ran;
+          ran = subst (λ (x : stores.Parts D). HasRun x.known.layout x.known.threads (plan h) p old run.now (device x.disk)) (sym same) run.ran;
         };
         serves = still.0;
         legal = on.legal;

@@ -2,9 +2,9 @@
 use Rattle.std.proofs.Common.{◌≡◌, List, [], ◌∷◌, ◌++◌, length, sym, ap, ◌∙◌, arith}
 use Rattle.std.proofs.lemmas.List.{length-append}
 use Rattle.block_disk.specs.Device.{Device}
-use Rattle.durable.specs.Store as stores
 use Rattle.monitor.specs.Views.{noted}
 use Rattle.monitor.specs.declared.view.Note.{Note}
+use Rattle.round_store.specs.Store as stores
 use Rattle.steps.specs.Views.{plan}
 use Rattle.trim_helper.specs.Helping.{count_published}
 use Rattle.running_life.specs.Told.{RisesLaw}
@@ -38,13 +38,13 @@ module _ {D : Type 0} (device : D → Device) where
 
   pub read_publishing : RisesLaw → ReadWhilePublishingLaw device
   read_publishing rises h p x y now t sections helping serving durable published at by =
-      let layout : y.store.known.layout.lanes ≡ x.store.known.layout.lanes = ap (λ (z : stores.Parts D). z.known.layout.lanes) published.store in
+      let threads : y.store.known.threads ≡ x.store.known.threads = ap (λ (z : stores.Parts D). z.known.threads) published.store in
       let serves = published.serves (plan h) p serving durable in
       let all : by.helper.next ≡ y.seat.next = by.next ∙ helping.seat.all ∙ sym published.seat.all in (
         record {
           helping = record {
             seat = published.seat;
-            lanes = helping.lanes ∙ sym layout;
+            lanes = helping.lanes ∙ sym threads;
             rings = ap (λ (r : List _). length r) published.rings ∙ helping.rings;
             nobody = published.taken ∙ helping.nobody;
             past = p;

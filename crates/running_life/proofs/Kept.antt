@@ -1,15 +1,18 @@
 -- What a crash keeps of a heap's life.
-use Rattle.std.proofs.Common.{false, [], sym}
+use Rattle.std.proofs.Common.{[], sym}
 use Rattle.block_disk.specs.Device.{Device}
 use Rattle.running_heap.specs.Life.{ClosedLifeLaw}
 use Rattle.steps.specs.Views.{plan}
-use Rattle.store_past.specs.Past.{no_past}
-use Rattle.survival.specs.Running.{RunLaw}
+use Rattle.store_past.specs.Past.{applied, no_past}
+use Rattle.round_survival.specs.Histories.{RoundRunLaw}
 use Rattle.running_life.specs.Crashes.{CrashLaw}
+use Rattle.running_life.proofs.Shown.{run_shows}
 
-pub kept : {D : Type 0} (device : D → Device) → ClosedLifeLaw device → RunLaw → CrashLaw device
+pub kept : {D : Type 0} (device : D → Device) → ClosedLifeLaw device → RoundRunLaw → CrashLaw device
 kept device closes law h opened d x p ended was from image left =
     let life = closes h opened d x p ended was from in
     let c = from.closed in
-    law x.store.known.layout (plan h) no_past opened d c.history image
-    (record { store = life.began; layout = life.layout; has = life.nothing; now = c.now; has_failed = false; ran = life.ran }) c.legal (λ k. ([], sym (c.logs k))) left
+    let l = x.store.known.layout in
+    law l h.plan.lanes (plan h) no_past (applied c.now) c.history image c.legal (λ k. ([], sym (c.logs k)))
+    (run_shows l h.plan.lanes (plan h) no_past opened d image
+    (record { store = life.began; layout = life.layout; threads = life.threads; has = life.nothing; now = c.now; ran = life.ran }) left)

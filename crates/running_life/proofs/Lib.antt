@@ -1,4 +1,4 @@
-pub mod Applied
+pub mod Shown
 pub mod Kept
 pub mod Running
 pub mod Seen

@@ -1,25 +1,25 @@
 -- What sessions have read of a heap that runs.
-use Rattle.std.proofs.Common.{if◌then◌else◌, ℕ, ◌≡◌, ◌<◌, ◌≤◌, false, List, [], ◌∷◌, ◌++◌, length, refl, sym, subst, inr, arith}
+use Rattle.std.proofs.Common.{if◌then◌else◌, ℕ, ◌≡◌, ◌<◌, ◌≤◌, List, [], ◌∷◌, ◌++◌, length, refl, sym, ap, ◌∙◌, subst, inr, arith}
 use Rattle.heap_model.specs.declared.event.Event.{Event}
 use Rattle.heap_model.specs.History.{IsLegalHistory}
 use Rattle.heap_model.specs.Setting.{Setting}
 use Rattle.block_disk.specs.Device.{Device}
-use Rattle.durable.proofs.Running.{ran_none}
 use Rattle.history_laws.proofs.Own.{by_test}
 use Rattle.image.specs.declared.layout.Layout.{Layout}
 use Rattle.monitor.specs.Posts.{ArePublished, NeverFall, WasPublished}
 use Rattle.monitor.specs.Seats.{Helping, Home, Sitting}
 use Rattle.monitor.specs.Views.{lane_of, noted}
 use Rattle.monitor.specs.declared.view.Note.{Note}
+use Rattle.round_store.proofs.Running.{run_none}
 use Rattle.session.specs.Sessions.{seat_of, view_of}
 use Rattle.session.specs.declared.session.Session.{Session}
 use Rattle.steps.specs.Views.{plan, view}
 use Rattle.store_past.specs.Past.{Past}
-use Rattle.survival.specs.Running.{RunsSince}
 use Rattle.trim_helper.specs.Heard.{IsSeenOf, SeenLaw}
 use Rattle.trim_helper.specs.Parts.{Parts}
 use Rattle.running_heap.specs.Joined.{IsHelping}
 use Rattle.running_life.specs.Running.{CrashInRunLaw, GoesOnLegally}
+use Rattle.running_life.specs.Runs.{RunsSince}
 use Rattle.running_life.specs.Told.{HasPublishedNoMore, HasReadOf, IsMoment, IsSeated, KeepsRead, KeepsReadAtRestLaw, KeepsReadInRoundLaw, KeepsReadLaw, KeepsTold, KeepsToldLaw, Moment, ReadLaw, RestLaw, RisesLaw}
 use Rattle.running_life.proofs.Running.{kept_in}
 
@@ -90,8 +90,8 @@ seen_legal h now helper at =
     legal_first (plan h) goes.0 helper.view.history (subst (λ (z : List (ℕ × Event)). IsLegalHistory (plan h) z) goes.1 at.kept.legal)
 
 module _ {D : Type 0} (device : D → Device) where
-  -- the lane of a seat is one of the device's
-  pub lane_there : (h : Home) (x : Parts D) (now : Moment) (helper : Helping) (seat : Sitting) → IsHelping device h x → IsMoment h now helper → IsSeated now seat → HasPublishedNoMore helper x.seat → (lane_of seat.view).0 < x.store.known.layout.lanes
+  -- the lane of a seat is one of the threads'
+  pub lane_there : (h : Home) (x : Parts D) (now : Moment) (helper : Helping) (seat : Sitting) → IsHelping device h x → IsMoment h now helper → IsSeated now seat → HasPublishedNoMore helper x.seat → (lane_of seat.view).0 < x.store.known.threads
   lane_there h x now helper seat helping at sits no_more =
       let below = lane_below h now helper seat at sits in
       let next = no_more.next in
@@ -123,7 +123,10 @@ module _ {D : Type 0} (device : D → Device) where
   read_of_kept h p x l t sections now image had layout told =
       let by = had.reads in
       let k = (lane_of (seat_of t).view).0 in
-      let there : k < l.lanes = subst (λ (o : Layout). k < o.lanes) (sym layout) (lane_there h x by.moment by.helper (seat_of t) had.helping by.is by.seated by.no_more) in
+      let below : k < x.store.known.threads = lane_there h x by.moment by.helper (seat_of t) had.helping by.is by.seated by.no_more in
+      let within : x.store.known.threads ≤ x.store.known.layout.lanes = had.serves.taken.has.layout.within in
+      let same_lanes : l.lanes ≡ x.store.known.layout.lanes = ap (λ (o : Layout). o.lanes) layout in
+      let there : k < l.lanes = omega (arith, below, within, same_lanes) in
       let least = session_read h p x t sections had in
       let stays = told.kept.stays k in
       let same = told.kept.kept_are k there in
@@ -138,15 +141,16 @@ module _ {D : Type 0} (device : D → Device) where
     pub round_read : SeenLaw device → KeepsReadInRoundLaw device
     round_read seen_of h p x y answer t sections now helper image had made at seen left =
         let round = made.round in
-        let run : RunsSince y.store.known.layout (plan h) p (device x.store.disk) (device y.store.disk) =
-        record { store = x.store.known; layout = sym made.on.layout; has = had.serves.taken.has; now = round.now; has_failed = y.store.known.has_failed; ran = round.ran } in
+        let run : RunsSince y.store.known.layout y.store.known.threads (plan h) p (device x.store.disk) (device y.store.disk) =
+        record { store = x.store.known; layout = sym made.on.layout; threads = sym made.on.threads; has = had.serves.taken.has; now = round.now; ran = round.ran } in
         let of : IsSeenOf h (length y.rings) round.now helper.view.history =
         subst (λ (z : List (ℕ × Event)). IsSeenOf h (length y.rings) round.now z) (sym seen) (seen_of h (plan h) round.now y made.seen round.serves) in
         read_kept h p x y t sections now helper image had made.on.layout (record { run = run; serves = round.serves; legal = seen_legal h now helper at; seen_of = of }) at left
 
     pub rest_kept : KeepsReadAtRestLaw device
     rest_kept h p x t sections now helper image had rests at left =
-        let ran = ran_none x.store.known.layout (plan h) p (device x.store.disk) false in
-        let run : RunsSince x.store.known.layout (plan h) p (device x.store.disk) (device x.store.disk) =
-        record { store = x.store.known; layout = refl; has = rests.serves.taken.has; now = p; has_failed = false; ran = ran } in
+        let l : Layout = x.store.known.layout in
+        let ran = run_none l x.store.known.threads (plan h) p (device x.store.disk) in
+        let run : RunsSince l x.store.known.threads (plan h) p (device x.store.disk) (device x.store.disk) =
+        record { store = x.store.known; layout = refl; threads = refl; has = rests.serves.taken.has; now = p; ran = ran } in
         read_kept h p x x t sections now helper image had refl (record { run = run; serves = rests.serves; legal = rests.legal; seen_of = rests.seen_of }) at left

@@ -10,7 +10,7 @@ use Rattle.monitor.specs.Views.{GoesOn}
 use Rattle.steps.specs.Views.{plan}
 use Rattle.store_past.specs.Past.{Past, no_past}
 use Rattle.store_past.specs.declared.error.StoreError.{StoreError}
-use Rattle.survival.specs.Running.{KeepsIn, KeepsOfHistory, RunsSince}
+use Rattle.survival.specs.Running.{KeepsIn, KeepsOfHistory}
 use Rattle.survival.specs.WholeRun.{MayBeLeft}
 use Rattle.trim_helper.specs.Calls.{HasGoneOn, Rounds}
 use Rattle.trim_helper.specs.Heard.{HasSeen, IsSeenOf}
@@ -18,6 +18,7 @@ use Rattle.trim_helper.specs.Parts.{IsServing, Parts}
 use Rattle.trim_helper.specs.declared.ended.Ended.{Ended}
 use Rattle.running_heap.specs.Closed.{IsClosedFrom}
 use Rattle.running_heap.specs.Life.{HasLived}
+use Rattle.running_life.specs.Runs.{RunsSince}
 
 -- These histories: each legal one that goes on from the one seen.
 pub record GoesOnLegally (s : Setting) (seen later : List (ℕ × Event)) : Type 0 where
@@ -44,9 +45,9 @@ ToldLaw = (h : Home) (l : Layout) (ended : List Ended) (p q : Past) (seat : Help
     → (from : IsClosedFrom h l ended q seat since d) → KeepsOfHistory l (plan h) p from.closed.history image
 
 module _ {D : Type 0} (device : D → Device) where
-  -- A store of this past had the old device, and has made calls since. A helper serves it now, and has seen this legal history of what is applied.
+  -- A store of this past had the old device, and has run since. A helper serves it now, and has seen this legal history of what is applied.
   pub record RunsOn (h : Home) (p : Past) (old : Device) (y : Parts D) (seen : List (ℕ × Event)) : Type 0 where
-    pub run : RunsSince y.store.known.layout (plan h) p old (device y.store.disk)
+    pub run : RunsSince y.store.known.layout y.store.known.threads (plan h) p old (device y.store.disk)
     pub serves : IsServing device y (plan h) run.now
     pub legal : IsLegalHistory (plan h) seen
     pub seen_of : IsSeenOf h (length y.rings) run.now seen

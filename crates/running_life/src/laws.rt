@@ -8,13 +8,13 @@ ghost use Rattle.running_life.specs.Told.{KeepsReadAtRestLaw, KeepsReadInRoundLa
 use block_disk::Disk;
 use history_laws::{log_law, own_log_law, sent_law};
 use release_laws::released_law;
+use round_survival::{round_run_law, two_syncs_law};
 use running_heap::life_law;
-use survival::{has_study_law, run_law};
 use trim_helper::seen_law;
 
 /// Recovery accepts whatever a crash leaves of a heap while threads run. It keeps whole sections of the threads' history, each with every
 /// section that it depends on, and every section that was acknowledged before the crash. The clauses say so of each moment:
-/// - `run`: of a run of store calls that a helper served, with all that was acknowledged when the run began;
+/// - `run`: of a run of a store that a helper served, with all that was acknowledged when the run began;
 /// - `round`: of a round, whatever the round answers, with all that was acknowledged before the round;
 /// - `opened`: from the opening to the end of a round;
 /// - `between`: from the opening to now, while the helper rests between two rounds;
@@ -32,7 +32,7 @@ use trim_helper::seen_law;
 /// to the first release. A crash after its settling leaves the section kept, and the second taking counts for nothing, whether the
 /// history goes on with its release or never does.
 pub fn round_law<D: Disk>()
-    // While threads run, what a crash leaves at any moment of any run of store calls keeps whole sections of their
+    // While threads run, what a crash leaves at any moment of any run of the store keeps whole sections of their
     // history, and all that was acknowledged before the run.
     ensures run { CrashInRunLaw D.device }
     // While threads run, recovery accepts whatever a crash leaves at any moment of a round. It keeps whole sections of
@@ -56,7 +56,7 @@ pub fn round_law<D: Disk>()
     own_log_law();
     sent_law();
     released_law();
-    has_study_law();
+    two_syncs_law();
     seen_law::<D>();
 }
 
@@ -68,7 +68,7 @@ pub fn crash_law<D: Disk>()
     ensures { CrashLaw D.device }
 {
     life_law::<D>();
-    run_law();
+    round_run_law();
 }
 
 /// No crash takes back what a session has read as stable, even if its heap is never closed. [`Session::stable`](session::Session::stable)

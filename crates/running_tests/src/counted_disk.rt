@@ -1,5 +1,6 @@
 //! A disk in memory that counts its writes and syncs.
 
+ghost use Rattle.std.specs.Prelude.{◌≡◌};
 ghost use Rattle.block_disk.specs.Memory.{device_of};
 
 use block_disk::{Disk, DiskError, MemDisk};
@@ -19,6 +20,13 @@ impl CountedDisk {
             disk,
             counts: (0, 0),
         }
+    }
+
+    /// The disk that is counted.
+    pub fn memory(&self) -> &MemDisk
+        ensures { result.now ≡ self.now.disk }
+    {
+        &self.disk
     }
 }
 

@@ -1,6 +1,6 @@
-//! Heaps that run on disks in memory, which hold 4,000 records.
+//! Heaps that run on disks in memory, whose threads' lanes hold 4,000 records.
 
-ghost use Rattle.std.specs.Prelude.{IfSome, All};
+ghost use Rattle.std.specs.Prelude.{◌≤◌, ◌+◌, IfSome, All};
 ghost use Rattle.block_disk.specs.Memory.{device_of};
 ghost use Rattle.running_heap.specs.Joined.{IsHelping, IsJoined};
 
@@ -59,14 +59,19 @@ pub fn declare(alloc: Global) -> Option<Schema> {
     }
 }
 
-// A heap of this schema, with so many lanes of so many records, begins to run. `None` is a refusal.
+// A heap of this schema, with so many lanes of so many records, the first of which are so many threads', begins to run. `None` is a
+// refusal.
 fn begin<D: Disk + Drop>(
     alloc: Global,
     disk: D,
     schema: Schema,
     lanes: u8,
+    threads: u8,
     capacity: u32,
 ) -> Option<RunningHeap<D>>
+    requires some { 1 ≤ threads }
+    requires within { threads ≤ lanes }
+    requires most { lanes ≤ threads + 1 }
     ensures joined { IfSome result (λ o. All (IsJoined o.shared o.helper.store.known.layout.capacity o.helper.rings) o.sessions.items) }
     ensures helping { IfSome result (λ o. IsHelping D.device o.shared o.helper) }
 {
@@ -78,7 +83,7 @@ fn begin<D: Disk + Drop>(
             return None;
         }
     };
-    let heap = match open(alloc, schema, made, LAST, RingRecords::usual()) {
+    let heap = match open(alloc, schema, made, threads, LAST, RingRecords::usual()) {
         Ok(heap) => heap,
         Err((disk, _why)) => {
             drop(disk);
@@ -129,7 +134,7 @@ pub fn open_one<D: Disk + Drop>(alloc: Global, disk: D) -> Option<(RunningHeap<D
     ensures helping { IfSome result (λ o. IsHelping D.device o.0.shared o.0.helper) }
 {
     let schema = declare(alloc)?;
-    match begin(alloc, disk, schema, 1, 4_000) {
+    match begin(alloc, disk, schema, 1, 1, 4_000) {
         Some(heap) => only_lane(heap),
         None => None,
     }
@@ -138,12 +143,12 @@ pub fn open_one<D: Disk + Drop>(alloc: Global, disk: D) -> Option<(RunningHeap<D
 /// A heap of two lanes, and their sessions.
 pub type TwoLanes = (RunningHeap<MemDisk>, Session, Session);
 
-// Takes both sessions of a heap of two lanes, of which they are there.
-fn take_both(heap: &mut RunningHeap<MemDisk>) -> Option<(Session, Session)>
+// Takes both sessions of a heap of two threads, of which they are there.
+fn take_both<D: Disk + Drop>(heap: &mut RunningHeap<D>) -> Option<(Session, Session)>
     requires joined { All (IsJoined heap.old.shared heap.old.helper.store.known.layout.capacity heap.old.helper.rings) heap.old.sessions.items }
     ensures first { IfSome result (λ r. IsJoined heap.new.shared heap.new.helper.store.known.layout.capacity heap.new.helper.rings r.0) }
     ensures second { IfSome result (λ r. IsJoined heap.new.shared heap.new.helper.store.known.layout.capacity heap.new.helper.rings r.1) }
-    ensures helping { IsHelping device_of heap.old.shared heap.old.helper → IsHelping device_of heap.new.shared heap.new.helper }
+    ensures helping { IsHelping D.device heap.old.shared heap.old.helper → IsHelping D.device heap.new.shared heap.new.helper }
 {
     let second = take_last(heap);
     let first = take_last(heap);
@@ -151,12 +156,12 @@ fn take_both(heap: &mut RunningHeap<MemDisk>) -> Option<(Session, Session)>
 }
 
 // Its sessions are apart.
-fn both_lanes(heap: RunningHeap<MemDisk>) -> Option<TwoLanes>
+fn both_lanes<D: Disk + Drop>(heap: RunningHeap<D>) -> Option<(RunningHeap<D>, Session, Session)>
     requires joined { All (IsJoined heap.shared heap.helper.store.known.layout.capacity heap.helper.rings) heap.sessions.items }
-    requires helping { IsHelping device_of heap.shared heap.helper }
+    requires helping { IsHelping D.device heap.shared heap.helper }
     ensures first { IfSome result (λ o. IsJoined o.0.shared o.0.helper.store.known.layout.capacity o.0.helper.rings o.1) }
     ensures second { IfSome result (λ o. IsJoined o.0.shared o.0.helper.store.known.layout.capacity o.0.helper.rings o.2) }
-    ensures helping { IfSome result (λ o. IsHelping device_of o.0.shared o.0.helper) }
+    ensures helping { IfSome result (λ o. IsHelping D.device o.0.shared o.0.helper) }
 {
     let mut heap = heap;
     let both = take_both(&mut heap);
@@ -176,7 +181,27 @@ pub fn open_two(alloc: Global, schema: Schema) -> Option<TwoLanes>
         drop(schema);
         return None;
     };
-    match begin(alloc, disk, schema, 2, 2_000) {
+    match begin(alloc, disk, schema, 2, 2, 2_000) {
+        Some(heap) => both_lanes(heap),
+        None => None,
+    }
+}
+
+/// A heap of two threads on an image of three lanes, the last of which is the helper's. It begins to run on this disk. Both sessions are
+/// apart.
+pub fn open_helped<D: Disk + Drop>(
+    alloc: Global,
+    disk: D,
+) -> Option<(RunningHeap<D>, Session, Session)>
+    ensures first { IfSome result (λ o. IsJoined o.0.shared o.0.helper.store.known.layout.capacity o.0.helper.rings o.1) }
+    ensures second { IfSome result (λ o. IsJoined o.0.shared o.0.helper.store.known.layout.capacity o.0.helper.rings o.2) }
+    ensures helping { IfSome result (λ o. IsHelping D.device o.0.shared o.0.helper) }
+{
+    let Some(schema) = declare(alloc) else {
+        drop(disk);
+        return None;
+    };
+    match begin(alloc, disk, schema, 3, 2, 2_000) {
         Some(heap) => both_lanes(heap),
         None => None,
     }

@@ -3,6 +3,8 @@
 //! Heaps that run, by their public calls alone: how far a session comes ahead of its helper, what closing answers, and what a device that fails
 //! leaves.
 //!
+//! And a heap whose helper has a lane of its own: its rounds take two syncs.
+//!
 //! And heaps that crash while workers run. Whatever a crash leaves at any call of the device, recovery keeps whole sections of what the workers
 //! did, as each of them noted it, and all that was acknowledged before. In a pool's fields it finds a free list with no slot twice.
 #![tactic(auto)]
@@ -15,6 +17,8 @@ mod endings;
 mod faults;
 #[cfg(test)]
 mod heap;
+#[cfg(test)]
+mod helpers_lane;
 #[cfg(test)]
 mod images;
 #[cfg(test)]

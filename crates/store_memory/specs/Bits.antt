@@ -12,11 +12,6 @@ pub record IsLowestIn (words : List ℕ) (word least : ℕ) : Type 0 where
   pub among : has_bit words least ≡ true
   pub lowest : (i : ℕ) → i / 64 ≡ word → i < least → has_bit words i ≡ false
 
--- the least number of the set
-pub record IsLeastBit (words : List ℕ) (least : ℕ) : Type 0 where
-  pub among : has_bit words least ≡ true
-  pub lowest : (i : ℕ) → i < least → has_bit words i ≡ false
-
 -- the first word that isn't 0
 pub record IsFirstWord (words : List ℕ) (word : ℕ) : Type 0 where
   pub some : 0 < slice_index words word

@@ -1,7 +1,7 @@
 //! Sets of numbers as bits, 64 a word.
 
 ghost use Rattle.std.specs.Prelude.{◌≡◌, ◌≢◌, ◌<◌, ◌/◌, ◌^◌, ◌==◌, ℕ, true, false, if◌then◌else◌, length, slice_index, MatchOption};
-ghost use Rattle.store_memory.specs.Bits.{has_bit, IsLowestIn, IsLeastBit, IsFirstWord};
+ghost use Rattle.store_memory.specs.Bits.{has_bit, IsLowestIn, IsFirstWord};
 
 // The bits of a word.
 const WORD_BITS: usize = 64;

@@ -20,10 +20,6 @@ use Rattle.recover.specs.Recovery.{IsWorn}
 abbrev pub MayBeLeft : (old new : Device) → List ℕ → Type 0
 MayBeLeft old new image = LeftSince (length old.past) new image
 
--- the cut is the acknowledged one, or that of all that is stable of what is logged: a settling that was cut off had just acknowledged it
-abbrev pub IsAcknowledged : Past → (cut : ℕ → ℕ) → Type 0
-IsAcknowledged p cut = (cut ≡ p.cut) ⊎ IsStable (actions p.logged) cut
-
 -- what is in doubt is whether the stable cut is acknowledged
 abbrev pub MayAcknowledge : Doubt → Type 0
 MayAcknowledge w = (w ≡ Settling) ⊎ (w ≡ Acknowledging)

@@ -9,9 +9,9 @@ use Rattle.heap_model.specs.declared.record.Record.{Record}
 use Rattle.heap_model.specs.Setting.{Setting}
 use Rattle.block_disk.specs.Device.{Device}
 use Rattle.store_past.specs.Past.{Past, applied, after_apply}
-use Rattle.durable.specs.Calls.{RefusesApply}
-use Rattle.durable.specs.Store as stores
-use Rattle.durable.specs.Store.{HasPast}
+use Rattle.round_store.specs.Steps.{RefusesApply}
+use Rattle.round_store.specs.Store as stores
+use Rattle.round_store.specs.Store.{HasPast}
 use Rattle.store_past.specs.declared.error.StoreError.{StoreError}
 use Rattle.store_past.specs.declared.error.StoreError.TheVariants.{Failed}
 use Rattle.trim_helper.specs.Rings.{received_of, known_of, held_back, waiting_in, stream}
@@ -74,6 +74,7 @@ module _ {D : Type 0} (device : D → Device) where
     told = moves.told;
     slots = moves.slots;
     layout = ap (λ (z : stores.Parts D). z.known.layout) same;
+    threads = ap (λ (z : stores.Parts D). z.known.threads) same;
     running = ap (λ (z : stores.Parts D). z.known.has_failed) same;
     sequence = ap (λ (z : stores.Parts D). z.known.committed.sequence) same;
     uncalled = ap (λ (z : stores.Parts D). device z.disk) same;
@@ -81,9 +82,9 @@ module _ {D : Type 0} (device : D → Device) where
   }
 
   pub advances_one : (x y : Taking D) (lane : ℕ) (r : Record) → Moves lane (r ∷ []) x.rings x.waiting y.rings y.waiting →
-      ((s : Setting) (p : Past) → HasPast x.store.known s p (device x.store.disk) → HasPast y.store.known s (after_apply p lane r) (device y.store.disk)) → y.store.known.layout ≡ x.store.known.layout →
+      ((s : Setting) (p : Past) → HasPast x.store.known s p (device x.store.disk) → HasPast y.store.known s (after_apply p lane r) (device y.store.disk)) → y.store.known.layout ≡ x.store.known.layout → y.store.known.threads ≡ x.store.known.threads →
       y.store.known.has_failed ≡ x.store.known.has_failed → y.store.known.committed.sequence ≡ x.store.known.committed.sequence → y.store.disk ≡ x.store.disk → x.store.known.has_failed ≡ false → Advances device x y 1
-  advances_one x y lane r moves makes layout running sequence same runs = record {
+  advances_one x y lane r moves makes layout threads running sequence same runs = record {
     made = λ s p has. ((lane, r) ∷ [], refl, applied_has x y lane r s p moves has (makes s p has.has));
     whole = whole_all x.rings y.rings x.waiting y.waiting lane (r ∷ []) moves;
     left = moves.left;
@@ -91,6 +92,7 @@ module _ {D : Type 0} (device : D → Device) where
     told = moves.told;
     slots = moves.slots;
     layout = layout;
+    threads = threads;
     running = running;
     sequence = sequence;
     uncalled = ap device same;
@@ -98,7 +100,7 @@ module _ {D : Type 0} (device : D → Device) where
   }
 
   pub advances_start : (x : Taking D) → Advances device x x 0
-  advances_start x = record { made = λ s p has. ([], refl, has); whole = λ l. refl; left = omega arith; same = same_refl x.rings; told = keeps_refl x.rings; slots = refl; layout = refl; running = refl; sequence = refl; uncalled = refl; still = λ off. (refl, refl) }
+  advances_start x = record { made = λ s p has. ([], refl, has); whole = λ l. refl; left = omega arith; same = same_refl x.rings; told = keeps_refl x.rings; slots = refl; layout = refl; threads = refl; running = refl; sequence = refl; uncalled = refl; still = λ off. (refl, refl) }
 
   pub advances_then : (x y z : Taking D) (n m : ℕ) → Advances device x y n → Advances device y z m → Advances device x z (n + m)
   advances_then x y z n m one two = record {
@@ -115,6 +117,7 @@ module _ {D : Type 0} (device : D → Device) where
     told = keeps_then x.rings y.rings z.rings one.told two.told;
     slots = two.slots ∙ one.slots;
     layout = two.layout ∙ one.layout;
+    threads = two.threads ∙ one.threads;
     running = two.running ∙ one.running;
     sequence = two.sequence ∙ one.sequence;
     uncalled = two.uncalled ∙ one.uncalled;

@@ -4,7 +4,7 @@ use Rattle.lane_rings.specs.Rings.{Receiving}
 use Rattle.heap_model.specs.declared.record.Record.{Record}
 use Rattle.heap_model.specs.Setting.{Setting}
 use Rattle.block_disk.specs.Device.{Device}
-use Rattle.durable.specs.Store.{Known, HasPast}
+use Rattle.round_store.specs.Store.{Known, HasPast}
 use Rattle.monitor.specs.Seats.{Helping}
 use Rattle.store_past.specs.Past.{Past, applied}
 use Rattle.trim_helper.specs.Counts.{WasCount}
@@ -16,7 +16,7 @@ use Rattle.trim_helper.specs.Taken.{trimmed_of}
 
 pub serves_still : {D : Type 0} (device : D → Device) (x y : Parts D) (s : Setting) (p : Past) → SameHelper device x y → IsServing device x s p → IsServing device y s p
 serves_still device x y s p same serving =
-    let lanes : y.store.known.layout.lanes ≡ x.store.known.layout.lanes = ap (λ (k : Known). k.layout.lanes) same.known in
+    let threads : y.store.known.threads ≡ x.store.known.threads = ap (λ (k : Known). k.threads) same.known in
     record {
       taken = record {
         has = subst (λ (d : Device). HasPast y.store.known s p d) (sym same.device_is) (subst (λ (k : Known). HasPast k s p (device x.store.disk)) (sym same.known) serving.taken.has);

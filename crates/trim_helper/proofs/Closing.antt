@@ -22,11 +22,12 @@ use Rattle.block_disk.proofs.Images.{always_weaker}
 use Rattle.undo_log.specs.StandsFor.{StandsFor}
 use Rattle.store_image.specs.KeptHeap.{StandsForCut, values_below}
 use Rattle.store_past.specs.Past.{Past, applied}
-use Rattle.durable.specs.Runs.{HasRun}
-use Rattle.durable.specs.Store as stores
-use Rattle.durable.specs.Store.{Known, HasPast}
-use Rattle.durable.proofs.Running.{left_always}
-use Rattle.store_image.proofs.Stands.{same_heap, stands_always}
+use Rattle.round_store.specs.Runs.{HasRun}
+use Rattle.round_store.specs.Stops.{ShowsCut}
+use Rattle.round_store.specs.Store as stores
+use Rattle.round_store.specs.Store.{Known, HasPast}
+use Rattle.round_store.proofs.Shown.{rests}
+use Rattle.store_image.proofs.Stands.{same_heap}
 use Rattle.trim_helper.specs.Rings.{received_of, known_of, stream}
 use Rattle.trim_helper.specs.Limits.{KeepsLimits}
 use Rattle.trim_helper.specs.Endings.{Rings}
@@ -42,6 +43,7 @@ use Rattle.monitor.specs.Words.{fields, setting_of, spread}
 use Rattle.monitor.specs.declared.view.Plan.{Plan}
 use Rattle.trim_helper.specs.Counts.{IsCutCount, WasCount}
 use Rattle.trim_helper.proofs.Refusing.{drained}
+use Rattle.trim_helper.proofs.Standing.{cut_stands}
 
 -- a later start leaves more room
 pub limits_more : (start later capacity : ℕ) (rs : List Record) → start ≤ later → KeepsLimits start capacity rs → KeepsLimits later capacity rs
@@ -82,16 +84,16 @@ module _ (s : Setting) (lanes capacity : ℕ) (place : ℕ → ℕ) (parts : Lis
   ]
 
   -- All that was sent is applied.
-  pub all_applied : {D : Type 0} (device : D → Device) (store : stores.Parts D) (w1 : List (Option Record)) (y : Taking D) (n : ℕ) (p : Past) → NextLaw → HasTaken device (with_rings store r1 w1) s p → lanes ≡ store.known.layout.lanes →
+  pub all_applied : {D : Type 0} (device : D → Device) (store : stores.Parts D) (w1 : List (Option Record)) (y : Taking D) (n : ℕ) (p : Past) → NextLaw → HasTaken device (with_rings store r1 w1) s p → lanes ≡ store.known.threads →
       capacity ≡ store.known.layout.capacity →
       ((x : Part) → Among parts x → x.place ≤ place x.lane) → ((l : ℕ) → l < lanes → place l ≤ trimmed_of p l) → Advances device (with_rings store r1 w1) y n → AllStuck device y →
       (newer : List (ℕ × Record)) × HasTaken device y s (applied_more newer p) × ((l : ℕ) → lane l (applied (applied_more newer p)) ≡ lane l log)
   all_applied device store w1 y n p next taken same room read places on stuck =
       let made = on.made s p taken in
-      let lanes' : y.store.known.layout.lanes ≡ lanes = ap (λ l. l.lanes) on.layout ∙ sym same in
+      let lanes' : y.store.known.threads ≡ lanes = on.threads ∙ sym same in
       let room' : y.store.known.layout.capacity ≡ capacity = ap (λ l. l.capacity) on.layout ∙ sym room in
       let count' : length y.rings ≡ lanes = on.same.count ∙ count in
-      let limits : (l : ℕ) → l < y.store.known.layout.lanes → KeepsLimits (trimmed_of (applied_more made.0 p) l) y.store.known.layout.capacity (lane l log) = λ l lt.
+      let limits : (l : ℕ) → l < y.store.known.threads → KeepsLimits (trimmed_of (applied_more made.0 p) l) y.store.known.layout.capacity (lane l log) = λ l lt.
       let low : l < lanes = omega arith in
       let here = present l low in
       subst (λ (k : ℕ). KeepsLimits (trimmed_of p l) k (lane l log)) (sym room')
@@ -106,7 +108,7 @@ module _ (s : Setting) (lanes capacity : ℕ) (place : ℕ → ℕ) (parts : Lis
 module _ (k : Plan) (parts : List Part) (h : List (ℕ × Event)) (one : IsOneHistory (setting_of k) k.lanes parts h) (log_law : LogLaw) (order_law : OrderLaw) (all_kept : AllKeptLaw) (one_stable : OneStableLaw) (unlogged : UnloggedLaw)
     (words : Final) (spelled : Spelled k (spread k words.words) (state_after (setting_of k) h)) (last_values : (f : ℕ) → f < fields k → final_value words f ≡ (state_after (setting_of k) h).value f) (p : Past) (told : (x : Part) → Among parts x → x.lane < k.lanes → x.count ≤ p.cut x.lane) (places : (x : Part) → Among parts x → x.lane < k.lanes → x.place ≤ trimmed_of p x.lane)
     (seat : Helping) (later : GoesOn h seat.view.history) (published : (x : Part) → Among parts x → x.lane < k.lanes → WasCount seat x.lane x.count) (counts : (x : Part) → Among parts x → x.lane < k.lanes → IsCutCount (log_of (setting_of k) h) x.lane x.count)
-    (x : Known) (since d : Device) (now : Past) (ran : HasRun x.layout (setting_of k) p since now d false) (has : HasPast x (setting_of k) now d) (running : x.has_failed ≡ false) (settled : IsSettled (setting_of k) now)
+    (x : Known) (since d : Device) (now : Past) (ran : HasRun x.layout k.lanes (setting_of k) p since now d) (threads : x.threads ≡ k.lanes) (has : HasPast x (setting_of k) now d) (running : x.has_failed ≡ false) (settled : IsSettled (setting_of k) now)
     (same : (l : ℕ) → lane l (applied now) ≡ lane l (log_of (setting_of k) h)) (free : (l : ℕ) → length (holding (map action (lane l (log_of (setting_of k) h)))) ≡ 0) where
   abbrev s : Setting
   s = setting_of k
@@ -140,11 +142,14 @@ module _ (k : Plan) (parts : List Part) (h : List (ℕ × Event)) (one : IsOneHi
   same_kept : (f : ℕ) → kept_value s.first cut f now.logged ≡ kept_value s.first cut f (log_of s h)
   same_kept f = order_law s now.logged (log_of s h) (subst (IsLegal s) (sym logged_is) has.past.legal) (log_law s h one.legal) (λ l. ([], sym (same_logged l))) cut (λ l. let e : ended (lane l (actions now.logged)) ≡ cut l = ap (λ (xs : List Action). ended xs) (acts_same l) in omega arith) f
 
+  left : Always d (ShowsCut x.layout k.lanes s now.logged now.cut)
+  left = subst (λ (t : ℕ). Always d (ShowsCut x.layout t s now.logged now.cut)) threads (rests x s now d has running)
+
   stands : Always d (StandsForCut x.layout s (log_of s h) cut)
-  stands = always_weaker d (StandsForCut x.layout s now.logged now.cut) (StandsForCut x.layout s (log_of s h) cut) (λ image st.
-      let moved : StandsForCut x.layout s now.logged cut image = subst (λ c. StandsForCut x.layout s now.logged c image) cuts_are st in
+  stands = always_weaker d (ShowsCut x.layout k.lanes s now.logged now.cut) (StandsForCut x.layout s (log_of s h) cut) (λ image shown.
+      let moved : StandsForCut x.layout s now.logged cut image = subst (λ c. StandsForCut x.layout s now.logged c image) cuts_are (cut_stands x.layout k.lanes s now.logged now.cut image shown) in
       record { heap = subst (λ heap. StandsFor x.layout image heap) (same_heap x.layout s now.logged (log_of s h) cut same_kept) moved.heap; sections = moved.sections })
-      (stands_always x.layout s now x.committed d (has.agrees running))
+      left
 
   -- a field whose stores are logged keeps its last value, and another one its first
   values : (f : ℕ) → kept_value s.first cut f (log_of s h) ≡ closed_value s (state_after s h).value f
@@ -163,7 +168,7 @@ module _ (k : Plan) (parts : List Part) (h : List (ℕ × Event)) (one : IsOneHi
     now = now;
     ran = ran;
     logs = same;
-    left = left_always x.layout s now x.committed d (has.agrees running);
+    left = left;
     stands = stands;
     values = always_weaker d (StandsForCut x.layout s (log_of s h) cut) (λ image. StandsFor x.layout image (values_below (closed_value s (state_after s h).value) x.layout.fields))
         (λ image st. subst (λ (v : ℕ → ℕ). StandsFor x.layout image (values_below v x.layout.fields)) (λ i f. values f i) st.heap) stands;

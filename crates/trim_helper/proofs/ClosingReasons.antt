@@ -2,7 +2,7 @@
 use Rattle.std.proofs.Common.{ℕ, ◌≡◌, ◌+◌, ◌≤◌, true, List, ◌∙◌, sym, subst, ⊎_elim, arith}
 use Rattle.block_disk.specs.Device.{Device, HasFailed}
 use Rattle.heap_model.specs.Setting.{Setting}
-use Rattle.durable.specs.Store.{Known, HasPast}
+use Rattle.round_store.specs.Store.{Known, HasPast}
 use Rattle.store_past.specs.Past.{Past}
 use Rattle.store_past.specs.declared.error.StoreError.{StoreError}
 use Rattle.store_past.specs.declared.error.StoreError.TheVariants.{Failed, Worn, Fault}

@@ -8,7 +8,7 @@ use Rattle.heap_model.specs.Sections.{actions}
 use Rattle.heap_model.specs.Cuts.{IsStable}
 use Rattle.cut_laws.proofs.Stays.{cut_stays}
 use Rattle.block_disk.specs.Device.{Device}
-use Rattle.durable.specs.Store as stores
+use Rattle.round_store.specs.Store as stores
 use Rattle.history_laws.proofs.Own.{by_test}
 use Rattle.monitor.specs.declared.view.Note.{Note}
 use Rattle.monitor.specs.declared.view.Post.TheVariants.{Stable, Trimmed}

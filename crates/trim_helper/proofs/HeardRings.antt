@@ -15,7 +15,7 @@ use Rattle.monitor.specs.Views.{GoesOn}
 use Rattle.monitor.specs.Words.{setting_of}
 use Rattle.store_past.specs.Past.{Past, applied}
 use Rattle.store_past.specs.declared.error.StoreError.{StoreError}
-use Rattle.durable.specs.Store as stores
+use Rattle.round_store.specs.Store as stores
 use Rattle.trim_helper.specs.Calls.{AreStuck, HasGoneOn, SettlesUpTo}
 use Rattle.trim_helper.specs.Heard.{HasSeen, Hears, SeenLaw}
 use Rattle.trim_helper.specs.Hearing.{IsNoted, KeepsRecords}
@@ -68,10 +68,11 @@ module _ {D : Type 0} (device : D → Device) (y : Parts D) (rings : List Receiv
     stand = λ l n lt count. was.stand l n lt (count_kept y.seat seat l n same.notes count);
   }
 
-  heard_stuck : (k : Layout) (d : Device) (s : Setting) (p : Past) → AreStuck k d y.rings y.waiting s p → AreStuck k d rings y.waiting s p
-  heard_stuck k d s p was = record {
+  heard_stuck : (k : Layout) (t : ℕ) (d : Device) (s : Setting) (p : Past) → AreStuck k t d y.rings y.waiting s p → AreStuck k t d rings y.waiting s p
+  heard_stuck k t d s p was = record {
     known = was.known;
     layout = was.layout;
+    threads = was.threads;
     has = was.has;
     stuck = λ l lt. subst (λ (known : List Record). MatchOption (waiting_in y.waiting l) (known ≡ []) (λ r. IsRefused was.known s p l r)) (sym (kept.known l)) (was.stuck l (let n = kept.same.count in omega arith));
   }
@@ -108,7 +109,7 @@ module _ {D : Type 0} (device : D → Device) (y : Parts D) (rings : List Receiv
           cause = w.cause;
         };
         within = r.within;
-        stuck = λ runs below. heard_stuck x.store.known.layout (device x.store.disk) s _ (r.stuck runs below);
+        stuck = λ runs below. heard_stuck x.store.known.layout x.store.known.threads (device x.store.disk) s _ (r.stuck runs below);
       }
 
 -- all rings were heard
@@ -147,6 +148,7 @@ module _ {D : Type 0} (device : D → Device) (home : Home) (z y : Parts D) (hea
     taken = taken_noted z.seat y.seat hears.noted ∙ on.taken;
     rings = same_then x.rings z.rings y.rings on.rings hears.records.same;
     layout = ap (λ (k : stores.Parts D). k.known.layout) hears.store ∙ on.layout;
+    threads = ap (λ (k : stores.Parts D). k.known.threads) hears.store ∙ on.threads;
   }
 
 -- what was seen is seen still, of the same rings

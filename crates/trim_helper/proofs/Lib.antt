@@ -3,8 +3,9 @@ pub mod Refusing
 pub mod Seeing
 pub mod RingMoves
 pub mod Advancing
-pub mod Homes
-pub mod Trims
+pub mod Sequences
+pub mod Rounding
+pub mod Standing
 pub mod Looking
 pub mod Noting
 pub mod Reordered

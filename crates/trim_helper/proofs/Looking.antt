@@ -39,6 +39,7 @@ module _ {D : Type 0} (device : D → Device) where
     told = keeps_then x.rings seen y.rings looks.told on.told;
     slots = on.slots;
     layout = on.layout;
+    threads = on.threads;
     running = on.running;
     sequence = on.sequence;
     uncalled = on.uncalled;
@@ -84,6 +85,7 @@ module _ {D : Type 0} (device : D → Device) where
       told = keeps_refl x.rings;
       slots = refl;
       layout = refl;
+      threads = refl;
       running = refl;
       sequence = refl;
       uncalled = refl;
@@ -115,6 +117,7 @@ module _ {D : Type 0} (device : D → Device) where
     told = keeps_then x.rings y.rings z.rings one.told two.told;
     slots = two.slots ∙ one.slots;
     layout = two.layout ∙ one.layout;
+    threads = two.threads ∙ one.threads;
     running = two.running ∙ one.running;
     sequence = two.sequence ∙ one.sequence;
     uncalled = two.uncalled ∙ one.uncalled;
@@ -138,6 +141,7 @@ module _ {D : Type 0} (device : D → Device) where
     told = was.told;
     slots = was.slots;
     layout = was.layout;
+    threads = was.threads;
     running = was.running;
     sequence = was.sequence;
     uncalled = was.uncalled;

@@ -14,11 +14,13 @@ use Rattle.block_disk.specs.Device.{Device}
 use Rattle.store_past.specs.declared.error.StoreError.{StoreError}
 use Rattle.store_past.specs.declared.error.StoreError.TheVariants.{Failed, BadLane, BadId, Worn, NotNext, TooLong, LogFull, Unwritten, Fault, Unfinished}
 use Rattle.store_memory.specs.Apply.{HasLastNumber}
-use Rattle.durable.specs.Calls.{RefusesApply}
+use Rattle.undo_log.specs.Dropped.{undo_logs, records_in}
+use Rattle.store_memory.specs.Memory.{lane_in}
+use Rattle.round_store.specs.Steps.{RefusesApply}
 use Rattle.store_past.specs.Past.{Past, applied}
 use Rattle.store_memory.specs.Remembers.{held_of, section_of, place_of}
 use Rattle.store_memory.specs.Remembers as memory
-use Rattle.durable.specs.Store.{Known, HasPast}
+use Rattle.round_store.specs.Store.{Known, HasPast}
 use Rattle.trim_helper.specs.Rings.{received_of, known_of, held_back, waiting_in, stream}
 use Rattle.trim_helper.specs.Limits.{FitsNext, KeepsLimits}
 use Rattle.trim_helper.specs.Taken.{Taking, HasTaken, IsLaneStuck, IsRefused, trimmed_of}
@@ -53,7 +55,7 @@ same_section : (done : List Action) → memory.open_section done ≡ open_sectio
 same_section [] = refl
 same_section (a ∷ older) = ap (λ (xs : List Action). if length (holding (a ∷ older)) == 0 then [] else a ∷ xs) (same_section older)
 
-module _ (x : Known) (s : Setting) (p : Past) (d : Device) (l : ℕ) (r : Record) (has : HasPast x s p d) (low : l < x.layout.lanes) (legal : IsLegal s ((l, r) ∷ applied p))
+module _ (x : Known) (s : Setting) (p : Past) (d : Device) (l : ℕ) (r : Record) (has : HasPast x s p d) (low : l < x.threads) (legal : IsLegal s ((l, r) ∷ applied p))
     (fits : FitsNext (trimmed_of p l) x.layout.capacity (lane l (applied p)) r) where
   acts : lane l (actions (applied p)) ≡ map action (lane l (applied p))
   acts = lane_actions l (applied p)
@@ -67,12 +69,9 @@ module _ (x : Known) (s : Setting) (p : Past) (d : Device) (l : ℕ) (r : Record
   held_then : length (holding (action r ∷ lane l (actions (applied p)))) ≡ length (holding (action r ∷ map action (lane l (applied p))))
   held_then = ap (λ (xs : List Action). length (holding (action r ∷ xs))) acts
 
-  lanes_are : length x.memory.lanes ≡ x.layout.lanes
-  lanes_are = has.layout.lanes
-
   taken_then : (e : StoreError) → e ≢ Failed → RefusesApply x s p l r e → ⊥
   taken_then Failed not why = not refl
-  taken_then BadLane not why = let past : length x.memory.lanes ≤ l = why.1 in omega (arith, lanes_are)
+  taken_then BadLane not why = let past : length x.memory.lanes ≤ l = why.1 in omega (arith, has.layout.lanes)
   taken_then BadId not why = why.1.1 legal.3
   taken_then Worn not why = ⊎_elim (λ last. not_last s (applied p) l r legal last) (λ (z : (held_of p l ≡ 0) × (2 ^ 62 ≤ place_of p l)).
       let below : length (lane l (applied p)) < 2 ^ 62 = fits.low (sym held_is ∙ z.0) in omega (arith, z.1)) why.1.2
@@ -81,7 +80,8 @@ module _ (x : Known) (s : Setting) (p : Past) (d : Device) (l : ℕ) (r : Record
   taken_then LogFull not why =
       let full = why.1.5 in
       let room : length (lane l (applied p)) + 1000 ≤ trimmed_of p l + x.layout.capacity = fits.room (sym held_is ∙ full.0) in
-      omega (arith, full.1, has.starts l low, has.layout.capacity)
+      let at : (lane_in x.memory.lanes l).start ≡ trimmed_of p l = has.starts l (omega arith) ∙ ap (λ (n : ℕ). records_in n (undo_logs p.logged l)) (sym (has.trimmed l)) in
+      omega (arith, full.1, at, has.layout.capacity)
   taken_then Unwritten not why = elim why.1 [ ]
   taken_then Fault not why = elim why.1 [ ]
   taken_then Unfinished not why = elim why.1 [ ]
@@ -96,9 +96,9 @@ fitted start capacity (q ∷ newer) older r keeps = fitted start capacity newer 
 
 module _ {D : Type 0} (device : D → Device) (t : Taking D) (s : Setting) (p : Past) (taken : HasTaken device t s p)
     (log : List (ℕ × Record)) (legal : IsLegal s log) (next : NextLaw)
-    (held : (l : ℕ) → stream l log ≡ received_of t.rings l ++ known_of t.rings l) (none : (l : ℕ) → t.store.known.layout.lanes ≤ l → lane l log ≡ [])
-    (limits : (l : ℕ) → l < t.store.known.layout.lanes → KeepsLimits (trimmed_of p l) t.store.known.layout.capacity (lane l log))
-    (stuck : (l : ℕ) → l < t.store.known.layout.lanes → IsLaneStuck t.store.known t.rings t.waiting s p l) where
+    (held : (l : ℕ) → stream l log ≡ received_of t.rings l ++ known_of t.rings l) (none : (l : ℕ) → t.store.known.threads ≤ l → lane l log ≡ [])
+    (limits : (l : ℕ) → l < t.store.known.threads → KeepsLimits (trimmed_of p l) t.store.known.layout.capacity (lane l log))
+    (stuck : (l : ℕ) → l < t.store.known.threads → IsLaneStuck t.store.known t.rings t.waiting s p l) where
   abbrev rest : ℕ → List Record
   rest l = held_back (waiting_in t.waiting l) ++ known_of t.rings l
 
@@ -114,7 +114,7 @@ module _ {D : Type 0} (device : D → Device) (t : Taking D) (s : Setting) (p : 
   contradicts l r more is may =
       let whole : stream l log ≡ stream l (applied p) ++ (r ∷ more) = all l ∙ ap (λ (xs : List Record). stream l (applied p) ++ xs) is in
       let log_is : lane l log ≡ reverse (r ∷ more) ++ lane l (applied p) = longer_of l whole in
-      elim (cases_lt l t.store.known.layout.lanes) [
+      elim (cases_lt l t.store.known.threads) [
         | inl low ↦ not_refused t.store.known s p (device t.store.disk) l r taken.has low may
             (fitted (trimmed_of p l) t.store.known.layout.capacity (reverse more) (lane l (applied p)) r (subst (KeepsLimits (trimmed_of p l) t.store.known.layout.capacity) (log_is ∙ split) (limits l low)))
             (next_waits (waiting_in t.waiting l) (known_of t.rings l) (λ q. IsRefused t.store.known s p l q) r more is (stuck l low))

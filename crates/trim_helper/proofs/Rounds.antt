@@ -6,20 +6,18 @@ use Rattle.lane_rings.specs.Rings.{Receiving}
 use Rattle.heap_model.specs.declared.record.Record.{Record}
 use Rattle.heap_model.specs.Setting.{Setting}
 use Rattle.block_disk.specs.Device.{Device, HasCause}
-use Rattle.block_disk.specs.Images.{Always}
 use Rattle.block_disk.proofs.Failures.{cause_since}
 use Rattle.image.specs.declared.layout.Layout.{Layout}
 use Rattle.monitor.specs.declared.view.Note.{Note}
 use Rattle.monitor.specs.Seats.{Helping, Home}
 use Rattle.monitor.specs.Views.{noted}
-use Rattle.store_past.specs.Past.{Past, IsPast, applied, no_past}
+use Rattle.store_past.specs.Past.{Past, applied, no_past}
 use Rattle.store_past.specs.declared.error.StoreError.{StoreError}
 use Rattle.store_past.specs.declared.error.StoreError.TheVariants.{Failed, BadLane, BadId, Worn, NotNext, TooLong, LogFull, Unwritten, Fault, Unfinished}
-use Rattle.durable.specs.Runs.{HasRun, IsLeftBy, TakesSequences}
-use Rattle.durable.specs.Store as stores
-use Rattle.durable.specs.Store.{Known, HasPast}
-use Rattle.durable.proofs.Sequences.{takes_more, takes_none, takes_then}
-use Rattle.durable.proofs.Running.{left_always, ran_applied, ran_less, ran_none, ran_then}
+use Rattle.round_store.specs.Runs.{HasRun, TakesSequences}
+use Rattle.round_store.specs.Store as stores
+use Rattle.round_store.specs.Store.{Known, HasPast}
+use Rattle.round_store.proofs.Shown.{rests}
 use Rattle.trim_helper.specs.Calls.{AreStuck, DrainsUpTo, HasGoneOn, IsBelow, IsWithin, Publishes, RoundsUpTo, SettlesUpTo}
 use Rattle.trim_helper.specs.Counts.{WasCount}
 use Rattle.trim_helper.specs.Draining.{DrainsRings}
@@ -35,7 +33,8 @@ use Rattle.trim_helper.specs.Closed.{AreSent, Stood}
 use Rattle.trim_helper.specs.declared.ended.Ended.{Ended}
 use Rattle.trim_helper.specs.Endings.{HoldNone, IsComplete}
 use Rattle.trim_helper.proofs.Counting.{stand_added, stand_more, stand_none, stand_same}
-use Rattle.trim_helper.proofs.Homes.{err_same}
+use Rattle.trim_helper.proofs.Rounding.{applied_ran, applied_then, err_same, ran_moved, still_ran}
+use Rattle.trim_helper.proofs.Sequences.{takes_more, takes_none, takes_then}
 use Rattle.trim_helper.specs.Seen.{SeesFrom}
 use Rattle.trim_helper.proofs.Noting.{noted_same}
 use Rattle.trim_helper.proofs.Reordered.{stable_none}
@@ -57,20 +56,6 @@ pub none_of : {A : Type 0} → (xs : List A) → length xs ≡ 0 → xs ≡ []
 none_of [] e = refl
 none_of (x ∷ xs) e = absurd (omega arith)
 
--- so many records were applied, and the device wasn't called
-pub applied_ran : (l : Layout) (s : Setting) (p : Past) (d e : Device) (newer : List (ℕ × Record)) (failed : Bool) → e ≡ d → IsPast s (applied_more newer p) → HasRun l s p d (applied_more newer p) e failed
-applied_ran l s p d e newer failed same is = subst (λ (f : Device). HasRun l s p d (applied_more newer p) f failed) (sym same) (ran_applied l s p d newer failed is.legal)
-
--- and then other calls were made
-pub applied_then : (l m : Layout) (s : Setting) (p q : Past) (d e f : Device) (newer : List (ℕ × Record)) (failed : Bool) → e ≡ d → IsPast s (applied_more newer p) → m ≡ l → HasRun m s (applied_more newer p) e q f failed → HasRun m s p d q f failed
-applied_then l m s p q d e f newer failed same is layout on =
-    let before = applied_ran l s p d e newer false same is in
-    ran_then l m s p (applied_more newer p) q d e f false failed layout before (before.whole refl) on
-
--- and the store goes on
-pub settled_then : (l m : Layout) (s : Setting) (p q : Past) (d e f : Device) (newer : List (ℕ × Record)) (failed : Bool) → failed ≡ false → e ≡ d → IsPast s (applied_more newer p) → m ≡ l → HasRun m s (applied_more newer p) e q f failed → HasRun m s p d q f false
-settled_then l m s p q d e f newer failed runs same is layout on = subst (λ (b : Bool). HasRun m s p d q f b) runs (applied_then l m s p q d e f newer failed same is layout on)
-
 -- of each lane, what its rings have is what was applied of it, and more
 abbrev pub Follows : List Receiving → List (ℕ × Record) → Type 0
 Follows rings log = (l : ℕ) → (later : List Record) × (received_of rings l ++ known_of rings l ≡ stream l log ++ later)
@@ -79,8 +64,7 @@ Follows rings log = (l : ℕ) → (later : List Record) × (received_of rings l 
 abbrev pub parts_from : {D : Type 0} → stores.Parts D → List Receiving → List (Option Record) → Bool → Helping → Parts D
 parts_from store rings waiting is_settled seat = record { store = store; rings = rings; waiting = waiting; is_settled = is_settled; seat = seat }
 
--- So many records were applied after those of the past, and the helper goes on: what was acknowledged and what was trimmed stay so. Whatever
--- a crash left since then shows what some of the store calls that were made, or that a fault cut off, make of the past.
+-- So many records were applied after those of the past, and the helper goes on: what was acknowledged and what was trimmed stay so.
 pub record Served {D : Type 0} (device : D → Device) (before : Device) (y : Parts D) (s : Setting) (p : Past) (n : ℕ) : Type 0 where
   pub newer : List (ℕ × Record)
   pub long : length newer ≡ n
@@ -89,14 +73,14 @@ pub record Served {D : Type 0} (device : D → Device) (before : Device) (y : Pa
   pub cut : (l : ℕ) → p.cut l ≤ now.cut l
   pub places : (l : ℕ) → trimmed_of p l ≤ trimmed_of now l
   pub serves : IsServing device y s now
-  pub ran : HasRun y.store.known.layout s p before now (device y.store.disk) y.store.known.has_failed
+  pub ran : HasRun y.store.known.layout y.store.known.threads s p before now (device y.store.disk)
 
 module _ {D : Type 0} (device : D → Device) where
   -- a drain that keeps the seat
   abbrev pub drained_serves : (x y : Parts D) (n : ℕ) (s : Setting) (p : Past) → HasDrained device x y n → y.seat ≡ x.seat → (y.is_settled ≡ true → (x.is_settled ≡ true) × (n ≡ 0)) → IsServing device x s p → Served device (device x.store.disk) y s p n
   drained_serves x y n s p drained seat quiet was =
       let now = drained.made s p was.taken in
-      let lanes : y.store.known.layout.lanes ≡ x.store.known.layout.lanes = ap (λ l. l.lanes) drained.layout in
+      let threads : y.store.known.threads ≡ x.store.known.threads = drained.threads in
       record {
         newer = now.0;
         long = now.1;
@@ -112,9 +96,9 @@ module _ {D : Type 0} (device : D → Device) where
           settled = λ is. let q = quiet is in subst (λ xs. IsSettled s (applied_more xs p)) (sym (none_of now.0 (now.1 ∙ q.1))) (was.settled q.0);
           trimmed = λ is. was.trimmed (quiet is).0;
           published = λ is l lt. subst (λ k. (count_published k l ≡ p.cut l) × (place_published k l ≡ trimmed_of p l)) (sym seat) (was.published (quiet is).0 l (omega arith));
-          stand = λ l n lt count. stand_more x.seat x.store.known.layout.lanes s p now.0 now.2.has.past.legal was.stand l n (omega arith) (subst (λ k. WasCount k l n) seat count);
+          stand = λ l n lt count. stand_more x.seat x.store.known.threads s p now.0 now.2.has.past.legal was.stand l n (omega arith) (subst (λ k. WasCount k l n) seat count);
         };
-        ran = applied_ran y.store.known.layout s p (device x.store.disk) (device y.store.disk) now.0 y.store.known.has_failed drained.uncalled now.2.has.past;
+        ran = applied_ran y.store.known.layout y.store.known.threads s p (device x.store.disk) (device y.store.disk) now.0 drained.uncalled;
       }
 
   -- the store goes on with the same records
@@ -124,24 +108,22 @@ module _ {D : Type 0} (device : D → Device) where
     taken = λ l. was.taken l ∙ ap (λ (xs : List (ℕ × Record)). stream l xs ++ held_back (waiting_in x.waiting l)) (sym h.same);
   }
 
-  pub same_serves : (z : Parts D) (w : stores.Parts D) (s : Setting) (p : Past) → z.is_settled ≡ false → w.known.layout ≡ z.store.known.layout → IsServing device z s p → (h : HasSame (device z.store.disk) w.known (device w.disk) s p) →
+  pub same_serves : (z : Parts D) (w : stores.Parts D) (s : Setting) (p : Past) → z.is_settled ≡ false → w.known.threads ≡ z.store.known.threads → IsServing device z s p → (h : HasSame (device z.store.disk) w.known (device w.disk) s p) →
       IsServing device (record z { store = w }) s h.now
-  same_serves z w s p unsettled layout was h =
-      let lanes : w.known.layout.lanes ≡ z.store.known.layout.lanes = ap (λ l. l.lanes) layout in
-      record {
-        taken = same_taken (taking_of z) w s p was.taken h;
-        counts = λ l lt. omega (arith, was.counts l (omega arith), h.cut l);
-        places = λ l lt. omega (arith, was.places l (omega arith), h.places l);
-        running = λ is. absurd (let no : false ≡ true = sym unsettled ∙ is in cc);
-        settled = λ is. absurd (let no : false ≡ true = sym unsettled ∙ is in cc);
-        trimmed = λ is. absurd (let no : false ≡ true = sym unsettled ∙ is in cc);
-        published = λ is l lt. absurd (let no : false ≡ true = sym unsettled ∙ is in cc);
-        stand = λ l n lt count. stand_same z.seat z.store.known.layout.lanes p h.now h.same was.stand l n (omega arith) count;
-      }
+  same_serves z w s p unsettled threads was h = record {
+    taken = same_taken (taking_of z) w s p was.taken h;
+    counts = λ l lt. omega (arith, was.counts l (omega arith), h.cut l);
+    places = λ l lt. omega (arith, was.places l (omega arith), h.places l);
+    running = λ is. absurd (let no : false ≡ true = sym unsettled ∙ is in cc);
+    settled = λ is. absurd (let no : false ≡ true = sym unsettled ∙ is in cc);
+    trimmed = λ is. absurd (let no : false ≡ true = sym unsettled ∙ is in cc);
+    published = λ is l lt. absurd (let no : false ≡ true = sym unsettled ∙ is in cc);
+    stand = λ l n lt count. stand_same z.seat z.store.known.threads p h.now h.same was.stand l n (omega arith) count;
+  }
 
   -- and it is published
-  pub published_serves : (z : Parts D) (seat : Helping) (s : Setting) (p : Past) → IsServing device z s p → IsDurable z.store.known s p → IsPublished seat z.store.known.layout.lanes p →
-      ((l n : ℕ) → l < z.store.known.layout.lanes → WasCount seat l n → WasCount z.seat l n ⊎ (n ≡ p.cut l)) → IsServing device (parts_from z.store z.rings z.waiting true seat) s p
+  pub published_serves : (z : Parts D) (seat : Helping) (s : Setting) (p : Past) → IsServing device z s p → IsDurable z.store.known s p → IsPublished seat z.store.known.threads p →
+      ((l n : ℕ) → l < z.store.known.threads → WasCount seat l n → WasCount z.seat l n ⊎ (n ≡ p.cut l)) → IsServing device (parts_from z.store z.rings z.waiting true seat) s p
   published_serves z seat s p was durable published added = record {
     taken = was.taken;
     counts = λ l lt. omega (arith, (published l lt).0);
@@ -150,22 +132,20 @@ module _ {D : Type 0} (device : D → Device) where
     settled = λ is. durable.settled;
     trimmed = λ is. durable.trimmed;
     published = λ is l lt. published l lt;
-    stand = stand_added z.seat seat z.store.known.layout.lanes p durable.settled.stable added was.stand;
+    stand = stand_added z.seat seat z.store.known.threads p durable.settled.stable added was.stand;
   }
 
   -- each lane has its ring still
-  pub whole_still : (x z : Parts D) (whole : IsWhole device x) → SameRings x.rings z.rings → SeesFrom z.seat 0 z.rings → z.store.known.layout ≡ x.store.known.layout → (q : Past) → IsServing device z whole.setting q → IsWhole device z
-  whole_still x z whole same sees layout q serving =
-      let lanes : z.store.known.layout.lanes ≡ x.store.known.layout.lanes = ap (λ l. l.lanes) layout in
-      record {
-        lanes = omega (arith, same.count, whole.lanes);
-        few = omega (arith, same.count, whole.few);
-        rooms = omega (arith, same.rooms, whole.rooms);
-        sees = sees;
-        setting = whole.setting;
-        past = q;
-        serving = serving;
-      }
+  pub whole_still : (x z : Parts D) (whole : IsWhole device x) → SameRings x.rings z.rings → SeesFrom z.seat 0 z.rings → z.store.known.threads ≡ x.store.known.threads → (q : Past) → IsServing device z whole.setting q → IsWhole device z
+  whole_still x z whole same sees threads q serving = record {
+    lanes = omega (arith, threads, same.count, whole.lanes);
+    few = omega (arith, same.count, whole.few);
+    rooms = omega (arith, same.rooms, whole.rooms);
+    sees = sees;
+    setting = whole.setting;
+    past = q;
+    serving = serving;
+  }
 
   -- a drain keeps the seat
   pub seat_sees : (x z : Parts D) (n : ℕ) → HasDrained device x z n → z.seat ≡ x.seat → SeesFrom x.seat 0 x.rings → SeesFrom z.seat 0 z.rings
@@ -175,12 +155,12 @@ module _ {D : Type 0} (device : D → Device) where
   pub whole_drained : (most : Option ℕ) (x z : Parts D) (answer : Result ℕ StoreError) → IsWhole device x → DrainsUpTo device most x z answer → IsWhole device z
   whole_drained most x z (Ok n) whole drains =
       let was = drained_serves x z n whole.setting whole.past drains.rings.ok drains.seat drains.settled whole.serving in
-      whole_still x z whole drains.rings.ok.same (seat_sees x z n drains.rings.ok drains.seat whole.sees) drains.layout was.now was.serves
+      whole_still x z whole drains.rings.ok.same (seat_sees x z n drains.rings.ok drains.seat whole.sees) drains.threads was.now was.serves
   whole_drained most x z (Err e) whole drains =
       let kept = drains.rings.kept in
       let off : z.is_settled ≡ false = drains.unsettled in
       let was = drained_serves x z kept.0 whole.setting whole.past kept.1 drains.seat (λ is. absurd (let no : false ≡ true = sym off ∙ is in cc)) whole.serving in
-      whole_still x z whole kept.1.same (seat_sees x z kept.0 kept.1 drains.seat whole.sees) drains.layout was.now was.serves
+      whole_still x z whole kept.1.same (seat_sees x z kept.0 kept.1 drains.seat whole.sees) drains.threads was.now was.serves
 
   pub taken_follows : (x : Taking D) (s : Setting) (p : Past) → HasTaken device x s p → Follows x.rings (applied p)
   taken_follows x s p was = λ l.
@@ -188,21 +168,22 @@ module _ {D : Type 0} (device : D → Device) where
 
   -- what was applied, and then settled as far as that went
   pub stood_round : (x y : Taking D) (n : ℕ) (w : stores.Parts D) (s : Setting) (p : Past) (ended : List Ended) → Advances device x y n → HasTaken device x s p → ((log : List (ℕ × Record)) → Follows y.rings log → AreSent ended log) →
-      w.known.layout ≡ y.store.known.layout → ((s : Setting) (p : Past) → HasPast y.store.known s p (device y.store.disk) → HasSame (device y.store.disk) w.known (device w.disk) s p) →
-      Stood x.store.known.layout s p ended (device x.store.disk) (device w.disk)
-  stood_round x y n w s p ended on taken meets layout same =
+      w.known.layout ≡ y.store.known.layout → w.known.threads ≡ y.store.known.threads → ((s : Setting) (p : Past) → HasPast y.store.known s p (device y.store.disk) → HasSame (device y.store.disk) w.known (device w.disk) s p) →
+      Stood x.store.known.layout x.store.known.threads s p ended (device x.store.disk) (device w.disk)
+  stood_round x y n w s p ended on taken meets layout threads same =
       let now = on.made s p taken in
       let h = same s (applied_more now.0 p) now.2.has in
-      let ran : HasRun w.known.layout s p (device x.store.disk) h.now (device w.disk) true =
-      applied_then y.store.known.layout w.known.layout s p h.now (device x.store.disk) (device y.store.disk) (device w.disk) now.0 true on.uncalled now.2.has.past layout
-      (ran_less w.known.layout s (applied_more now.0 p) h.now (device y.store.disk) (device w.disk) w.known.has_failed h.ran) in
+      let ran : HasRun w.known.layout w.known.threads s p (device x.store.disk) h.now (device w.disk) =
+      applied_then w.known.layout w.known.threads s p h.now (device x.store.disk) (device y.store.disk) (device w.disk) now.0 on.uncalled h.ran in
+      let same_layout : w.known.layout ≡ x.store.known.layout = layout ∙ on.layout in
+      let same_threads : w.known.threads ≡ x.store.known.threads = threads ∙ on.threads in
       record {
         newer = now.0;
         legal = subst (IsLegal s) (append_assoc now.0 p.fresh p.logged) now.2.has.past.legal;
         sent = λ none complete. meets (now.0 ++ applied p) (subst (λ (log : List (ℕ × Record)). Follows y.rings log) (append_assoc now.0 p.fresh p.logged) (taken_follows y s (applied_more now.0 p) now.2));
         then = h.now;
         same = h.same ∙ append_assoc now.0 p.fresh p.logged;
-        ran = subst (λ (l : Layout). HasRun l s p (device x.store.disk) h.now (device w.disk) true) (layout ∙ on.layout) ran;
+        ran = ran_moved w.known.layout x.store.known.layout w.known.threads x.store.known.threads s p h.now (device x.store.disk) (device w.disk) (sym same_layout) (sym same_threads) ran;
       }
 
   -- nothing was taken yet, nor told: all is settled
@@ -216,16 +197,16 @@ module _ {D : Type 0} (device : D → Device) where
         counts = λ l lt. omega (arith, counts l);
         places = λ l lt. omega (arith, places l);
         running = λ is. running;
-        settled = λ is. record { logged = refl; clean = λ f lt. refl; stable = stable_none };
+        settled = λ is. record { logged = refl; stable = stable_none };
         trimmed = λ is l. refl;
         published = λ is l lt. (counts l, places l);
-        stand = stand_none x.seat x.store.known.layout.lanes no_past silent;
+        stand = stand_none x.seat x.store.known.threads no_past silent;
       }
 
   -- a helper's drain, by its rings'
   pub helper_drains : (most : Option ℕ) (x : Parts D) (y : Taking D) (b : Bool) (answer : Result ℕ StoreError) → IsWhole device x → DrainsRings device LOOKS most (taking_of x) y answer → IfOk answer (λ n. b ≡ true → (x.is_settled ≡ true) × (n ≡ 0)) →
       IfOk answer (λ n. n ≡ 0 → x.is_settled ≡ true → b ≡ true) → OnErr answer (b ≡ false) → DrainsUpTo device most x (parts_from y.store y.rings y.waiting b x.seat) answer
-  helper_drains most x y b (Ok n) whole drains settled stays off = record { rings = drains; failed = tt; settled = settled; stays = stays; unsettled = tt; seat = refl; layout = drains.ok.layout; still = λ is_off. (drains.ok.still is_off).1 }
+  helper_drains most x y b (Ok n) whole drains settled stays off = record { rings = drains; failed = tt; settled = settled; stays = stays; unsettled = tt; seat = refl; layout = drains.ok.layout; threads = drains.ok.threads; still = λ is_off. (drains.ok.still is_off).1 }
   helper_drains most x y b (Err e) whole drains settled stays off = record {
     rings = drains;
     failed = (drains.failed, drains.why whole.setting whole.past whole.serving.taken);
@@ -234,36 +215,34 @@ module _ {D : Type 0} (device : D → Device) where
     unsettled = off;
     seat = refl;
     layout = drains.kept.1.layout;
+    threads = drains.kept.1.threads;
     still = λ is_off. (drains.kept.1.still is_off).1;
   }
 
   -- no lane goes on after the drain
-  pub stuck_drained : (x z : Parts D) (n : ℕ) (s : Setting) (q : Past) → HasDrained device x z n → HasPast z.store.known s q (device z.store.disk) → AllStuck device (taking_of z) → AreStuck x.store.known.layout (device x.store.disk) z.rings z.waiting s q
+  pub stuck_drained : (x z : Parts D) (n : ℕ) (s : Setting) (q : Past) → HasDrained device x z n → HasPast z.store.known s q (device z.store.disk) → AllStuck device (taking_of z) → AreStuck x.store.known.layout x.store.known.threads (device x.store.disk) z.rings z.waiting s q
   stuck_drained x z n s q drained has stuck = record {
     known = z.store.known;
     layout = drained.layout;
+    threads = drained.threads;
     has = subst (λ (k : Device). HasPast z.store.known s q k) drained.uncalled has;
     stuck = λ l lt. stuck l lt s q has;
   }
 
-pub stood_still : (l : Layout) (s : Setting) (p : Past) (ended : List Ended) (d e : Device) → IsLegal s (applied p) → (HoldNone ended → IsComplete l.lanes ended → AreSent ended (applied p)) → e ≡ d → Stood l s p ended d e
-stood_still l s p ended d e legal sent same = record {
+pub stood_still : (l : Layout) (t : ℕ) (s : Setting) (p : Past) (ended : List Ended) (d e : Device) → IsLegal s (applied p) → (HoldNone ended → IsComplete t ended → AreSent ended (applied p)) → e ≡ d → Stood l t s p ended d e
+stood_still l t s p ended d e legal sent same = record {
   newer = [];
   legal = legal;
   sent = sent;
   then = p;
   same = refl;
-  ran = subst (λ (f : Device). HasRun l s p d p f true) (sym same) (ran_none l s p d true);
+  ran = still_ran l t s p d e same;
 }
 
 pub nobody_waits : (n l : ℕ) → waiting_in (replicate n None) l ≡ None
 nobody_waits zero l = refl
 nobody_waits (suc n) zero = refl
 nobody_waits (suc n) (suc l) = nobody_waits n l
-
--- once the store runs, whatever a crash leaves, a store of its past leaves
-pub left_by : (x : Known) (d : Device) (s : Setting) (p : Past) → HasPast x s p d → x.has_failed ≡ false → Always d (IsLeftBy x.layout s p)
-left_by x d s p has runs = left_always x.layout s p x.committed d (has.agrees runs)
 
 refused_moved : (x x' y : Known) (e : StoreError) → x'.has_failed ≡ x.has_failed → RefusesRound x' y e → RefusesRound x y e
 refused_moved x x' y Failed same h = (sym same ∙ h.0, h.1)
@@ -285,12 +264,12 @@ no_fault_of : {T : Type 0} (a b : ℕ) (r : Result T StoreError) → a ≤ b →
 no_fault_of a b r le none = record { later = le; failed = λ is. absurd (none is) }
 
 -- the drain keeps the seat
-pub goes_drained : {D : Type 0} (h : Home) (x z : Parts D) → IsHelper h x.seat → z.seat ≡ x.seat → SameRings x.rings z.rings → z.store.known.layout ≡ x.store.known.layout → HasGoneOn h x z
-goes_drained h x z of seat rings layout = record { seat = subst (λ k. IsHelper h k) (sym seat) of; taken = ap (λ k. taken_in k) seat; rings = rings; layout = layout }
+pub goes_drained : {D : Type 0} (h : Home) (x z : Parts D) → IsHelper h x.seat → z.seat ≡ x.seat → SameRings x.rings z.rings → z.store.known.layout ≡ x.store.known.layout → z.store.known.threads ≡ x.store.known.threads → HasGoneOn h x z
+goes_drained h x z of seat rings layout threads = record { seat = subst (λ k. IsHelper h k) (sym seat) of; taken = ap (λ k. taken_in k) seat; rings = rings; layout = layout; threads = threads }
 
 pub goes_on_drained : {D : Type 0} (device : D → Device) (most : Option ℕ) (h : Home) (x z : Parts D) (answer : Result ℕ StoreError) → IsHelper h x.seat → DrainsUpTo device most x z answer → HasGoneOn h x z
-goes_on_drained device most h x z (Ok n) of drains = goes_drained h x z of drains.seat drains.rings.ok.same drains.layout
-goes_on_drained device most h x z (Err e) of drains = goes_drained h x z of drains.seat drains.rings.kept.1.same drains.layout
+goes_on_drained device most h x z (Ok n) of drains = goes_drained h x z of drains.seat drains.rings.ok.same drains.layout drains.threads
+goes_on_drained device most h x z (Err e) of drains = goes_drained h x z of drains.seat drains.rings.kept.1.same drains.layout drains.threads
 
 -- none is within each bound
 within_none : (most : Option ℕ) (n : ℕ) → n ≡ 0 → IsWithin most n
@@ -349,7 +328,7 @@ module _ {D : Type 0} (device : D → Device) (s : Setting) (p : Past) (x : Part
     within_now : IsWithin most (length drained.newer)
     within_now = subst (λ (k : ℕ). IsWithin most k) (sym drained.long) drains.rings.within
 
-    stuck_now : IsBelow most (length drained.newer) → AreStuck x.store.known.layout (device x.store.disk) z.rings z.waiting s drained.now
+    stuck_now : IsBelow most (length drained.newer) → AreStuck x.store.known.layout x.store.known.threads (device x.store.disk) z.rings z.waiting s drained.now
     stuck_now below = stuck_drained device x z n s drained.now drains.rings.ok drained.serves.taken.has (drains.rings.stuck (subst (λ (k : ℕ). IsBelow most k) drained.long below))
 
     -- all was settled, and nothing new came
@@ -371,7 +350,7 @@ module _ {D : Type 0} (device : D → Device) (s : Setting) (p : Past) (x : Part
             takes = takes_more 0 2 _ _ _ _ (omega arith) drained_takes;
             settled = tt;
             durable = record { running = runs; settled = drained.serves.settled settled; trimmed = drained.serves.trimmed settled };
-            left = left_by z.store.known (device z.store.disk) s drained.now drained.serves.taken.has runs;
+            left = rests z.store.known s drained.now (device z.store.disk) drained.serves.taken.has runs;
             quiet = λ is empty. (ap Ok was_so.1, drains.rings.ok.uncalled);
             still = λ off. absurd (let no : false ≡ true = sym (serving.running was_so.0) ∙ off in cc);
             failed = λ off. absurd (let no : false ≡ true = sym (serving.running was_so.0) ∙ off in cc);
@@ -385,9 +364,9 @@ module _ {D : Type 0} (device : D → Device) (s : Setting) (p : Past) (x : Part
         }
 
     -- what was drained is made durable, where something is to be
-    module _ (w : stores.Parts D) (unsettled : z.is_settled ≡ false) (layout : w.known.layout ≡ z.store.known.layout) where
-      ran_to : (q : Past) → HasRun w.known.layout s drained.now (device z.store.disk) q (device w.disk) w.known.has_failed → HasRun w.known.layout s p (device x.store.disk) q (device w.disk) w.known.has_failed
-      ran_to q on = applied_then _ _ s p q _ _ _ drained.newer _ drains.rings.ok.uncalled drained.serves.taken.has.past layout on
+    module _ (w : stores.Parts D) (unsettled : z.is_settled ≡ false) (threads : w.known.threads ≡ z.store.known.threads) where
+      ran_to : (q : Past) → HasRun w.known.layout w.known.threads s drained.now (device z.store.disk) q (device w.disk) → HasRun w.known.layout w.known.threads s p (device x.store.disk) q (device w.disk)
+      ran_to q on = applied_then w.known.layout w.known.threads s p q (device x.store.disk) (device z.store.disk) (device w.disk) drained.newer drains.rings.ok.uncalled on
 
       takes_on : TakesSequences 2 z.store.known (device z.store.disk) w.known (device w.disk) → TakesSequences 2 x.store.known (device x.store.disk) w.known (device w.disk)
       takes_on takes = takes_then 0 2 x.store.known z.store.known w.known (device x.store.disk) (device z.store.disk) (device w.disk) drains.rings.ok.layout drained_takes takes
@@ -411,7 +390,7 @@ module _ {D : Type 0} (device : D → Device) (s : Setting) (p : Past) (x : Part
               cut = λ l. omega (arith, drained.cut l, h.cut l);
               places = λ l. omega (arith, drained.places l, h.places l);
               ran = ran_to h.now h.ran;
-              serves = same_serves device z w s drained.now unsettled layout drained.serves h;
+              serves = same_serves device z w s drained.now unsettled threads drained.serves h;
               takes = takes_on takes;
               settled = tt;
               durable = tt;
@@ -445,11 +424,11 @@ module _ {D : Type 0} (device : D → Device) (s : Setting) (p : Past) (x : Part
               cut = λ l. omega (arith, drained.cut l, h.cut l);
               places = λ l. omega (arith, drained.places l, h.places l);
               ran = ran_to h.now h.ran;
-              serves = same_serves device z w s drained.now unsettled layout drained.serves h;
+              serves = same_serves device z w s drained.now unsettled threads drained.serves h;
               takes = takes_on takes;
               settled = tt;
               durable = record { running = runs; settled = told.settled; trimmed = both.trimmed };
-              left = left_by w.known (device w.disk) s h.now h.has runs;
+              left = rests w.known s h.now (device w.disk) h.has runs;
               quiet = λ is empty. never_quiet is empty;
               still = λ off. absurd (let no = told.failed (drains.rings.ok.running ∙ off) in cc);
               failed = λ off. absurd (let no = told.failed (drains.rings.ok.running ∙ off) in cc);
@@ -537,4 +516,5 @@ goes_on_published device h x z y published on = record {
   taken = published.taken ∙ on.taken;
   rings = subst (λ (k : List Receiving). SameRings x.rings k) (sym published.rings) on.rings;
   layout = ap (λ (k : stores.Parts _). k.known.layout) published.store ∙ on.layout;
+  threads = ap (λ (k : stores.Parts _). k.known.threads) published.store ∙ on.threads;
 }

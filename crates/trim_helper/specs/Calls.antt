@@ -10,9 +10,10 @@ use Rattle.store_image.specs.Sequences.{ShowsUpTo}
 use Rattle.store_past.specs.Past.{Past, applied}
 use Rattle.store_past.specs.declared.error.StoreError.{StoreError}
 use Rattle.store_past.specs.declared.error.StoreError.TheVariants.{Failed, Fault}
-use Rattle.durable.specs.Runs.{HasRun, IsLeftBy, TakesSequences}
-use Rattle.durable.specs.Store as stores
-use Rattle.durable.specs.Store.{Known, HasPast}
+use Rattle.round_store.specs.Runs.{HasRun, TakesSequences}
+use Rattle.round_store.specs.Stops.{ShowsCut}
+use Rattle.round_store.specs.Store as stores
+use Rattle.round_store.specs.Store.{Known, HasPast}
 use Rattle.monitor.specs.Seats.{Final, Helping, Home}
 use Rattle.monitor.specs.Views.{GoesOn}
 use Rattle.monitor.specs.Words.{setting_of}
@@ -40,12 +41,14 @@ pub record HasGoneOn {D : Type 0} (h : Home) (x y : Parts D) : Type 0 where
   pub taken : taken_in y.seat ≡ taken_in x.seat
   pub rings : SameRings x.rings y.rings
   pub layout : y.store.known.layout ≡ x.store.known.layout
+  pub threads : y.store.known.threads ≡ x.store.known.threads
 
--- No lane goes on, where a store of this layout has this past on this device: the store refuses the record that waits, as not next, for
--- want of room or at an end of numbers, or none waits and none is known to be in the ring.
-pub record AreStuck (l : Layout) (d : Device) (rings : List Receiving) (waiting : List (Option Record)) (s : Setting) (p : Past) : Type 0 where
+-- No lane goes on, where a store of this layout, with so many lanes of threads, has this past on this device: the store refuses the record
+-- that waits, as not next, for want of room or at an end of numbers, or none waits and none is known to be in the ring.
+pub record AreStuck (l : Layout) (t : ℕ) (d : Device) (rings : List Receiving) (waiting : List (Option Record)) (s : Setting) (p : Past) : Type 0 where
   pub known : Known
   pub layout : known.layout ≡ l
+  pub threads : known.threads ≡ t
   pub has : HasPast known s p d
   pub stuck : (lane : ℕ) → lane < length rings → IsLaneStuck known rings waiting s p lane
 
@@ -65,6 +68,7 @@ module _ {D : Type 0} (device : D → Device) where
     pub unsettled : OnErr answer (y.is_settled ≡ false)
     pub seat : y.seat ≡ x.seat
     pub layout : y.store.known.layout ≡ x.store.known.layout
+    pub threads : y.store.known.threads ≡ x.store.known.threads
     -- A store that has failed stays as it is, and so does its device.
     pub still : x.store.known.has_failed ≡ true → y.store ≡ x.store
 
@@ -72,9 +76,9 @@ module _ {D : Type 0} (device : D → Device) where
   abbrev pub Drains : (x y : Parts D) → Result ℕ StoreError → Type 0
   Drains x y answer = DrainsUpTo None x y answer
 
-  -- What a helper that serves this past makes of it. Records are applied; then store calls make durable what was applied,
-  -- acknowledge its stable cut and trim that. Whatever a crash leaves meanwhile shows what some of these calls make of the past, so that
-  -- recovery takes it, with the stable cut only where a settling was running. `Done` is what holds of the helper after Ok.
+  -- What a helper that serves this past makes of it. Records are applied; then a round of the store makes durable what was applied,
+  -- acknowledges its stable cut and trims that. Whatever a crash leaves meanwhile shows a whole closed cut of a beginning of what was
+  -- applied, with all that was acknowledged. `Done` is what holds of the helper after Ok.
   pub record Works (Done : Type 0) (s : Setting) (p : Past) (x y : Parts D) (answer : Result ℕ StoreError) : Type 0 where
     -- The records that it has applied, the newest first.
     pub newer : List (ℕ × Record)
@@ -90,8 +94,9 @@ module _ {D : Type 0} (device : D → Device) where
     pub cut : (l : ℕ) → p.cut l ≤ now.cut l
     -- What was trimmed stays trimmed.
     pub places : (l : ℕ) → trimmed_of p l ≤ trimmed_of now l
-    -- Store calls make the past afterwards of the past before; what a crash leaves meanwhile shows what some of them make of it.
-    pub ran : HasRun y.store.known.layout s p (device x.store.disk) now (device y.store.disk) y.store.known.has_failed
+    -- A run of the store leads from the past before to the past afterwards. Whatever a crash leaves meanwhile shows a whole closed cut of
+    -- a beginning of what was applied, with all that was acknowledged before.
+    pub ran : HasRun y.store.known.layout y.store.known.threads s p (device x.store.disk) now (device y.store.disk)
     -- The helper serves the past afterwards.
     pub serves : IsServing device y s now
     -- It commits the control twice at most.
@@ -100,8 +105,8 @@ module _ {D : Type 0} (device : D → Device) where
     pub settled : OnOk answer Done
     -- After Ok, all that was applied is durable, and its stable cut is acknowledged and trimmed.
     pub durable : OnOk answer (IsDurable y.store.known s now)
-    -- After Ok, whatever a crash leaves, a store of the past afterwards leaves.
-    pub left : OnOk answer (Always (device y.store.disk) (IsLeftBy y.store.known.layout s now))
+    -- After Ok, whatever a crash leaves shows just the acknowledged cut of the past afterwards.
+    pub left : OnOk answer (Always (device y.store.disk) (ShowsCut y.store.known.layout y.store.known.threads s now.logged now.cut))
     -- If all was settled and nothing new came, the device isn't called, and nothing is refused.
     pub quiet : x.is_settled ≡ true → newer ≡ [] → (answer ≡ Ok 0) × (device y.store.disk ≡ device x.store.disk)
     -- A store that has failed stays as it is, and so does its device; nothing is applied.
@@ -125,7 +130,7 @@ module _ {D : Type 0} (device : D → Device) where
     pub within : IsWithin most (length works.newer)
     -- Whatever it answers, if it applied fewer records than its bound, no record that waits, or that is known to be in a ring, could be
     -- applied, unless the store had failed.
-    pub stuck : x.store.known.has_failed ≡ false → IsBelow most (length works.newer) → AreStuck x.store.known.layout (device x.store.disk) y.rings y.waiting s (applied_more works.newer p)
+    pub stuck : x.store.known.has_failed ≡ false → IsBelow most (length works.newer) → AreStuck x.store.known.layout x.store.known.threads (device x.store.disk) y.rings y.waiting s (applied_more works.newer p)
 
   -- a settling: what it has made durable is not published yet
   abbrev pub SettlesAll : Setting → Past → (x y : Parts D) → Result ℕ StoreError → Type 0
@@ -173,9 +178,9 @@ module _ {D : Type 0} (device : D → Device) where
     pub ok : IfOk answer (λ disk. IsClosedDown h.plan x.store.known.layout (parts_of ended) p x.seat (device x.store.disk) (device disk))
     -- A closing that answers Ok had each session, and none held a monitor. Its sessions stop it only where one is
     -- missing or holds a monitor.
-    pub refused : MatchResult answer (λ disk. HoldNone ended × IsComplete x.store.known.layout.lanes ended) (λ back. RefusesClosing x.store.known.layout.lanes ended back.1)
+    pub refused : MatchResult answer (λ disk. HoldNone ended × IsComplete x.store.known.threads ended) (λ back. RefusesClosing x.store.known.threads ended back.1)
     -- A closing that its sessions don't stop answers `Failed` where the store had failed.
-    pub failed : x.store.known.has_failed ≡ true → HoldNone ended → IsComplete x.store.known.layout.lanes ended → IsErrAnd answer (λ back. back.1 ≡ close.Failed)
+    pub failed : x.store.known.has_failed ≡ true → HoldNone ended → IsComplete x.store.known.threads ended → IsErrAnd answer (λ back. back.1 ≡ close.Failed)
     -- A closing that the store stops has its cause: the store had failed, the control is at its last sequence, or the
     -- device has failed since.
     pub why : IfErr answer (λ back. IsCloseWhy x.store.known (device x.store.disk) (device back.0) back.1)
@@ -183,8 +188,9 @@ module _ {D : Type 0} (device : D → Device) where
     pub untouched : IfErr answer (λ back. IsOfSessions back.1 → back.0 ≡ x.store.disk)
     -- The device of a store that had failed comes back as it was.
     pub still : x.store.known.has_failed ≡ true → disk_of answer ≡ x.store.disk
-    -- Whatever a crash leaves while closing shows what some store calls make of the past, whatever stops the closing.
-    pub stood : Stood x.store.known.layout (setting_of h.plan) p ended (device x.store.disk) (device (disk_of answer))
+    -- Whatever a crash leaves while closing shows a whole closed cut of a beginning of what was applied, with all that was acknowledged,
+    -- whatever stops the closing.
+    pub stood : Stood x.store.known.layout x.store.known.threads (setting_of h.plan) p ended (device x.store.disk) (device (disk_of answer))
     -- Over a closing that answers Ok the count of the device's failures doesn't fall.
     pub later : IfOk answer (λ disk. (device x.store.disk).failures ≤ (device disk).failures)
     -- A closing takes at most two of the control's sequences, in whatever a crash leaves.
@@ -193,12 +199,12 @@ module _ {D : Type 0} (device : D → Device) where
   -- Sessions that are complete and hold nothing meet the rings of a helper of this past: what they sent is applied, made durable and
   -- acknowledged, and the words at the end are those of its history; or the store stops that.
   pub record HasFinished (h : Home) (seat : Helping) (ended : List Ended) (p : Past) (x : Taking D) (now : Device) (answer : Result Final CloseError) : Type 0 where
-    pub ok : IsBehind seat x.store.known.layout.lanes p → StandForCuts seat x.store.known.layout.lanes p →
+    pub ok : IsBehind seat x.store.known.threads p → StandForCuts seat x.store.known.threads p →
         IfOk answer (HasSpelled h.plan x.store.known.layout (parts_of ended) p seat (device x.store.disk) now)
     pub stop : IfErr answer IsCloseStop
     pub why : IfErr answer (IsCloseWhy x.store.known (device x.store.disk) now)
     pub failed : x.store.known.has_failed ≡ true → IsErrOf answer close.Failed
-    pub stood : Stood x.store.known.layout (setting_of h.plan) p ended (device x.store.disk) now
+    pub stood : Stood x.store.known.layout x.store.known.threads (setting_of h.plan) p ended (device x.store.disk) now
     pub later : OnOk answer ((device x.store.disk).failures ≤ now.failures)
     pub shown : LeavesOnly (device x.store.disk) now (ShowsUpTo x.store.known.layout (x.store.known.committed.sequence + 2))
 

@@ -1,5 +1,5 @@
 -- What stands once both ends have met.
-use Rattle.std.specs.Prelude.{ℕ, ◌≡◌, ◌<◌, ◌≤◌, ◌++◌, true, false, List, All, Result, Ok, Err}
+use Rattle.std.specs.Prelude.{ℕ, ◌≡◌, ◌<◌, ◌≤◌, ◌++◌, List, All, Result, Ok, Err}
 use Rattle.lane_rings.specs.Rings.{sent}
 use Rattle.heap_model.specs.declared.event.Event.{Event}
 use Rattle.heap_model.specs.Setting.{Setting}
@@ -10,7 +10,8 @@ use Rattle.block_disk.specs.Device.{Device}
 use Rattle.block_disk.specs.Images.{Always}
 use Rattle.heap_model.specs.declared.record.Record.{Record}
 use Rattle.heap_model.specs.Log.{IsLegal, lane}
-use Rattle.durable.specs.Runs.{HasRun, IsLeftBy}
+use Rattle.round_store.specs.Runs.{HasRun}
+use Rattle.round_store.specs.Stops.{ShowsCut}
 use Rattle.store_past.specs.Past.{Past, applied}
 use Rattle.trim_helper.specs.Settled.{closed_value}
 use Rattle.image.specs.declared.layout.Layout.{Layout}
@@ -28,8 +29,8 @@ use Rattle.trim_helper.specs.Endings.{HoldNone, IsComplete}
 use Rattle.trim_helper.specs.Rings.{stream}
 use Rattle.trim_helper.specs.Taken.{trimmed_of}
 
--- One legal history has these threads' views as its parts, and the store calls that were made since have applied its logs, lane by
--- lane. Whatever a crash leaves now, a store of that past leaves, so that recovery takes it, and it stands for the history's heap with
+-- One legal history has these threads' views as its parts, and the store has applied its logs since, lane by
+-- lane. Whatever a crash leaves now shows the acknowledged cut of that past, so that recovery takes it, and it stands for the history's heap with
 -- all its sections: after it the persistent fields have these values, and the transient ones begin anew. None of the threads was told of more sections than were acknowledged before, nor of a
 -- place past what was trimmed. The history goes on from the one that the helper's seat had seen; and each count of sections that a thread
 -- last read, the helper had published, and it is that of a whole, closed cut of the history's log.
@@ -44,12 +45,13 @@ pub record IsClosedDown (k : Plan) (l : Layout) (parts : List Part) (p : Past) (
   -- The history of a closing goes on from the one that the helper had seen.
   pub later : GoesOn history seat.view.history
   pub now : Past
-  -- A closing names the store calls that it made.
-  pub ran : HasRun l (setting_of k) p since now d false
+  -- A closing is a run of the store: whatever a crash left meanwhile shows a whole closed cut of a beginning of what was applied, with all
+  -- that was acknowledged before.
+  pub ran : HasRun l k.lanes (setting_of k) p since now d
   -- After a closing the store has applied that history's logs, lane by lane.
   pub logs : (i : ℕ) → lane i (applied now) ≡ lane i (log_of (setting_of k) history)
-  -- Whatever a crash leaves after a closing is what a store may leave, so that recovery accepts it.
-  pub left : Always d (IsLeftBy l (setting_of k) now)
+  -- Whatever a crash leaves after a closing shows the acknowledged cut, so that recovery accepts it.
+  pub left : Always d (ShowsCut l k.lanes (setting_of k) now.logged now.cut)
   -- Whatever a crash leaves after a closing stands for the history's heap with all sections.
   pub stands : Always d (StandsForCut l (setting_of k) (log_of (setting_of k) history) (all_ended (actions (log_of (setting_of k) history))))
   -- After a closing the heap has the last values of persistent fields, and the first values of transient fields.
@@ -79,18 +81,18 @@ WasSent log e = (later : List Record) × (sent e.producer ≡ stream e.lane.0 lo
 abbrev pub AreSent : List Ended → List (ℕ × Record) → Type 0
 AreSent ended log = All (WasSent log) ended
 
--- Some store calls were made since the one moment, and one may have been cut off by a fault. Whatever a crash left since then shows what
--- some of them make of the past, so that recovery takes it, with the stable cut only where a settling was running. Once the sessions were
--- let meet, all that is applied then is what they had sent.
-pub record Stood (l : Layout) (s : Setting) (p : Past) (ended : List Ended) (since now : Device) : Type 0 where
+-- The store, with so many lanes of threads, has run since the one moment, and a fault may have cut a call off. Whatever a crash left since
+-- then shows a whole closed cut of a beginning of what was applied, with all that was acknowledged, so that recovery takes it. Once the
+-- sessions were let meet, all that is applied then is what they had sent.
+pub record Stood (l : Layout) (t : ℕ) (s : Setting) (p : Past) (ended : List Ended) (since now : Device) : Type 0 where
   pub newer : List (ℕ × Record)
   pub legal : IsLegal s (newer ++ applied p)
   -- Once the sessions are complete and hold nothing, what is applied of each lane is the beginning of what its session
   -- had sent.
-  pub sent : HoldNone ended → IsComplete l.lanes ended → AreSent ended (newer ++ applied p)
+  pub sent : HoldNone ended → IsComplete t ended → AreSent ended (newer ++ applied p)
   pub then : Past
   pub same : applied then ≡ newer ++ applied p
-  pub ran : HasRun l s p since then now true
+  pub ran : HasRun l t s p since then now
 
 -- the device that is given back, whatever is answered
 abbrev pub disk_of : {D E : Type 0} → Result D (D × E) → D

@@ -4,8 +4,8 @@ use Rattle.heap_model.specs.declared.record.Record.{Record}
 use Rattle.heap_model.specs.Sections.{actions}
 use Rattle.heap_model.specs.Cuts.{IsWhole, IsClosed}
 use Rattle.block_disk.specs.Device.{Device}
-use Rattle.durable.specs.Store as stores
-use Rattle.durable.specs.Store.{HasPast}
+use Rattle.round_store.specs.Store as stores
+use Rattle.round_store.specs.Store.{HasPast}
 use Rattle.heap_model.specs.Setting.{Setting}
 use Rattle.monitor.specs.declared.view.Post.TheVariants.{Stable}
 use Rattle.monitor.specs.Posts.{WasPublished, post_number}
@@ -30,5 +30,5 @@ StandForCuts h lanes p = (l n : ℕ) → l < lanes → WasCount h l n → IsCutC
 module _ {D : Type 0} (device : D → Device) where
   -- by lane, of acknowledged counts no other was published since than the one that the store has
   abbrev pub AddsCounts : stores.Parts D → (old new : Helping) → Type 0
-  AddsCounts x h k = (s : Setting) (p : Past) → HasPast x.known s p (device x.disk) → (l n : ℕ) → l < x.known.layout.lanes →
+  AddsCounts x h k = (s : Setting) (p : Past) → HasPast x.known s p (device x.disk) → (l n : ℕ) → l < x.known.threads →
       WasCount k l n → WasCount h l n ⊎ (n ≡ p.cut l)

@@ -80,6 +80,7 @@ module _ {D : Type 0} (device : D → Device) where
     pub told : KeepsTold x.rings y.rings
     pub slots : length y.waiting ≡ length x.waiting
     pub layout : y.store.known.layout ≡ x.store.known.layout
+    pub threads : y.store.known.threads ≡ x.store.known.threads
     pub running : y.store.known.has_failed ≡ x.store.known.has_failed
     -- the control is as it was, and the device wasn't called
     pub sequence : y.store.known.committed.sequence ≡ x.store.known.committed.sequence

@@ -3,7 +3,7 @@ use Rattle.std.specs.Prelude.{ℕ, ◌≡◌, ◌≢◌, ◌⊎◌, true, false,
 use Rattle.lane_rings.specs.Rings.{Receiving, sent}
 use Rattle.heap_model.specs.Setting.{Setting}
 use Rattle.block_disk.specs.Device.{Device, HasFailed}
-use Rattle.durable.specs.Store.{Known, HasPast}
+use Rattle.round_store.specs.Store.{Known, HasPast}
 use Rattle.store_past.specs.Past.{Past}
 use Rattle.heap_model.specs.Own.{own_log, sent_of}
 use Rattle.heap_model.specs.Sections.{action, holding}

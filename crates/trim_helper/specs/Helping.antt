@@ -4,8 +4,8 @@ use Rattle.heap_model.specs.declared.event.Event.{Event}
 use Rattle.heap_model.specs.History.{state_after}
 use Rattle.heap_model.specs.Setting.{Setting}
 use Rattle.block_disk.specs.Device.{Device}
-use Rattle.durable.specs.Store as stores
-use Rattle.durable.specs.Store.{HasPast}
+use Rattle.round_store.specs.Store as stores
+use Rattle.round_store.specs.Store.{HasPast}
 use Rattle.monitor.specs.declared.view.Plan.{Plan}
 use Rattle.monitor.specs.declared.view.Post.TheVariants.{Stable, Trimmed}
 use Rattle.monitor.specs.declared.view.Part as raw
@@ -51,11 +51,11 @@ IsPublished h lanes p = (l : ℕ) → l < lanes → (count_published h l ≡ p.c
 module _ {D : Type 0} (device : D → Device) where
   -- no more is published than what the store has acknowledged and trimmed
   abbrev pub MayPublish : stores.Parts D → Helping → Type 0
-  MayPublish x h = (s : Setting) × (p : Past) × HasPast x.known s p (device x.disk) × IsBehind h x.known.layout.lanes p
+  MayPublish x h = (s : Setting) × (p : Past) × HasPast x.known s p (device x.disk) × IsBehind h x.known.threads p
 
   -- all of that is published
   abbrev pub HasPublished : stores.Parts D → Helping → Type 0
-  HasPublished x h = (s : Setting) (p : Past) → HasPast x.known s p (device x.disk) → IsPublished h x.known.layout.lanes p
+  HasPublished x h = (s : Setting) (p : Past) → HasPast x.known s p (device x.disk) → IsPublished h x.known.threads p
 
 -- no lane that it took in has read more than it has published
 abbrev pub HaveRead : Helping → Type 0

@@ -4,7 +4,7 @@ use Rattle.lane_rings.specs.Rings.{Receiving}
 use Rattle.heap_model.specs.declared.record.Record.{Record}
 use Rattle.heap_model.specs.Setting.{Setting}
 use Rattle.block_disk.specs.Device.{Device}
-use Rattle.durable.specs.Store as stores
+use Rattle.round_store.specs.Store as stores
 use Rattle.store_past.specs.Past.{Past, IsTrimmed}
 use Rattle.monitor.specs.Seats.{Helping}
 use Rattle.lane_rings.specs.declared.ring_records.TheConstants.{MOST_RING_RECORDS}
@@ -37,9 +37,9 @@ module _ {D : Type 0} (device : D → Device) where
   pub record IsServing (x : Parts D) (s : Setting) (p : Past) : Type 0 where
     pub taken : HasTaken device (taking_of x) s p
     -- A published count of sections is at most what is acknowledged of the lane.
-    pub counts : (l : ℕ) → l < x.store.known.layout.lanes → count_published x.seat l ≤ p.cut l
+    pub counts : (l : ℕ) → l < x.store.known.threads → count_published x.seat l ≤ p.cut l
     -- A published place is at most what is trimmed of the lane.
-    pub places : (l : ℕ) → l < x.store.known.layout.lanes → place_published x.seat l ≤ trimmed_of p l
+    pub places : (l : ℕ) → l < x.store.known.threads → place_published x.seat l ≤ trimmed_of p l
     pub running : x.is_settled ≡ true → x.store.known.has_failed ≡ false
     -- Where nothing was applied since the last good round, the acknowledged cut is the stable cut of all that was
     -- applied.
@@ -47,9 +47,9 @@ module _ {D : Type 0} (device : D → Device) where
     -- Where nothing was applied since the last good round, all that is acknowledged is trimmed.
     pub trimmed : x.is_settled ≡ true → IsTrimmed p
     -- Where nothing was applied since the last good round, all that is acknowledged and trimmed is published.
-    pub published : x.is_settled ≡ true → IsPublished x.seat x.store.known.layout.lanes p
+    pub published : x.is_settled ≡ true → IsPublished x.seat x.store.known.threads p
     -- Each count of sections that was ever published is that of some whole, closed cut of what was applied.
-    pub stand : StandForCuts x.seat x.store.known.layout.lanes p
+    pub stand : StandForCuts x.seat x.store.known.threads p
 
   -- so many records were applied of what its rings held in a drain's looks at them
   abbrev pub HasDrained : (old new : Parts D) → ℕ → Type 0
@@ -57,7 +57,7 @@ module _ {D : Type 0} (device : D → Device) where
 
   -- each lane has a ring, of which the helper has seen what it heard, and the store has a past
   pub record IsWhole (x : Parts D) : Type 0 where
-    pub lanes : length x.rings ≡ x.store.known.layout.lanes
+    pub lanes : length x.rings ≡ x.store.known.threads
     pub few : length x.rings ≤ 32
     pub rooms : most_room x.rings ≤ MOST_RING_RECORDS
     pub sees : SeesFrom x.seat 0 x.rings

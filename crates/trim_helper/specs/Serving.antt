@@ -1,5 +1,5 @@
 -- What the rings hold of one legal history, by its threads' views.
-use Rattle.std.specs.Prelude.{ℕ, ◌≡◌, ◌<◌, ◌≤◌, ◌⊎◌, List, [], ◌∷◌, ◌++◌}
+use Rattle.std.specs.Prelude.{ℕ, ◌≡◌, ◌<◌, ◌≤◌, ◌⊎◌, List, [], ◌∷◌, ◌++◌, length}
 use Rattle.lane_rings.specs.Rings.{Receiving}
 use Rattle.heap_model.specs.declared.event.Event.{Event}
 use Rattle.heap_model.specs.Setting.{Setting}
@@ -34,4 +34,4 @@ pub record IsOneHistory (s : Setting) (lanes : ℕ) (parts : List Part) (history
 pub record HoldHistory (rings : List Receiving) (l : Layout) (s : Setting) (p : Past) (history : List (ℕ × Event)) : Type 0 where
   pub legal : IsLegalHistory s history
   pub whole : (k : ℕ) → sent_of s (lane k history) ≡ received_of rings k ++ known_of rings k
-  pub limits : (k : ℕ) → k < l.lanes → KeepsLimits (trimmed_of p k) l.capacity (own_log s (lane k history))
+  pub limits : (k : ℕ) → k < length rings → KeepsLimits (trimmed_of p k) l.capacity (own_log s (lane k history))

@@ -1,24 +1,16 @@
 -- What making records durable makes of a past.
-use Rattle.std.specs.Prelude.{ℕ, ◌≡◌, ◌<◌, ◌≤◌, ◌⊎◌, ◌-◌, ◌^◌, if◌then◌else◌, Bool, true, false, [], Result, OnOk, OnErr, IfErr, IsErrOf}
+use Rattle.std.specs.Prelude.{ℕ, ◌≡◌, ◌≤◌, ◌⊎◌, ◌-◌, ◌^◌, if◌then◌else◌, true, false, [], Result, OnOk, IfErr, IsErrOf}
 use Rattle.heap_model.specs.Setting.{Setting}
 use Rattle.heap_model.specs.Sections.{actions}
 use Rattle.heap_model.specs.Cuts.{IsStable}
 use Rattle.block_disk.specs.Device.{Device}
 use Rattle.store_past.specs.Past.{Past, IsTrimmed, applied}
-use Rattle.durable.specs.Calls.{RefusesHome}
-use Rattle.durable.specs.Runs.{HasRun}
-use Rattle.durable.specs.Store as stores
-use Rattle.durable.specs.Store.{Known, HasPast}
+use Rattle.round_store.specs.Runs.{HasRun}
+use Rattle.round_store.specs.Store as stores
+use Rattle.round_store.specs.Store.{Known, HasPast}
 use Rattle.trim_helper.specs.Taken.{trimmed_of}
 use Rattle.store_past.specs.declared.error.StoreError.{StoreError}
 use Rattle.store_past.specs.declared.error.StoreError.TheVariants.{Failed, Worn, Fault}
-
--- No field is dirty but those past these; else the past is as it was, and so many home steps were made since the first device.
-pub record HasClean (old : Device) (x : Known) (d : Device) (s : Setting) (p : Past) (fields : ℕ) : Type 0 where
-  pub dirty : ℕ → Bool
-  pub has : HasPast x s (record p { is_dirty = dirty }) d
-  pub clean : (f : ℕ) → f < fields → dirty f ≡ false
-  pub ran : HasRun x.layout s p old (record p { is_dirty = dirty }) d x.has_failed
 
 -- By calls since the first device the same records were applied; what was acknowledged still is, and what was trimmed stays so.
 pub record HasSame (old : Device) (x : Known) (d : Device) (s : Setting) (p : Past) : Type 0 where
@@ -27,19 +19,18 @@ pub record HasSame (old : Device) (x : Known) (d : Device) (s : Setting) (p : Pa
   pub same : applied now ≡ applied p
   pub cut : (l : ℕ) → p.cut l ≤ now.cut l
   pub places : (l : ℕ) → trimmed_of p l ≤ trimmed_of now l
-  pub ran : HasRun x.layout s p old now d x.has_failed
+  pub ran : HasRun x.layout x.threads s p old now d
 
--- All that was applied is logged and at home, and its stable cut is acknowledged.
+-- All that was applied is logged, and its stable cut is acknowledged.
 pub record IsSettled (s : Setting) (p : Past) : Type 0 where
   pub logged : p.fresh ≡ []
-  pub clean : (f : ℕ) → f < s.fields → p.is_dirty f ≡ false
   pub stable : IsStable (actions (applied p)) p.cut
 
 -- What was applied is durable, where a store of this past runs: it may be published.
 pub record IsDurable (x : Known) (s : Setting) (p : Past) : Type 0 where
   -- Where what was applied is durable, the store hasn't failed.
   pub running : x.has_failed ≡ false
-  -- Where what was applied is durable, all of it is logged and at home, and its stable cut is acknowledged.
+  -- Where what was applied is durable, all of it is logged, and its stable cut is acknowledged.
   pub settled : IsSettled s p
   -- Where what was applied is durable, all that is acknowledged is trimmed.
   pub trimmed : IsTrimmed p
@@ -69,17 +60,7 @@ pub record SettlesAndTrims (s : Setting) (p : Past) (old : Known) (before : Devi
   pub trimmed : OnOk answer (IsTrimmed settles.same.now)
 
 module _ {D : Type 0} (device : D → Device) where
-  -- Home steps are made until no field is dirty.
-  pub record GoesHome (s : Setting) (p : Past) (x y : stores.Parts D) (answer : Result (Unit {0}) StoreError) : Type 0 where
-    pub clean : OnOk answer (HasClean (device x.disk) y.known (device y.disk) s p s.fields)
-    pub kept : OnErr answer (HasClean (device x.disk) y.known (device y.disk) s p 0)
-    pub refused : IfErr answer (RefusesHome x.known)
-    pub failed : IsErrOf answer Fault → y.known.has_failed ≡ true
-
-  -- so each of these does, whatever past the store has
-  abbrev pub WritesHome : (x y : stores.Parts D) → Result (Unit {0}) StoreError → Type 0
-  WritesHome x y answer = (s : Setting) (p : Past) → HasPast x.known s p (device x.disk) → GoesHome s p x y answer
-
+  -- so it is whatever past the store has
   abbrev pub SettlesApplied : (x y : stores.Parts D) → Result (Unit {0}) StoreError → Type 0
   SettlesApplied x y answer = (s : Setting) (p : Past) → HasPast x.known s p (device x.disk) → Settles s p x.known (device x.disk) y.known (device y.disk) answer
 

@@ -6,9 +6,9 @@ use Rattle.heap_model.specs.Setting.{Setting}
 use Rattle.block_disk.specs.Device.{Device}
 use Rattle.undo_log.specs.Dropped.{undo_logs, records_in}
 use Rattle.store_past.specs.Past.{Past, applied}
-use Rattle.durable.specs.Calls.{RefusesApply}
-use Rattle.durable.specs.Store as stores
-use Rattle.durable.specs.Store.{Known, HasPast}
+use Rattle.round_store.specs.Steps.{RefusesApply}
+use Rattle.round_store.specs.Store as stores
+use Rattle.round_store.specs.Store.{Known, HasPast}
 use Rattle.store_past.specs.declared.error.StoreError.{StoreError}
 use Rattle.store_past.specs.declared.error.StoreError.TheVariants.{Failed}
 use Rattle.trim_helper.specs.Rings.{received_of, known_of, held_back, waiting_in, stream}
@@ -59,6 +59,7 @@ module _ {D : Type 0} (device : D → Device) where
     pub told : KeepsTold x.rings y.rings
     pub slots : length y.waiting ≡ length x.waiting
     pub layout : y.store.known.layout ≡ x.store.known.layout
+    pub threads : y.store.known.threads ≡ x.store.known.threads
     pub running : y.store.known.has_failed ≡ x.store.known.has_failed
     -- the control is as it was, and the device wasn't called
     pub sequence : y.store.known.committed.sequence ≡ x.store.known.committed.sequence

@@ -16,14 +16,14 @@ use crate::ended::Ended;
 use crate::helper::Helper;
 use crate::meeting::meet;
 use crate::published::close;
-use crate::settling::settle_applied;
+use crate::settling::settle_and_trim;
 use block_disk::Disk;
 use cut_laws::{stable_law, unlogged_law};
-use durable::Store;
 use heap_model::{Lane, Record};
 use history_laws::{all_kept_law, log_law, next_law, order_law, own_log_law};
 use lane_rings::{MOST_RING_RECORDS, Receiver};
 use monitor::{Finals, HelperSeat, Shared};
+use round_store::RoundStore;
 
 // How many of the sessions are of this lane.
 fn count_of(ended: &[Ended], lane: u8) -> usize
@@ -85,20 +85,20 @@ fn check_ended(ended: &[Ended], lanes: u8) -> Result<(), CloseError>
 fn finish<D: Disk>(
     shared: Shared,
     ended: Vec<Ended>,
-    store: &mut Store<D>,
+    store: &mut RoundStore<D>,
     rings: &mut [Receiver],
     waiting: &mut [Option<Record>],
     mut seat: HelperSeat,
 ) -> Result<Finals, CloseError>
     requires helper { IsHelper shared seat }
-    requires lanes { shared.plan.lanes ≡ store.old.known.layout.lanes }
-    requires rings { length rings.old ≡ store.old.known.layout.lanes }
+    requires lanes { shared.plan.lanes ≡ store.old.known.threads }
+    requires rings { length rings.old ≡ store.old.known.threads }
     requires few { length rings.old ≤ 32 }
     requires room { most_room rings.old ≤ MOST_RING_RECORDS }
     requires slots { length waiting.old ≡ 32 }
     requires ended { AreEnded shared store.old.known.layout.capacity rings.old ended.items }
     requires none { HoldNone ended.items }
-    requires complete { IsComplete store.old.known.layout.lanes ended.items }
+    requires complete { IsComplete store.old.known.threads ended.items }
     requires nothing { taken_in seat ≡ [] }
     ensures finishes { Finishes D.device shared seat ended.items (with_rings store.old rings.old waiting.old) (D.device store.new.disk) result }
     ensures still { StaysFailedTaking D.device (with_rings store.old rings.old waiting.old) store.new }
@@ -117,7 +117,7 @@ fn finish<D: Disk>(
         drop(shared);
         return Err(close_error(reason));
     }
-    if let Err(reason) = settle_applied(store) {
+    if let Err(reason) = settle_and_trim(store) {
         drop(seat);
         drop(shared);
         return Err(close_error(reason));
@@ -140,7 +140,7 @@ pub fn close_down<D: Disk>(
     helper: Helper<D>,
 ) -> Result<D, (D, CloseError)>
     requires helper { IsHelper shared helper.seat }
-    requires lanes { shared.plan.lanes ≡ helper.store.known.layout.lanes }
+    requires lanes { shared.plan.lanes ≡ helper.store.known.threads }
     requires ended { AreEnded shared helper.store.known.layout.capacity helper.rings ended.items }
     requires nothing { taken_in helper.seat ≡ [] }
     ensures closes { (p : Past) → IsServing D.device helper (setting_of shared.plan) p → Closes D.device shared ended.items p helper result }
@@ -152,8 +152,8 @@ pub fn close_down<D: Disk>(
         seat,
         is_settled: _,
     } = helper;
-    let lanes = store.layout().lanes;
-    if let Err(reason) = check_ended(&ended, lanes) {
+    let threads = store.threads();
+    if let Err(reason) = check_ended(&ended, threads) {
         drop(seat);
         drop(waiting);
         drop(rings);

@@ -8,10 +8,11 @@ ghost use Rattle.trim_helper.specs.Taken.{with_rings};
 
 use crate::rings::{clear_waiting, fetch, look};
 use block_disk::Disk;
-use durable::{Store, StoreError};
 use heap_model::{Lane, Record};
 use history_laws::{log_law, next_law, own_log_law};
 use lane_rings::{MOST_RING_RECORDS, Receiver};
+use round_store::RoundStore;
+use store_past::StoreError;
 
 /// How often a drain looks at the rings at most. While threads send as quickly as it applies, a drain with no bound takes so many
 /// rings' fill of each lane.
@@ -19,7 +20,7 @@ pub const LOOKS: usize = 16;
 
 /// Applies the lane's next record, if one is known and it is next. Answers whether it did.
 pub fn apply_next<D: Disk>(
-    store: &mut Store<D>,
+    store: &mut RoundStore<D>,
     rings: &mut [Receiver],
     waiting: &mut [Option<Record>],
     lane: usize,
@@ -49,7 +50,7 @@ pub fn apply_next<D: Disk>(
 
 /// Applies the lane's records as long as the next one can be, at most `most` of them, and answers how many it applied.
 pub fn apply_lane<D: Disk>(
-    store: &mut Store<D>,
+    store: &mut RoundStore<D>,
     rings: &mut [Receiver],
     waiting: &mut [Option<Record>],
     lane: usize,
@@ -92,7 +93,7 @@ fn share_of(remaining: u64, lanes: usize) -> u64
 /// Applies the lanes' records in turn, each as long as its next one can be, and at most `most` in all: each lane at most an equal part
 /// of what the lanes before it left. Answers how many it applied.
 pub fn apply_lanes<D: Disk>(
-    store: &mut Store<D>,
+    store: &mut RoundStore<D>,
     rings: &mut [Receiver],
     waiting: &mut [Option<Record>],
     most: u64,
@@ -116,14 +117,14 @@ pub fn apply_lanes<D: Disk>(
 /// Applies what is next in its lane, until nothing is or `most` records were applied, and reads no more of the rings than is known of
 /// them.
 pub fn drain_known<D: Disk>(
-    store: &mut Store<D>,
+    store: &mut RoundStore<D>,
     rings: &mut [Receiver],
     waiting: &mut [Option<Record>],
     most: u64,
 ) -> Result<u64, StoreError>
     requires slots { length waiting.old ≡ 32 }
     requires few { length rings.old ≤ 32 }
-    requires lanes { length rings.old ≡ store.old.known.layout.lanes }
+    requires lanes { length rings.old ≡ store.old.known.threads }
     ensures { Empties D.device most (with_rings store.old rings.old waiting.old) (with_rings store.new rings.new waiting.new) result }
 {
     next_law();
@@ -147,7 +148,7 @@ pub fn drain_known<D: Disk>(
 /// Looks how many records are in the rings, and applies what is next in its lane of those, until nothing is or `most` were applied.
 /// Answers how many it applied.
 fn drain_once<D: Disk>(
-    store: &mut Store<D>,
+    store: &mut RoundStore<D>,
     rings: &mut [Receiver],
     waiting: &mut [Option<Record>],
     most: u64,
@@ -155,7 +156,7 @@ fn drain_once<D: Disk>(
     requires slots { length waiting.old ≡ 32 }
     requires few { length rings.old ≤ 32 }
     requires room { most_room rings.old ≤ MOST_RING_RECORDS }
-    requires lanes { length rings.old ≡ store.old.known.layout.lanes }
+    requires lanes { length rings.old ≡ store.old.known.threads }
     ensures { DrainsRings D.device 1 (Some most) (with_rings store.old rings.old waiting.old) (with_rings store.new rings.new waiting.new) result }
 {
     look(rings);
@@ -168,7 +169,7 @@ fn drain_once<D: Disk>(
 /// Looks at the rings and applies what is next in its lane, again and again until nothing was, it has looked [`LOOKS`] times, or
 /// `most` records were applied. Answers how many it applied.
 pub fn drain_rings<D: Disk>(
-    store: &mut Store<D>,
+    store: &mut RoundStore<D>,
     rings: &mut [Receiver],
     waiting: &mut [Option<Record>],
     most: u64,
@@ -176,7 +177,7 @@ pub fn drain_rings<D: Disk>(
     requires slots { length waiting.old ≡ 32 }
     requires few { length rings.old ≤ 32 }
     requires room { most_room rings.old ≤ MOST_RING_RECORDS }
-    requires lanes { length rings.old ≡ store.old.known.layout.lanes }
+    requires lanes { length rings.old ≡ store.old.known.threads }
     ensures { DrainsRings D.device LOOKS (Some most) (with_rings store.old rings.old waiting.old) (with_rings store.new rings.new waiting.new) result }
 {
     let mut count = 0u64;

@@ -1,6 +1,6 @@
 //! The helper.
 ghost use Rattle.std.specs.Prelude.{◌≡◌, ◌<◌, ◌≤◌, ◌-◌, ◌^◌, [], ℕ, true, false, vec_len, None, MatchOption, OnOk};
-ghost use Rattle.durable.specs.Store.{HasPast};
+ghost use Rattle.round_store.specs.Store.{HasPast};
 ghost use Rattle.heap_model.specs.Setting.{Setting};
 ghost use Rattle.monitor.specs.Views.{GoesOn};
 ghost use Rattle.store_past.specs.Past.{Past, no_past};
@@ -19,11 +19,12 @@ use crate::hearing::catch_up;
 use crate::published::publish_all;
 use crate::settling::settle_and_trim;
 use block_disk::Disk;
-use durable::{Store, StoreError};
 use heap_model::{LANES, Lane, Record};
 use lane_rings::{MOST_RING_RECORDS, Receiver};
 use monitor::{HelperSeat, Shared};
+use round_store::RoundStore;
 use std::marker::Model;
+use store_past::StoreError;
 
 /// The helper: it owns the store, applies to it what the sessions send through their rings, makes that durable, and publishes
 /// how many sections of each lane are acknowledged and how many of its records are forgotten.
@@ -32,7 +33,7 @@ use std::marker::Model;
 /// see it as its `Parts`.
 #[derive(Drop)]
 pub struct Helper<D: Disk> {
-    pub(crate) store: Store<D>,
+    pub(crate) store: RoundStore<D>,
     /// The rings' ends, by lane.
     pub(crate) rings: Vec<Receiver>,
     /// The record of each lane that was taken and waits to be next.
@@ -53,11 +54,11 @@ impl<D: Disk> Model for Helper<D> {
 }
 
 impl<D: Disk> Helper<D> {
-    /// The helper of a store that runs and was told nothing, with the ends of the rings, lane i's as the i-th, from which nothing was
-    /// taken, and with the helper's seat, of the heap whose lanes' rings they are, which has published nothing. All is settled: the first
-    /// round makes no device call unless something came.
-    pub fn new(store: Store<D>, rings: Vec<Receiver>, seat: HelperSeat) -> Helper<D>
-        requires lanes { vec_len rings ≡ store.known.layout.lanes }
+    /// The helper of a store that runs and was told nothing, with the ends of the rings of the threads' lanes, lane i's as the i-th, from
+    /// which nothing was taken, and with the helper's seat, of the heap whose lanes' rings they are, which has published nothing. All is
+    /// settled: the first round makes no device call unless something came.
+    pub fn new(store: RoundStore<D>, rings: Vec<Receiver>, seat: HelperSeat) -> Helper<D>
+        requires lanes { vec_len rings ≡ store.known.threads }
         requires rooms { most_room rings.items ≤ MOST_RING_RECORDS }
         requires untaken { (l : ℕ) → received_of rings.items l ≡ [] }
         requires sees { SeesFrom seat 0 rings.items }
@@ -78,9 +79,16 @@ impl<D: Disk> Helper<D> {
         }
     }
 
+    /// How many lanes are the threads'.
+    pub fn threads(&self) -> u8
+        ensures { result ≡ self.now.store.known.threads }
+    {
+        self.store.threads()
+    }
+
     /// How many sections of the lane are acknowledged.
     pub fn acknowledged(&self, lane: Lane) -> u64
-        requires { lane.0 < self.now.store.known.layout.lanes }
+        requires { lane.0 < self.now.store.known.threads }
         ensures { (s : Setting) (p : Past) → IsServing D.device self.now s p → result ≡ p.cut lane.0 }
     {
         self.store.acknowledged(lane)
@@ -122,7 +130,7 @@ impl<D: Disk> Helper<D> {
         catch_up(shared, &mut self.rings, &mut self.seat);
     }
 
-    /// The first half of a round. It drains the rings, hears what they tell of the one history, logs what was applied, writes it home,
+    /// The first half of a round. It drains the rings, hears what they tell of the one history, makes durable what was applied,
     /// acknowledges its stable cut and forgets what is acknowledged, so that each lane has its area but for the records that aren't
     /// acknowledged. It publishes nothing. It answers how many records it applied. With nothing applied since the last round that
     /// answered Ok, or since the opening, it makes no device call, and isn't refused.
@@ -131,9 +139,9 @@ impl<D: Disk> Helper<D> {
     /// failed now. What was done before one stands.
     pub fn settle(&mut self, shared: &Shared) -> Result<u64, StoreError>
         requires seat { IsHelper shared.now self.old.seat }
-        requires lanes { shared.now.plan.lanes ≡ self.old.store.known.layout.lanes }
-        // Settling makes durable what was applied, acknowledges its stable cut and trims that, by store calls that are
-        // named. Unless the store had failed, no record that waits or is known to be in a ring could be applied then.
+        requires lanes { shared.now.plan.lanes ≡ self.old.store.known.threads }
+        // Settling makes durable what was applied, acknowledges its stable cut and trims that, by a run of the
+        // store. Unless the store had failed, no record that waits or is known to be in a ring could be applied then.
         ensures settles { (s : Setting) (p : Past) → IsServing D.device self.old s p → SettlesUpTo D.device None s p self.old self.new result }
         // After Ok, what is acknowledged may be published.
         ensures ready { OnOk result (MayBePublished D.device self.new) }
@@ -152,7 +160,7 @@ impl<D: Disk> Helper<D> {
     /// waits for the next call. Each lane gets an equal part of what remains of the bound, rounded up. `None` is no bound.
     pub fn bounded_settle(&mut self, shared: &Shared, most: Option<u64>) -> Result<u64, StoreError>
         requires seat { IsHelper shared.now self.old.seat }
-        requires lanes { shared.now.plan.lanes ≡ self.old.store.known.layout.lanes }
+        requires lanes { shared.now.plan.lanes ≡ self.old.store.known.threads }
         // Settling with a bound applies at most so many records. It makes durable what was applied, acknowledges its
         // stable cut and trims that. If it applied fewer, and the store hadn't failed, no record could be applied then.
         ensures settles { (s : Setting) (p : Past) → IsServing D.device self.old s p → SettlesUpTo D.device most s p self.old self.new result }
@@ -184,7 +192,7 @@ impl<D: Disk> Helper<D> {
     /// [`settle`](Helper::settle) that answered Ok, with nothing between.
     pub fn publish(&mut self, shared: &Shared)
         requires seat { IsHelper shared.now self.old.seat }
-        requires lanes { shared.now.plan.lanes ≡ self.old.store.known.layout.lanes }
+        requires lanes { shared.now.plan.lanes ≡ self.old.store.known.threads }
         requires durable { MayBePublished D.device self.old }
         // Publishing changes neither the store nor its device: what a session reads meanwhile is durable already.
         ensures { Publishes D.device shared.now self.old self.new }
@@ -204,7 +212,7 @@ impl<D: Disk> Helper<D> {
     /// failed now. What was done before one stands, and nothing is published.
     pub fn round(&mut self, shared: &Shared) -> Result<u64, StoreError>
         requires seat { IsHelper shared.now self.old.seat }
-        requires lanes { shared.now.plan.lanes ≡ self.old.store.known.layout.lanes }
+        requires lanes { shared.now.plan.lanes ≡ self.old.store.known.threads }
         ensures rounds { (s : Setting) (p : Past) → IsServing D.device self.old s p → RoundsUpTo D.device None s p self.old self.new result }
         ensures goes_on { HasGoneOn shared.now self.old self.new }
         // While threads go on, a round sees one legal history. What it took of each lane, up to the last release, is
@@ -222,7 +230,7 @@ impl<D: Disk> Helper<D> {
     /// the next round. `None` is no bound. It is refused as [`round`](Helper::round) is.
     pub fn bounded_round(&mut self, shared: &Shared, most: Option<u64>) -> Result<u64, StoreError>
         requires seat { IsHelper shared.now self.old.seat }
-        requires lanes { shared.now.plan.lanes ≡ self.old.store.known.layout.lanes }
+        requires lanes { shared.now.plan.lanes ≡ self.old.store.known.threads }
         // A round with a bound applies at most so many records. If it applied fewer, and the store hadn't failed, no
         // record that waits or is known to be in a ring could be applied then.
         ensures rounds { (s : Setting) (p : Past) → IsServing D.device self.old s p → RoundsUpTo D.device most s p self.old self.new result }
@@ -244,7 +252,7 @@ impl<D: Disk> Helper<D> {
     }
 
     /// Its store, as it is. What waits and what is in the rings is dropped.
-    pub fn into_store(self) -> Store<D>
+    pub fn into_store(self) -> RoundStore<D>
         ensures { result ≡ self.store }
     {
         let Helper { store, .. } = self;

@@ -8,14 +8,14 @@ ghost use Rattle.trim_helper.specs.Helping.{HasPublished, HavePublished, HaveRea
 ghost use Rattle.trim_helper.specs.Seen.{SameSight};
 
 use block_disk::Disk;
-use durable::Store;
 use heap_model::Lane;
 use monitor::{Finals, HelperSeat, Seat, Shared};
+use round_store::RoundStore;
 
 /// Publishes by lane what is acknowledged and trimmed.
-pub fn publish_all<D: Disk>(store: &Store<D>, shared: &Shared, seat: &mut HelperSeat)
+pub fn publish_all<D: Disk>(store: &RoundStore<D>, shared: &Shared, seat: &mut HelperSeat)
     requires seat { IsHelper shared.now seat.old }
-    requires lanes { shared.now.plan.lanes ≡ store.now.known.layout.lanes }
+    requires lanes { shared.now.plan.lanes ≡ store.now.known.threads }
     requires rises { MayPublish D.device store.now seat.old }
     ensures published { HasPublished D.device store.now seat.new }
     ensures counts { AddsCounts D.device store.now seat.old seat.new }
@@ -24,8 +24,8 @@ pub fn publish_all<D: Disk>(store: &Store<D>, shared: &Shared, seat: &mut Helper
     ensures gathered { taken_in seat.new ≡ taken_in seat.old }
     ensures sight { SameSight seat.old seat.new }
 {
-    let lanes = store.layout().lanes;
-    for lane in 0..lanes {
+    let threads = store.threads();
+    for lane in 0..threads {
         let lane = Lane(lane);
         let acknowledged = store.acknowledged(lane);
         let trimmed = store.trimmed(lane);

@@ -1,12 +1,9 @@
 -- What C is told of the first bytes of a device: whose image they begin, or whether there may have been one (this project's own).
 use Rattle.std.specs.Prelude.{ℕ, ◌≡◌, ◌<◌, ◌≤◌, ◌+◌, ◌*◌, ◌^◌, List, length}
-use Rattle.std.specs.Int.{from_be_bytes, w32}
-use Rattle.block_disk.specs.Bytes.{part}
-use Rattle.image.specs.Header.{HasHeader, IsFormatted, name}
+use Rattle.image.specs.Head.{HasNoControl, IsNamed, fields_in}
+use Rattle.image.specs.Header.{HasHeader, IsFormatted}
 use Rattle.image.specs.Layout.{size_of}
-use Rattle.image.specs.Slots.{body, gate, sequence_of}
 use Rattle.image.specs.declared.layout.Layout.{Layout}
-use Rattle.image.specs.declared.slot.Slot.{Slot}
 use Rattle.zelamiku.specs.declared.status.TheConstants.{BAD_HEADER, NOT_FORMATTED, OK, TOO_SMALL}
 use Rattle.zelamiku.specs.declared.words.Head.{Head}
 
@@ -25,18 +22,6 @@ begun_head zeros_from = record { size = 0; zeros_from = zeros_from; objects = 0;
 -- there is one of this layout
 abbrev pub head_of : Layout → Head
 head_of l = record { size = size_of l; zeros_from = 0; objects = l.objects; fields = l.fields; lanes = l.lanes; capacity = l.capacity; is_damaged = 0 }
-
--- the image's name stands there
-abbrev pub IsNamed : List ℕ → Type 0
-IsNamed begun = part 0 8 begun ≡ name
-
--- how many fields the header says, whatever its gate
-abbrev pub fields_in : List ℕ → ℕ
-fields_in begun = from_be_bytes w32 (part 16 4 begun)
-
--- no slot of the control counts that has a sequence, as one has from the making of a heap on
-abbrev pub HasNoControl : List ℕ → Type 0
-HasNoControl begun = (s : Slot) → gate s begun ≡ 165 → sequence_of (body s begun) ≡ 0
 
 -- A making in place that was cut off before its first control may leave these bytes, and zeros behind the rows and cells of so many fields.
 pub record IsBegun (begun : List ℕ) : Type 0 where

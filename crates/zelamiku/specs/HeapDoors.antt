@@ -1,5 +1,5 @@
 -- What C's calls of a heap do to what is behind its handle, and what they answer, by cases on what is there (this project's own).
-use Rattle.std.specs.Prelude.{ℕ, ◌≡◌, ◌<◌, ◌≤◌, ◌↔◌, List, [], ◌∷◌, ◌++◌, ◌+◌, ◌==◌, not, true, false, if◌then◌else◌, Option, Some, None, Result, Ok, Err, IfOk, IsErrOf, OnOk, drop, length, map, take}
+use Rattle.std.specs.Prelude.{ℕ, ◌≡◌, ◌<◌, ◌≤◌, ◌↔◌, List, [], ◌∷◌, ◌++◌, ◌+◌, ◌==◌, not, true, false, if◌then◌else◌, Option, Some, None, Result, Ok, Err, IfOk, IsErrOf, OnOk, drop, length, map, min, take}
 use Rattle.block_disk.specs.Device.{HasFailed}
 use Rattle.deferred_disk.specs.Deferred.{stop_of}
 use Rattle.deferred_disk.specs.Host.{Fetches, HasLooked, HaveMet, Host}
@@ -63,25 +63,30 @@ row_of f = record { guard = record { 0 = f.guard }; owner = record { 0 = f.owner
 abbrev pub rows_of : List Field → List GuardRow
 rows_of fields = map row_of fields
 
+-- how many threads C has, as the heap counts them: more than 255 count as 255
+abbrev pub wanted_of : (threads : ℕ) → ℕ
+wanted_of threads = min threads 255
+
 -- Why no heap is made: lanes that a byte can't count, before all else; want of memory; or the reason of the heap itself.
 pub data RefusesFormat (objects : ℕ) (fields : List Field) (lanes capacity status : ℕ) : Type 0 where
   PastLanes : 255 < lanes → status ≡ BAD_HEADER → RefusesFormat objects fields lanes capacity status
   NoRoom : lanes ≤ 255 → status ≡ NO_MEMORY → RefusesFormat objects fields lanes capacity status
   NotMade : (e : HostError) → lanes ≤ 255 → RefusesMaking objects (rows_of fields) lanes capacity e → status ≡ host_status e → RefusesFormat objects fields lanes capacity status
 
--- `zelamiku_format`, where nothing was behind the handle: a heap of these objects and fields, with rings of this room, and the size of its image;
--- or none, of size 0
-pub data FormatsAt (ring objects : ℕ) (fields : List Field) (lanes capacity size : ℕ) (after : Held) (status : ℕ) : Type 0 where
-  IsFormatted : (x : Hosting) → IsMade objects (rows_of fields) lanes capacity x → HasRings ring x → size ≡ size_of x.helper.store.known.layout → after ≡ heap_behind x → status ≡ OK
-      → FormatsAt ring objects fields lanes capacity size after status
-  NotFormatted : RefusesFormat objects fields lanes capacity status → size ≡ 0 → after ≡ nothing_behind → FormatsAt ring objects fields lanes capacity size after status
+-- `zelamiku_format`, where nothing was behind the handle: a heap of these objects and fields, for so many threads, with rings of this room, and
+-- the size of its image; or none, of size 0
+pub data FormatsAt (threads ring objects : ℕ) (fields : List Field) (lanes capacity size : ℕ) (after : Held) (status : ℕ) : Type 0 where
+  IsFormatted : (x : Hosting) → IsMade objects (rows_of fields) lanes capacity (wanted_of threads) x → HasRings ring x → size ≡ size_of x.helper.store.known.layout → after ≡ heap_behind x → status ≡ OK
+      → FormatsAt threads ring objects fields lanes capacity size after status
+  NotFormatted : RefusesFormat objects fields lanes capacity status → size ≡ 0 → after ≡ nothing_behind → FormatsAt threads ring objects fields lanes capacity size after status
 
--- what C is told of a heap with this layout, and of what recovery reports
-abbrev pub found_of : Layout → Report → Found
-found_of l report = record { size = size_of l; objects = l.objects; fields = l.fields; lanes = l.lanes; capacity = l.capacity; dropped = length report.dropped.items; undone = report.undone }
+-- what C is told of a heap with this layout, of how many of its lanes threads have, and of what recovery reports
+abbrev pub found_of : Layout → (threads : ℕ) → Report → Found
+found_of l threads report =
+    record { size = size_of l; objects = l.objects; fields = l.fields; lanes = l.lanes; capacity = l.capacity; threads = threads; dropped = length report.dropped.items; undone = report.undone }
 
 abbrev pub nothing_found : Found
-nothing_found = record { size = 0; objects = 0; fields = 0; lanes = 0; capacity = 0; dropped = 0; undone = 0 }
+nothing_found = record { size = 0; objects = 0; fields = 0; lanes = 0; capacity = 0; threads = 0; dropped = 0; undone = 0 }
 
 -- the session of the next lane, which was told nothing, is joined to the helper and comes back where it is awaited, and the heap that handed
 -- it out
@@ -186,13 +191,13 @@ pub record HasAcknowledged (x y : Hosting) (lane : ℕ) (answer : Result ℕ Ack
   pub kept : OnOk answer (KeepsFrom x y)
   -- What is acknowledged is told only where each call was made.
   pub all_made : OnOk answer (AreAllMade y.calls)
-  -- `BAD_LANE` is answered exactly for a lane that the heap hasn't.
-  pub bad_lane : (answer ≡ Err BadLane) ↔ (x.helper.store.known.layout.lanes ≤ lane)
-  -- `CALLS_LEFT` is answered exactly where the heap has the lane and a call is left.
-  pub calls_left : IsErrOf answer CallsLeft ↔ (lane < x.helper.store.known.layout.lanes) × (¬ AreAllMade y.calls)
-  pub fetches : lane < x.helper.store.known.layout.lanes → FetchesAll x.calls y.calls
-  pub met : lane < x.helper.store.known.layout.lanes → HaveMet y.helper.store.disk y.calls
-  pub untouched : x.helper.store.known.layout.lanes ≤ lane → y ≡ x
+  -- `BAD_LANE` is answered exactly for a lane that no thread has: past the last one, or the helper's.
+  pub bad_lane : (answer ≡ Err BadLane) ↔ (x.helper.store.known.threads ≤ lane)
+  -- `CALLS_LEFT` is answered exactly where a thread has the lane and a call is left.
+  pub calls_left : IsErrOf answer CallsLeft ↔ (lane < x.helper.store.known.threads) × (¬ AreAllMade y.calls)
+  pub fetches : lane < x.helper.store.known.threads → FetchesAll x.calls y.calls
+  pub met : lane < x.helper.store.known.threads → HaveMet y.helper.store.disk y.calls
+  pub untouched : x.helper.store.known.threads ≤ lane → y ≡ x
   pub heap : SameButMet x y
 
 -- `zelamiku_acknowledged`

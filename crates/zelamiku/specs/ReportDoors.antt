@@ -15,7 +15,7 @@ use Rattle.recover.specs.declared.report.Why.{Why}
 use Rattle.recover.specs.declared.report.Why.TheVariants.{Unfinished, After, Unsettled}
 use Rattle.recover.specs.declared.versions.Versions.{Versions}
 use Rattle.zelamiku.specs.Behind.{heap_behind, nothing_behind}
-use Rattle.zelamiku.specs.HeapDoors.{found_of, nothing_found}
+use Rattle.zelamiku.specs.HeapDoors.{found_of, nothing_found, wanted_of}
 use Rattle.zelamiku.specs.HeapStatuses.{host_status}
 use Rattle.zelamiku.specs.Own.{Held}
 use Rattle.zelamiku.specs.declared.report_calls.TheConstants.{UNFINISHED, AFTER, UNSETTLED}
@@ -28,9 +28,9 @@ use Rattle.zelamiku.specs.declared.words.Told.{Told}
 abbrev pub nothing_told : Told
 nothing_told = record { found = nothing_found; kept = replicate LANES 0; place = 0; lane = NOBODY }
 
--- of a heap with this layout, of which recovery reports this
-abbrev pub told_of : Layout → Report → Told
-told_of l report = record { found = found_of l report; kept = report.kept.counts; place = 0; lane = NOBODY }
+-- of a heap with this layout, of whose lanes threads have so many, and of which recovery reports this
+abbrev pub told_of : Layout → (threads : ℕ) → Report → Told
+told_of l threads report = record { found = found_of l threads report; kept = report.kept.counts; place = 0; lane = NOBODY }
 
 -- the record for which it was refused
 abbrev pub blamed : (lane place : ℕ) → Told
@@ -62,10 +62,10 @@ pub record TellsNothing (told : Told) (dropped : List Dropped) : Type 0 where
   pub told_is : told ≡ nothing_told
   pub none : TellsEach [] dropped
 
--- `zelamiku_open` of the current version, and `zelamiku_upgrade` of both, with rings of this room, where nothing was behind the handle: the heap that
--- recovery finds in these bytes, and what it reports; or none, and why
-pub data OpensAt (ring : ℕ) (versions : Versions) (bytes : List ℕ) (told : Told) (dropped : List Dropped) (after : Held) (status : ℕ) : Type 0 where
-  IsOpen : (x : Hosting) (report : Report) → IsFound versions bytes x report → HasRings ring x → told ≡ told_of x.helper.store.known.layout report → TellsEach report.dropped.items dropped
-      → after ≡ heap_behind x → status ≡ OK → OpensAt ring versions bytes told dropped after status
+-- `zelamiku_open` of the current version, and `zelamiku_upgrade` of both, for so many threads, with rings of this room, where nothing was behind
+-- the handle: the heap that recovery finds in these bytes, and what it reports; or none, and why
+pub data OpensAt (threads ring : ℕ) (versions : Versions) (bytes : List ℕ) (told : Told) (dropped : List Dropped) (after : Held) (status : ℕ) : Type 0 where
+  IsOpen : (x : Hosting) (report : Report) → IsFound versions (wanted_of threads) bytes x report → HasRings ring x → told ≡ told_of x.helper.store.known.layout x.helper.store.known.threads report → TellsEach report.dropped.items dropped
+      → after ≡ heap_behind x → status ≡ OK → OpensAt threads ring versions bytes told dropped after status
   NotOpen : (why : HostError) → RefusesOpening versions bytes why → told ≡ told_of_refusal why → TellsEach [] dropped → after ≡ nothing_behind → status ≡ host_status why
-      → OpensAt ring versions bytes told dropped after status
+      → OpensAt threads ring versions bytes told dropped after status

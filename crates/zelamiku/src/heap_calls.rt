@@ -1,9 +1,9 @@
 //! The calls of a heap, on the heap of a handle.
 ghost use Rattle.std.specs.Prelude.{◌≡◌, ◌≢◌, Some, None, IfErr, IfOk, if◌then◌else◌};
 ghost use Rattle.std.specs.Option.{option_copied};
-ghost use Rattle.hosted_heap.specs.Opening.{HasRings, IsMade};
+ghost use Rattle.hosted_heap.specs.Opening.{HasRings, IsFound, IsMade, RefusesOpening};
 ghost use Rattle.zelamiku.specs.Behind.{Answers, behind, heap_behind, session_behind};
-ghost use Rattle.zelamiku.specs.HeapDoors.{AcknowledgesAt, ClosesAt, HandsOne, HandsOutAt, HasAcknowledged, MakesCallAt, RefusesFormat, RoundsAt, TellsNextAt, filled_of, found_of, nothing_found, rows_of, told_of};
+ghost use Rattle.zelamiku.specs.HeapDoors.{AcknowledgesAt, ClosesAt, HandsOne, HandsOutAt, HasAcknowledged, MakesCallAt, RefusesFormat, RoundsAt, TellsNextAt, filled_of, found_of, nothing_found, rows_of, told_of, wanted_of};
 ghost use Rattle.zelamiku.specs.HeapDoors as doors;
 ghost use Rattle.zelamiku.specs.declared.status.TheConstants.{NONE_LEFT, OK};
 
@@ -13,26 +13,27 @@ use crate::status;
 use crate::words::{Call, Field, Found};
 use deferred_disk::{DeviceCall, HostCalls};
 use heap_model::{Lane, ObjectId};
-use hosted_heap::{AcknowledgedError, HostedHeap, HostedSession, NotClosed};
+use hosted_heap::{AcknowledgedError, HostError, HostedHeap, HostedSession, NotClosed};
 use hosted_life::host_law;
 use image::GuardRow;
 use lane_rings::RingRecords;
-use recover::Report;
+use recover::{Report, Versions};
 use std::alloc::{AllocError, Global};
 
 /// No bound on the records of a round.
 pub const ALL: u64 = u64::MAX;
 
-/// A heap of these objects and fields, with rings of this room.
+/// A heap of these objects and fields, for so many threads of C's, with rings of this room.
 pub fn format(
     alloc: Global,
     objects: u32,
     fields: &[Field],
     lanes: u32,
     capacity: u32,
+    threads: u32,
     ring: RingRecords,
 ) -> Result<HostedHeap, u32>
-    ensures ok { IfOk result (IsMade objects (rows_of fields.now) lanes capacity) }
+    ensures ok { IfOk result (IsMade objects (rows_of fields.now) lanes capacity (wanted_of threads)) }
     ensures rings { IfOk result (HasRings ring) }
     ensures refused { IfErr result (RefusesFormat objects fields.now lanes capacity) }
 {
@@ -42,10 +43,40 @@ pub fn format(
     let Ok(rows) = rows_of(alloc, fields) else {
         return Err(status::NO_MEMORY);
     };
-    match hosted_heap::format_with(alloc, objects, &rows, lanes, capacity, ring) {
+    match hosted_heap::format_with(
+        alloc,
+        objects,
+        &rows,
+        lanes,
+        capacity,
+        wanted_of(threads),
+        ring,
+    ) {
         Ok(heap) => Ok(heap),
         Err(refusal) => Err(status::of_host(refusal)),
     }
+}
+
+/// The heap that recovery finds in these bytes, for so many threads of C's, with rings of this room; and what it reports.
+pub fn open(
+    alloc: Global,
+    image: &[u8],
+    versions: Versions,
+    threads: u32,
+    ring: RingRecords,
+) -> Result<(HostedHeap, Report), HostError>
+    ensures ok { IfOk result (λ found. IsFound versions (wanted_of threads) image.now found.0 found.1) }
+    ensures rings { IfOk result (λ found. HasRings ring found.0) }
+    ensures refused { IfErr result (RefusesOpening versions image.now) }
+{
+    hosted_heap::open_with(alloc, image, versions, wanted_of(threads), ring)
+}
+
+// How many threads C has, as the heap counts them.
+fn wanted_of(threads: u32) -> u8
+    ensures { result ≡ doors.wanted_of threads }
+{
+    threads.min(255) as u8
 }
 
 fn rows_of(alloc: Global, fields: &[Field]) -> Result<Vec<GuardRow>, AllocError>
@@ -71,7 +102,7 @@ fn row_of(field: Field) -> GuardRow
 
 /// What C is told of a heap of which recovery reports this.
 pub(crate) fn found_in(heap: &HostedHeap, report: &Report) -> Found
-    ensures { result ≡ found_of heap.now.helper.store.known.layout report.now }
+    ensures { result ≡ found_of heap.now.helper.store.known.layout heap.now.helper.store.known.threads report.now }
 {
     let layout = heap.layout();
     Found {
@@ -80,6 +111,7 @@ pub(crate) fn found_in(heap: &HostedHeap, report: &Report) -> Found
         fields: layout.fields,
         lanes: u32::from(layout.lanes),
         capacity: layout.capacity,
+        threads: u32::from(heap.threads()),
         dropped: report.dropped.len() as u64,
         undone: u64::from(report.undone),
     }
@@ -244,7 +276,7 @@ pub fn acknowledged(state: &mut Inner, lane: u32) -> (u64, u32)
 fn acknowledged_of(heap: &mut HostedHeap, lane: u32) -> Result<u64, AcknowledgedError>
     ensures { HasAcknowledged heap.old heap.new lane result }
 {
-    if lane >= u32::from(heap.layout().lanes) {
+    if lane >= u32::from(heap.threads()) {
         return Err(AcknowledgedError::BadLane);
     }
     host_law();
@@ -290,6 +322,7 @@ pub fn nothing_found() -> Found
         fields: 0,
         lanes: 0,
         capacity: 0,
+        threads: 0,
         dropped: 0,
         undone: 0,
     }

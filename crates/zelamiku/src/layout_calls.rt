@@ -1,23 +1,31 @@
 //! What an open heap has, on what is behind a handle.
-ghost use Rattle.std.specs.Prelude.{◌≡◌, ◌≢◌, ◌≤◌, ◌+◌, Some, length};
-ghost use Rattle.std.specs.Int.{from_be_bytes, w16};
+ghost use Rattle.std.specs.Prelude.{◌≡◌, ◌≢◌, Some};
 ghost use Rattle.block_disk.specs.Bytes.{part};
 ghost use Rattle.hosted_life.specs.Copies.{copy_of};
-ghost use Rattle.image.specs.Guards.{FitsGuard, SpellsGuard, guard_bytes};
+ghost use Rattle.image.specs.Guards.{FitsGuard, SpellsGuard, guard_bytes, mark_of};
 ghost use Rattle.image.specs.declared.guard_row.GuardRow.{GuardRow as Row};
 ghost use Rattle.zelamiku.specs.Behind.{Answers, behind};
 ghost use Rattle.zelamiku.specs.HeadDoors.{no_head};
 ghost use Rattle.zelamiku.specs.HeadDoors as heads;
+ghost use Rattle.zelamiku.specs.LayoutDoors as layouts;
 ghost use Rattle.zelamiku.specs.LayoutDoors.{TellsField, TellsFields, TellsLayoutAt, field_of};
 ghost use Rattle.zelamiku.specs.declared.status.TheConstants.{OK};
 
-use crate::head_calls::{nothing, u32_at, u64_at};
+use crate::head_calls::nothing;
 use crate::state::{Inner, Open};
 use crate::status;
 use crate::words::{Field, Head};
 use heap_model::FieldId;
 use hosted_heap::HostedHeap;
-use image::Layout;
+use image::{GuardRow, Layout, decode_guard};
+
+// What is told where there is no field.
+const NO_FIELD: Field = Field {
+    owner: 0,
+    guard: 0,
+    first: 0,
+    transient: 0,
+};
 
 /// Tells a heap's layout, and its fields, as many as there is room for; and the status.
 pub fn tell(state: &Inner, fields: &mut [Field]) -> (Head, u32)
@@ -71,12 +79,7 @@ fn told_at(heap: &HostedHeap, layout: Layout, field: usize) -> Field
     ensures { TellsField (copy_of heap.now.helper.store.disk) layout.fields field result }
 {
     if field >= layout.fields as usize {
-        return Field {
-            owner: 0,
-            guard: 0,
-            first: 0,
-            transient: 0,
-        };
+        return NO_FIELD;
     }
     field_at(heap, layout.guard_row(FieldId(field as u32)))
 }
@@ -93,19 +96,26 @@ fn field_at(heap: &HostedHeap, at: u64) -> Field
 fn field_in(row: &[u8; 16]) -> Field
     ensures { (r : Row) → FitsGuard r → row.now ≡ guard_bytes r → result ≡ field_of r }
 {
-    Field {
-        owner: u32::from(u16_at(row, 6)),
-        guard: u32_at(row, 0),
-        first: u64_at(row, 8),
-        transient: u32::from(row[4]),
+    match decode_guard(row) {
+        Some(found) => field_of(found),
+        None => NO_FIELD,
     }
 }
 
-// The number in the two bytes from `at` on, the highest first.
-fn u16_at(bytes: &[u8], at: usize) -> u16
-    requires { at + 2 ≤ length bytes.now }
-    ensures { result ≡ from_be_bytes w16 (part at 2 bytes.now) }
+fn field_of(found: GuardRow) -> Field
+    ensures { result ≡ layouts.field_of found }
 {
-    let two = &bytes[at..at + 2];
-    u16::from_be_bytes([two[0], two[1]])
+    Field {
+        owner: found.owner.0,
+        guard: found.guard.0,
+        first: found.first,
+        transient: mark(found.transient),
+    }
+}
+
+// 1 of a field that is transient, else 0.
+fn mark(is_transient: bool) -> u32
+    ensures { result ≡ mark_of is_transient }
+{
+    if is_transient { 1 } else { 0 }
 }

@@ -24,18 +24,22 @@ pub extern "C" fn zelamiku_format(
     fields: &[Field],
     lanes: u32,
     capacity: u32,
+    threads: u32,
     ring: u32,
     size: &mut u64,
 ) -> u32
     // A heap is made of exactly the objects and fields that C declares, each with its owner, its guard and its first
-    // value, and the image's size is told. Each lane's ring has just the room that C asks for. More than 255 lanes are
-    // refused before all else but `RING` and `OPEN`. A handle with something behind it is answered `OPEN` and keeps it.
-    // Where no heap is made the size is 0.
-    ensures { PutsHeap ring (FormatsAt ring objects fields.now lanes capacity size.new) (size.new ≡ 0) place.old.handle.state place.new.handle.state result }
+    // value, and the image's size is told. Where there are more lanes than C has threads, and at least two, the last one
+    // is the helper's. Each lane's ring has just the room that C asks for. More than 255 lanes are refused before all else
+    // but `RING` and `OPEN`. A handle with something behind it is answered `OPEN` and keeps it. Where no heap is made the
+    // size is 0.
+    ensures { PutsHeap ring (FormatsAt threads ring objects fields.now lanes capacity size.new) (size.new ≡ 0) place.old.handle.state place.new.handle.state result }
 {
     *size = 0;
     match ring_of(ring) {
-        Some(room) => format_at(alloc, place, objects, fields, lanes, capacity, room, size),
+        Some(room) => format_at(
+            alloc, place, objects, fields, lanes, capacity, threads, room, size,
+        ),
         None => status::RING,
     }
 }
@@ -48,16 +52,17 @@ fn format_at(
     fields: &[Field],
     lanes: u32,
     capacity: u32,
+    threads: u32,
     ring: RingRecords,
     size: &mut u64,
 ) -> u32
-    ensures { PutsNew (FormatsAt ring objects fields.now lanes capacity size.new) (size.new ≡ 0) (still_behind place.old.handle.state) place.new.handle.state result }
+    ensures { PutsNew (FormatsAt threads ring objects fields.now lanes capacity size.new) (size.new ≡ 0) (still_behind place.old.handle.state) place.new.handle.state result }
 {
     *size = 0;
     if is_taken(alloc, place) {
         return status::OPEN;
     }
-    match heap_calls::format(alloc, objects, fields, lanes, capacity, ring) {
+    match heap_calls::format(alloc, objects, fields, lanes, capacity, threads, ring) {
         Ok(heap) => {
             let bytes = heap.size();
             let Ok(()) = put_new(alloc, place, Open::Heap(heap)) else {
@@ -76,18 +81,29 @@ pub extern "C" fn zelamiku_open(
     alloc: Global,
     place: &mut Slot,
     image: &[u8],
+    threads: u32,
     ring: u32,
     told: &mut Told,
     dropped: &mut [Dropped],
 ) -> u32
     // A heap is opened with what recovery finds in the bytes, and each lane's ring has just the room that C asks for.
-    // Its layout is told, how many sections of each lane were kept and how many fields took an old value back, and each
-    // dropped section with its number and why, as far as there is room. Of a refusal for a record its lane and place are
-    // told. A handle with something behind it is answered `OPEN` and keeps it. Where no heap is opened nothing else is
-    // told.
-    ensures { PutsHeap ring (OpensAt ring Current image.now told.new dropped.new) (TellsNothing told.new dropped.new) place.old.handle.state place.new.handle.state result }
+    // Where the image has more lanes than C has threads, and at least two, the last one is the helper's. Its layout is
+    // told, how many lanes threads have, how many sections of each lane were kept and how many fields took an old value
+    // back, and each dropped section with its number and why, as far as there is room. Of a refusal for a record its lane
+    // and place are told. A handle with something behind it is answered `OPEN` and keeps it. Where no heap is opened
+    // nothing else is told.
+    ensures { PutsHeap ring (OpensAt threads ring Current image.now told.new dropped.new) (TellsNothing told.new dropped.new) place.old.handle.state place.new.handle.state result }
 {
-    open_ringed(alloc, place, Versions::Current, image, ring, told, dropped)
+    open_ringed(
+        alloc,
+        place,
+        Versions::Current,
+        image,
+        threads,
+        ring,
+        told,
+        dropped,
+    )
 }
 
 /// Upgrades a heap and opens it, and tells the same.
@@ -96,14 +112,24 @@ pub extern "C" fn zelamiku_upgrade(
     alloc: Global,
     place: &mut Slot,
     image: &[u8],
+    threads: u32,
     ring: u32,
     told: &mut Told,
     dropped: &mut [Dropped],
 ) -> u32
     // An upgrade opens a heap as an opening does, from an image of either version.
-    ensures { PutsHeap ring (OpensAt ring Both image.now told.new dropped.new) (TellsNothing told.new dropped.new) place.old.handle.state place.new.handle.state result }
+    ensures { PutsHeap ring (OpensAt threads ring Both image.now told.new dropped.new) (TellsNothing told.new dropped.new) place.old.handle.state place.new.handle.state result }
 {
-    open_ringed(alloc, place, Versions::Both, image, ring, told, dropped)
+    open_ringed(
+        alloc,
+        place,
+        Versions::Both,
+        image,
+        threads,
+        ring,
+        told,
+        dropped,
+    )
 }
 
 // Recovers a heap of one of these versions and opens it, with rings of so many records, if they can have them.
@@ -112,14 +138,15 @@ fn open_ringed(
     place: &mut Slot,
     versions: Versions,
     image: &[u8],
+    threads: u32,
     ring: u32,
     told: &mut Told,
     dropped: &mut [Dropped],
 ) -> u32
-    ensures { PutsHeap ring (OpensAt ring versions image.now told.new dropped.new) (TellsNothing told.new dropped.new) place.old.handle.state place.new.handle.state result }
+    ensures { PutsHeap ring (OpensAt threads ring versions image.now told.new dropped.new) (TellsNothing told.new dropped.new) place.old.handle.state place.new.handle.state result }
 {
     match ring_of(ring) {
-        Some(room) => open_at(alloc, place, versions, image, room, told, dropped),
+        Some(room) => open_at(alloc, place, versions, image, threads, room, told, dropped),
         None => {
             *told = report_calls::nothing();
             report_calls::tell_dropped(&[], dropped);
@@ -134,18 +161,19 @@ fn open_at(
     place: &mut Slot,
     versions: Versions,
     image: &[u8],
+    threads: u32,
     ring: RingRecords,
     told: &mut Told,
     dropped: &mut [Dropped],
 ) -> u32
-    ensures { PutsNew (OpensAt ring versions image.now told.new dropped.new) (TellsNothing told.new dropped.new) (still_behind place.old.handle.state) place.new.handle.state result }
+    ensures { PutsNew (OpensAt threads ring versions image.now told.new dropped.new) (TellsNothing told.new dropped.new) (still_behind place.old.handle.state) place.new.handle.state result }
 {
     *told = report_calls::nothing();
     report_calls::tell_dropped(&[], dropped);
     if is_taken(alloc, place) {
         return status::OPEN;
     }
-    match hosted_heap::open_with(alloc, image, versions, ring) {
+    match heap_calls::open(alloc, image, versions, threads, ring) {
         Ok((heap, report)) => {
             let found = report_calls::of_heap(&heap, &report);
             let Ok(()) = put_new(alloc, place, Open::Heap(heap)) else {

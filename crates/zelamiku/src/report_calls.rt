@@ -40,7 +40,7 @@ fn blamed(lane: u32, place: u64) -> Told
 
 /// What is told of a heap that was opened.
 pub fn of_heap(heap: &HostedHeap, report: &Report) -> Told
-    ensures { result ≡ told_of heap.now.helper.store.known.layout report.now }
+    ensures { result ≡ told_of heap.now.helper.store.known.layout heap.now.helper.store.known.threads report.now }
 {
     Told {
         found: heap_calls::found_in(heap, report),

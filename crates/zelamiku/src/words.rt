@@ -23,6 +23,8 @@ pub struct Found {
     pub lanes: u32,
     /// The records that a lane's area holds.
     pub capacity: u32,
+    /// How many of its lanes threads have: all of them, or all but the last one, which is the helper's then.
+    pub threads: u32,
     /// The sections that recovery dropped: none of them was acknowledged.
     pub dropped: u64,
     /// The fields that took an old value back.

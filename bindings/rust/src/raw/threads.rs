@@ -93,6 +93,8 @@ pub struct Stats {
     pub troubles: u64,
     pub calls_time: u64,
     pub longest_round: u64,
+    pub two_sync_rounds: u64,
+    pub four_sync_rounds: u64,
     pub lent: u32,
     pub awaiting: u32,
     pub entering: u32,
@@ -113,8 +115,8 @@ pub struct Wait {
 
 // The library was built for these sizes, and zelamiku.h has them.
 const _: () = assert!(size_of::<HeapNumber>() == 8 && size_of::<ThreadNumber>() == 8);
-const _: () = assert!(size_of::<RawPlan>() == 72 && size_of::<Report>() == 344);
-const _: () = assert!(size_of::<Stats>() == 88 && size_of::<Wait>() == 16);
+const _: () = assert!(size_of::<RawPlan>() == 72 && size_of::<Report>() == 352);
+const _: () = assert!(size_of::<Stats>() == 104 && size_of::<Wait>() == 16);
 
 // What a section's end asks of its heap, and what the thread that has a lane keeps of it: zelamiku_inline.h has them.
 #[repr(C)]
@@ -148,7 +150,7 @@ const _: () = assert!(offset_of!(Own, last_stored) == 64 && offset_of!(Own, is_p
 
 extern "C" {
     // The number is that of the layout of `Own` and `Signals`: a library of another one doesn't link.
-    #[link_name = "zelamiku_seats_3"]
+    #[link_name = "zelamiku_seats_4"]
     static mut zelamiku_seats: [u8; 0];
     fn zelamiku_thread_exited(thread: ThreadNumber, object: u32) -> u32;
     fn zelamiku_heap_message() -> *const c_char;

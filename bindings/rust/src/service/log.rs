@@ -87,6 +87,11 @@ pub struct Stats {
     pub calls_time: Duration,
     /// The longest round, from its first record to its last call.
     pub longest_round: Duration,
+    /// Rounds whose calls, which are all made, had two syncs.
+    pub two_sync_rounds: u64,
+    /// And four: the heap has no lane for its helper ([`Options::lanes`](super::Options::lanes)), or what the round has changed has no room
+    /// in it.
+    pub four_sync_rounds: u64,
     /// Sessions in use.
     pub sessions: u32,
     /// Sessions that sleep until their sections are durable, or until there is room.
@@ -111,6 +116,8 @@ impl From<threads::Stats> for Stats {
             troubles: told.troubles,
             calls_time: Duration::from_nanos(told.calls_time),
             longest_round: Duration::from_nanos(told.longest_round),
+            two_sync_rounds: told.two_sync_rounds,
+            four_sync_rounds: told.four_sync_rounds,
             sessions: told.lent,
             awaiting: told.awaiting,
             entering: told.entering,

@@ -102,6 +102,10 @@ impl Options {
     /// 40 of memory ([`capacity`](Options::capacity)), and its [`ring`](Options::ring). A heap that is there keeps its own lanes, and is
     /// refused where it has fewer.
     ///
+    /// A heap that is made has one lane more, for its helper, so that a round takes two syncs. With 32 sessions it has none, and a round takes
+    /// four. A heap that is there may have more lanes than are asked for: the last one is the helper's then. Where it has just as many they
+    /// are the sessions', and a round takes four syncs.
+    ///
     /// ```
     /// let options = zelamiku::service::Heap::options().lanes(32);
     /// ```
@@ -521,7 +525,7 @@ impl Heap {
         Session::begin(Arc::clone(&self.opening))
     }
 
-    /// How many lanes the heap has.
+    /// How many lanes the heap has for sessions: so many may be in use at once. The helper's isn't counted.
     ///
     /// ```
     /// # use zelamiku::service::Heap;

@@ -8,7 +8,7 @@ use Rattle.trim_helper.specs.Opening.{FitsSchema}
 use Rattle.drive.specs.Refusals.{IsOwnStop, RefusesNew}
 use Rattle.drive.specs.Schemas.{IsOfWorkers, schema_of}
 use Rattle.drive.specs.Stops.{StopsRun}
-use Rattle.drive.proofs.Refused.{made_from, made_new}
+use Rattle.drive.proofs.Refused.{just, made_from, made_new}
 use Rattle.drive.proofs.devices.drive_new.Goals as goal
 
 pub drive_made-requires-clause-theirs : goal.drive_made-requires-clause-theirs
@@ -16,7 +16,7 @@ drive_made-requires-clause-theirs g c κs within =
     let made = c.in-Ok-make_heap.made in
     let is : c.in-Ok.schema ≡ schema_of c.args.workers = c.in-Ok.ensures.ok in
     record {
-      lanes_are = ap (λ (l : Layout). l.lanes) c.in-Ok-make_heap.ensures.made.layout;
+      lanes = just c.args.workers made.layout.lanes (ap (λ (l : Layout). l.lanes) c.in-Ok-make_heap.ensures.made.layout) c.in-Ok-make_heap.ensures.limits.lanes_some;
       fits = subst (λ (s : Declarations). FitsSchema s made.layout made.guards) is c.in-Ok-make_heap.ensures.fits;
     }
 
@@ -27,7 +27,7 @@ returns-in-Ok-make_heap-clause-ok g c =
     let workers = c.args.workers in
     let is : c.in-Ok.schema ≡ schema_of workers = c.in-Ok.ensures.ok in
     let theirs : IsOfWorkers workers made.layout made.guards = record {
-      lanes_are = ap (λ (l : Layout). l.lanes) c.in-Ok-make_heap.ensures.made.layout;
+      lanes = just c.args.workers made.layout.lanes (ap (λ (l : Layout). l.lanes) c.in-Ok-make_heap.ensures.made.layout) c.in-Ok-make_heap.ensures.limits.lanes_some;
       fits = subst (λ (s : Declarations). FitsSchema s made.layout made.guards) is c.in-Ok-make_heap.ensures.fits;
     } in
     IfOk-weaker c.drive_made.result _ _
@@ -45,10 +45,10 @@ returns-in-Ok-make_heap-clause-refused g c =
     let workers = c.args.workers in
     let is : c.in-Ok.schema ≡ schema_of workers = c.in-Ok.ensures.ok in
     let theirs : IsOfWorkers workers made.layout made.guards = record {
-      lanes_are = ap (λ (l : Layout). l.lanes) c.in-Ok-make_heap.ensures.made.layout;
+      lanes = just c.args.workers made.layout.lanes (ap (λ (l : Layout). l.lanes) c.in-Ok-make_heap.ensures.made.layout) c.in-Ok-make_heap.ensures.limits.lanes_some;
       fits = subst (λ (s : Declarations). FitsSchema s made.layout made.guards) is c.in-Ok-make_heap.ensures.fits;
     } in
-    weaker_both c.drive_made.result (λ back. StopsRun device (schema_of workers) made (device back.0) back.1) (λ back. IsOwnStop back.1) (λ back. RefusesNew device workers old (device back.0) back.1)
+    weaker_both c.drive_made.result (λ back. StopsRun device (schema_of workers) workers made (device back.0) back.1) (λ back. IsOwnStop back.1) (λ back. RefusesNew device workers old (device back.0) back.1)
     (λ back stops own. made_new device workers old made (device back.0) back.1 c.in-Ok-make_heap.ensures.limits
     (made_from device workers c.in-Ok.schema old made is c.in-Ok-make_heap.ensures.made) theirs c.in-Ok-make_heap.ensures.failures stops own)
     c.drive_made.ensures.cause c.drive_made.ensures.own

@@ -35,7 +35,7 @@ returns-in-Ok-find_heap-clause-refused g c =
     let old = device c.args.disk in
     let found = subst (λ (s : Declarations). HasFound device s workers old r.report r.found) c.in-Ok.ensures.ok r.ensures.found in
     let holds : HoldsWorkers workers old.now.bytes = subst (λ (s : Declarations). Holds s workers old.now.bytes) c.in-Ok.ensures.ok r.ensures.theirs in
-    weaker_both c.drive_made.result (λ back. StopsRun device (schema_of workers) r.found (device back.0) back.1) (λ back. IsOwnStop back.1) (λ back. RefusesOn device workers old (device back.0) back.1)
+    weaker_both c.drive_made.result (λ back. StopsRun device (schema_of workers) workers r.found (device back.0) back.1) (λ back. IsOwnStop back.1) (λ back. RefusesOn device workers old (device back.0) back.1)
     (λ back stops own. stopped_on device workers old r.found r.report (device back.0) back.1 holds found stops own)
     c.drive_made.ensures.cause c.drive_made.ensures.own
 

@@ -22,7 +22,7 @@ returns-in-Err-run_on-clause-refused g c = record {
 }
 
 pub returns-in-Err-clause-refused : goal.returns-in-Err-clause-refused
-returns-in-Err-clause-refused g c = no_run (g.W.Work.does c.args.work.now) g.D.Disk.device c.args.schema c.args.lanes _ _ c.in-Err.fault c.in-Err.ensures.refused
+returns-in-Err-clause-refused g c = no_run (g.W.Work.does c.args.work.now) g.D.Disk.device c.args.schema c.args.threads _ _ c.in-Err.fault c.in-Err.ensures.refused
 
 pub returns-in-Ok-run_on-clause-beside : goal.returns-in-Ok-run_on-clause-beside
 returns-in-Ok-run_on-clause-beside g c = keeps_before c.disk_at.ensures.beside c.give_back.ensures.beside

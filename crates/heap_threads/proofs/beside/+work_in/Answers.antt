@@ -1,6 +1,7 @@
-use Rattle.std.proofs.Common.{Some, subst, sym}
+use Rattle.std.proofs.Common.{Some, subst, sym, ◌∙◌}
+use Rattle.std.proofs.lemmas.List.{nil_from_length}
 use Rattle.std.proofs.lemmas.List.Elements.{All-pop}
-use Rattle.heap_threads.proofs.Joining.{have_one}
+use Rattle.heap_threads.proofs.Joining.{have_nobody, have_one}
 use Rattle.session.specs.declared.session.Session.{Session}
 use Rattle.heap_threads.specs.Beside.{HasServed}
 use Rattle.heap_threads.specs.Bodies.{HasWorked, IsFirst}
@@ -17,6 +18,11 @@ work_in-requires-clause-helping g t c κs within = c.requires.helping
 
 pub work_in-requires-clause-running : goal.work_in-requires-clause-running
 work_in-requires-clause-running g t c κs within = c.requires.running
+
+pub returns-in_default-clause-beside : goal.returns-in_default-clause-beside
+returns-in_default-clause-beside g t c =
+    have_nobody (g.W.Work.does c.args.work.now) c.args.shared.now g.D.Disk.device c.args.sessions.items c.args.helper c.serve_begun.result
+    (nil_from_length c.args.sessions.items (sym c.args.sessions.ok.0 ∙ c.in_default.ensures.cases.0)) c.serve_begun.ensures.served c.serve_begun.ensures.nobody
 
 pub returns-in-Ok-work_in-clause-beside : goal.returns-in-Ok-work_in-clause-beside
 returns-in-Ok-work_in-clause-beside g t c =

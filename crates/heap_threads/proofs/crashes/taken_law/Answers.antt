@@ -5,7 +5,7 @@ pub returns-clause-recovered : goal.returns-clause-recovered
 returns-clause-recovered c = recovered_taken c.has_study_law.ensures
 
 pub returns-clause-run : goal.returns-clause-run
-returns-clause-run c = run_taken c.has_study_law.ensures
+returns-clause-run c = run_taken c.two_syncs_law.ensures
 
 pub returns-clause-recovery : goal.returns-clause-recovery
 returns-clause-recovery c = recovery_taken c.one_study_law.ensures c.studied_law.ensures

@@ -5,7 +5,7 @@ use Rattle.heap_threads.proofs.devices.find.Goals as goal
 pub returns-in-Ok-clause-theirs : goal.returns-in-Ok-clause-theirs
 returns-in-Ok-clause-theirs g c =
     let r = c.in-Ok.found in
-    found_theirs (g.D.Disk.device c.args.disk) (g.D.Disk.device r.0.disk) r.0 r.1 c.args.schema.now c.args.lanes c.one_study_law.ensures c.requires c.in-Ok.ensures.ok
+    found_theirs (g.D.Disk.device c.args.disk) (g.D.Disk.device r.0.disk) r.0 r.1 c.args.schema.now c.args.threads c.one_study_law.ensures c.requires c.in-Ok.ensures.ok
 
 pub returns-in-Err-clause-refused : goal.returns-in-Err-clause-refused
 returns-in-Err-clause-refused g c =

@@ -6,12 +6,12 @@ use Rattle.heap_threads.proofs.Refused.{looked, not_found_alike}
 use Rattle.heap_threads.proofs.devices.find_heap.Goals as goal
 
 pub find-requires : goal.find-requires
-find-requires g c = subst (λ (m : Moment). Holds c.args.schema.now c.args.lanes m.bytes) (sym c.look.ensures.same.now) c.in_default.ensures.ok
+find-requires g c = subst (λ (m : Moment). Holds c.args.schema.now c.args.threads m.bytes) (sym c.look.ensures.same.now) c.in_default.ensures.ok
 
 pub returns-in-Err-clause-refused : goal.returns-in-Err-clause-refused
 returns-in-Err-clause-refused g c =
     let device = g.D.Disk.device in
-    looked c.args.schema.now c.args.lanes (device c.args.disk) (device c.look.new.disk) c.in-Err.refusal c.look.ensures.same c.in-Err.ensures.refused
+    looked c.args.schema.now c.args.threads (device c.args.disk) (device c.look.new.disk) c.in-Err.refusal c.look.ensures.same c.in-Err.ensures.refused
 
 pub returns-in-Ok-clause-found : goal.returns-in-Ok-clause-found
 returns-in-Ok-clause-found g c =

@@ -1,8 +1,10 @@
-use Rattle.std.proofs.Common.{◌≤◌, length, subst, sym, arith}
+use Rattle.std.proofs.Common.{ℕ, ◌≤◌, length, subst, sym, ◌∙◌, arith}
+use Rattle.trim_helper.specs.Endings.{RefusesClosing}
 use Rattle.heap_threads.specs.Bodies.{Answer, WereCalled}
 use Rattle.heap_threads.proofs.Refused.{both_ok}
 use Rattle.recover.specs.Recovery.{IsCutOff}
 use Rattle.heap_threads.specs.Crashes.{IsLeftBehind, KeepsEach, TakesEach}
+use Rattle.heap_threads.specs.Outcomes.{IsTold}
 use Rattle.heap_threads.specs.Serving.{CrashesBy}
 use Rattle.heap_threads.specs.Stops.{StopsEnd, StopsTelling}
 use Rattle.heap_threads.proofs.Ends.{closing_left, kept_taken, telling_crashes}
@@ -13,18 +15,17 @@ use Rattle.heap_threads.proofs.running.close_all.Goals as goal
 pub returns-in-Ok-clause-ok : goal.returns-in-Ok-clause-ok
 returns-in-Ok-clause-ok g c =
     let device = g.D.Disk.device in
-    let closes = c.in-Ok.ensures.closes c.requires.helper.past c.requires.helper.serving in
     both_ok c.tell.result _ _ _
     (λ r told is opened p was. let from = c.in-Ok.ensures.from p was.lived.serving in record {
       ended = c.args.ended.items;
       lanes = c.requires.lanes;
       called = subst (λ (a : Answer). WereCalled (g.W.Work.does c.args.work.now) c.args.shared c.args.helper.store.known.layout.capacity a c.args.ended.items) (sym is) c.requires.called;
-      none = closes.refused.0;
-      complete = closes.refused.1;
+      none = c.requires.none;
+      complete = c.requires.complete;
       disk = c.in-Ok.disk;
       closed = from.closed;
       crashes = c.crash_law.ensures c.args.shared opened (device c.in-Ok.disk) c.args.helper p c.args.ended.items was.lived from;
-      told = told;
+      told = subst (λ (n : ℕ). IsTold device n (device c.in-Ok.disk) r.0 r.1) (c.threads-threads.ensures ∙ sym c.requires.helper.lanes) told;
     })
     c.tell.ensures.ok c.tell.ensures.answer
 
@@ -35,7 +36,7 @@ returns-in-Ok-clause-cause g c =
     let closed = device c.in-Ok.disk in
     let closes = c.in-Ok.ensures.closes c.requires.helper.past c.requires.helper.serving in
     weaker c.tell.result (λ back. StopsTelling closed (device back.0) back.1) (λ back. StopsEnd (g.W.Work.does c.args.work.now) c.args.shared l (device c.args.helper.store.disk) (device back.0) back.1)
-    (λ back stops. told_stops (g.W.Work.does c.args.work.now) c.args.shared l (device c.args.helper.store.disk) closed (device back.0) c.args.ended.items back.1 c.requires.none c.requires.complete closes.later c.in-Ok.ensures.ok c.accepted_law.ensures.accepted c.accepted_law.ensures.current stops)
+    (λ back stops. told_stops (g.W.Work.does c.args.work.now) c.args.shared l (device c.args.helper.store.disk) closed (device back.0) c.args.ended.items back.1 c.requires.none c.requires.complete closes.later c.in-Ok.ensures.ok c.two_syncs_law.ensures stops)
     c.tell.ensures.cause
 
 pub returns-in-Ok-clause-crashes : goal.returns-in-Ok-clause-crashes
@@ -69,8 +70,11 @@ pub returns-in-Err-clause-cause : goal.returns-in-Err-clause-cause
 returns-in-Err-clause-cause g c =
     let device = g.D.Disk.device in
     let known = c.args.helper.store.known in
+    let es = c.args.ended.items in
+    let e = c.in-Err.refusal in
     let closes = c.in-Err.ensures.closes c.requires.helper.past c.requires.helper.serving in
-    close_stops known.layout.lanes c.args.ended.items known (device c.args.helper.store.disk) (device c.in-Err.disk) c.in-Err.refusal c.requires.running c.requires.none c.requires.complete closes.refused closes.why
+    close_stops c.args.shared.plan.lanes es known (device c.args.helper.store.disk) (device c.in-Err.disk) e c.requires.running c.requires.none c.requires.complete
+    (subst (λ (n : ℕ). RefusesClosing n es e) (sym c.requires.helper.lanes) closes.refused) closes.why
 
 pub returns-in-Err-clause-crashes : goal.returns-in-Err-clause-crashes
 returns-in-Err-clause-crashes g c = λ opened p was.

@@ -26,7 +26,7 @@ pub close_all-requires-clause-none : goal.close_all-requires-clause-none
 close_all-requires-clause-none g c = none_hold c.args.returned.ended.items (subst (λ (es : List Ended). All (λ (e : Ended). e.held ≡ 0) es) c.deref.ensures.value c.in-None.ensures.none)
 
 pub close_all-requires-clause-complete : goal.close_all-requires-clause-complete
-close_all-requires-clause-complete g c = complete_of c.args.returned.helper.store.known.layout.lanes c.args.returned.ended.items c.requires.lanes
+close_all-requires-clause-complete g c = complete_of c.args.returned.shared.plan.lanes c.args.returned.ended.items c.requires.lanes
 
 pub returns-in-Some-clause-crashes : goal.returns-in-Some-clause-crashes
 returns-in-Some-clause-crashes g c = back_open g.D.Disk.device c.args.returned.shared c.args.returned.helper c.disk_of.result c.round_law.ensures.between c.disk_of.ensures

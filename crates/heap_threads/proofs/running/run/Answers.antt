@@ -1,6 +1,5 @@
 use Rattle.std.proofs.Common.{◌≡◌, false, IfOk, OnErr, OnOk, ap, sym, ◌∙◌, subst}
 use Rattle.std.proofs.lemmas.Result.{IfOk-weaker}
-use Rattle.image.specs.declared.layout.Layout.{Layout}
 use Rattle.std.specs.List.{range_with_len}
 use Rattle.heap_threads.specs.Bodies.{AreWorked}
 use Rattle.heap_threads.specs.Serving.{CrashesBy, CrashesSince, LivesOn}
@@ -63,7 +62,7 @@ returns-in-Ok-worked-clause-ok g c =
     (λ r is. have_returned does device heap.shared x y c.in-Ok-worked.worked r is beside.served.stayed (subst (λ s. OnOk s (LivesOn device heap.shared x y)) c.in_default.is beside.served.lives) beside.served.helping
     (subst (λ s. OnOk s (y.store.known.has_failed ≡ false)) c.in_default.is beside.served.running)
     (ended_later device heap.shared x y c.in-Ok-worked.worked.ended.items c.joined_law.ensures.ended beside.served.stayed worked.ended)
-    (worked.lanes ∙ lanes_up 0 heap.sessions.items c.requires.new ∙ ap (range_with_len 0) (c.requires.count ∙ ap (λ (l : Layout). l.lanes) (sym beside.served.stayed.layout)))
+    (worked.lanes ∙ lanes_up 0 heap.sessions.items c.requires.new ∙ ap (range_with_len 0) c.requires.count)
     worked.called)
     c.hand_over.ensures.ok
 

@@ -11,7 +11,7 @@ close_returned-requires g c = c.in-Ok.ensures.ok.back
 pub returns-in-Ok-clause-ok : goal.returns-in-Ok-clause-ok
 returns-in-Ok-clause-ok g c =
     let a = c.args in
-    IfOk-weaker c.close_returned.result _ _ (λ r ran. ran_from (g.W.Work.does a.work.now) g.D.Disk.device a.schema a.recovered r.0 c.in-Ok.returned r.1 c.in-Ok.ensures.ok ran) c.close_returned.ensures.ok
+    IfOk-weaker c.close_returned.result _ _ (λ r ran. ran_from (g.W.Work.does a.work.now) g.D.Disk.device a.schema a.threads a.recovered r.0 c.in-Ok.returned r.1 c.in-Ok.ensures.ok ran) c.close_returned.ensures.ok
 
 pub returns-in-Ok-clause-cause : goal.returns-in-Ok-clause-cause
 returns-in-Ok-clause-cause g c =
@@ -19,6 +19,6 @@ returns-in-Ok-clause-cause g c =
     let does = g.W.Work.does c.args.work.now in
     let x = c.in-Ok.returned in
     weaker_both c.close_returned.result (λ back. StopsEnd does x.shared x.helper.store.known.layout (device x.helper.store.disk) (device back.0) back.1) (λ back. CrashesBy device x.shared x.helper (device back.0) back.1)
-    (λ back. StopsRun does device c.args.schema c.args.recovered (device back.0) back.1)
-    (λ back stops crashes. stopped_from does device c.args.schema c.args.recovered x (device back.0) back.1 c.in-Ok.ensures.ok stops crashes)
+    (λ back. StopsRun does device c.args.schema c.args.threads c.args.recovered (device back.0) back.1)
+    (λ back stops crashes. stopped_from does device c.args.schema c.args.threads c.args.recovered x (device back.0) back.1 c.in-Ok.ensures.ok stops crashes)
     c.close_returned.ensures.cause c.close_returned.ensures.crashes

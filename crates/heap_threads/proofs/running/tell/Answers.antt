@@ -1,5 +1,4 @@
-use Rattle.std.proofs.Common.{take, ap, ◌∙◌}
-use Rattle.image.specs.declared.layout.Layout.{Layout}
+use Rattle.std.proofs.Common.{◌∙◌}
 use Rattle.heap_threads.proofs.Stopped.{telling_stops}
 use Rattle.heap_threads.proofs.Taken.{cut_off_there}
 use Rattle.heap_threads.proofs.running.tell.Goals as goal
@@ -8,8 +7,7 @@ pub returns-clause-ok : goal.returns-clause-ok
 returns-clause-ok g c = record {
   report = c.in-Ok.found.1;
   recovery = c.in-Ok.ensures.ok;
-  acknowledged = c.in-Ok-to_vec.ensures.items_if_clones_equal (λ x y same. same) ∙ c.first_counts-counts.ensures
-      ∙ ap (λ (l : Layout). take l.lanes c.in-Ok.found.1.kept.counts) c.layout.ensures.layout;
+  acknowledged = c.in-Ok-to_vec.ensures.items_if_clones_equal (λ x y same. same) ∙ c.first_counts-counts.ensures;
   any_moment = c.in-Ok.ensures.any_moment;
   heap = c.in-Ok-to_vec-2.ensures.items_if_clones_equal (λ x y same. same) ∙ c.heap.ensures.heap;
 }

@@ -15,7 +15,7 @@ returns-in-Err-clause-refused c =
       stops_for c.args.shared x c.in-Err.disk c.in-Err.refusal (record {
         ended = c.in-Ok.ended.items;
         are = told.0;
-        complete = complete_of x.store.known.layout.lanes c.in-Ok.ended.items (told.1 ∙ c.requires.order);
+        complete = complete_of x.store.known.threads c.in-Ok.ended.items (told.1 ∙ c.requires.order);
         refuses = closes.refused;
         untouched = closes.untouched;
         why = closes.why;

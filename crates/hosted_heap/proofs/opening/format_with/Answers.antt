@@ -11,7 +11,7 @@ use Rattle.image.specs.declared.guard_row.GuardRow.{GuardRow}
 use Rattle.image.specs.declared.layout.Layout.{Layout}
 use Rattle.store_image.specs.Formatting.{layout_with}
 use Rattle.hosted_heap.specs.Hosting.{hosted_device}
-use Rattle.hosted_heap.specs.Opening.{HasBegun}
+use Rattle.hosted_heap.specs.Opening.{HasBegun, threads_of}
 use Rattle.numbered_schema.specs.Rows.{numbered}
 use Rattle.hosted_heap.proofs.Hosts.{after_name, device_is}
 use Rattle.hosted_heap.proofs.Makings.{making_refused}
@@ -52,7 +52,7 @@ returns-in-Ok-begin-clause-ok c =
           (c.in-Ok-new.ensures.disk ∙ ap (λ (n : ℕ). fresh (replicate n 0)) (c.size.ensures ∙ ap (λ (l : Layout). size_of l) (same_layout ∙ sym told.layout)))
           (c.in-Ok-new.ensures.host.2 ∙ ap host_name (sym c.in-Ok-begin.ensures.calls)) i));
       values = λ f d low. told.heap f (omega (arith, low, fields)) ∙ ap (λ (s : Declarations). first_of s f) schema ∙ first_at 0 rows f d (omega (arith, low, fields, count));
-      begun = subst (λ (s : Declarations). HasBegun s c.in-Ok-format.made c.in-Ok-begin.heap) schema c.in-Ok-begin.ensures.begun;
+      begun = subst (λ (s : Declarations). HasBegun s (threads_of c.in-Ok-format.made.layout.lanes c.args.threads) c.in-Ok-format.made c.in-Ok-begin.heap) schema c.in-Ok-begin.ensures.begun;
     }
 
 pub returns-in-Err-format-clause-refused : goal.returns-in-Err-format-clause-refused

@@ -13,7 +13,7 @@ use Rattle.recover.specs.declared.studied.Study.{Study}
 use Rattle.std.specs.List.{slice_index_or}
 use Rattle.trim_helper.specs.Opening.{FitsSchema}
 use Rattle.hosted_heap.specs.Hosting.{hosted_device}
-use Rattle.hosted_heap.specs.Opening.{HasBegun}
+use Rattle.hosted_heap.specs.Opening.{HasBegun, threads_of}
 use Rattle.numbered_schema.specs.Rows.{numbered}
 use Rattle.hosted_heap.proofs.Fits.{fits_numbered}
 use Rattle.hosted_heap.proofs.Hosts.{device_is, recovery_name}
@@ -60,5 +60,5 @@ returns-in-Ok-begin-clause-ok c =
           (device_is c.in-Ok.disk c.in-Ok-begin.heap.calls c.args.bytes.now c.in-Ok.ensures.disk (c.in-Ok.ensures.host.2 ∙ ap host_name (sym c.in-Ok-begin.ensures.calls))) c.in-Ok-recover_of.ensures.ok;
       any_moment = subst (λ (d : Device). (s : Study) → IsStudyOf d.now.bytes s → LeavesOnly (synced d) (hosted_device found.disk) (IsOnTheWay s))
           (device_is c.in-Ok.disk c.in-Ok-begin.heap.calls c.args.bytes.now c.in-Ok.ensures.disk (c.in-Ok.ensures.host.2 ∙ ap host_name (sym c.in-Ok-begin.ensures.calls))) c.in-Ok-recover_of.ensures.any_moment;
-      begun = subst (λ (s : Declarations). HasBegun s found c.in-Ok-begin.heap) schema c.in-Ok-begin.ensures.begun;
+      begun = subst (λ (s : Declarations). HasBegun s (threads_of found.layout.lanes c.args.threads) found c.in-Ok-begin.heap) schema c.in-Ok-begin.ensures.begun;
     }

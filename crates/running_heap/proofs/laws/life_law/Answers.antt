@@ -3,7 +3,7 @@ use Rattle.running_heap.proofs.Living.{begins, lives_closed, lives_drained, live
 use Rattle.running_heap.proofs.laws.life_law.Goals as goal
 
 pub returns-clause-begins : goal.returns-clause-begins
-returns-clause-begins g c h x serving running = begins g.D.Disk.device h x serving running
+returns-clause-begins g c h x lanes serving running = begins g.D.Disk.device h x lanes serving running
 
 pub returns-clause-round : goal.returns-clause-round
 returns-clause-round g c h opened p x y answer was on round running = lives_on g.D.Disk.device h opened p x y answer was on round running

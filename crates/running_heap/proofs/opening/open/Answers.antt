@@ -3,7 +3,6 @@ use Rattle.image.specs.declared.layout.Layout.{Layout}
 use Rattle.monitor.specs.declared.view.Plan.{Plan}
 use Rattle.monitor.specs.declared.view.View.{View}
 use Rattle.running_heap.specs.Joined.{HaveRoom, IsJoined}
-use Rattle.lane_rings.specs.Rings.{IsRingSize}
 use Rattle.session.specs.Logs.{rooms}
 use Rattle.steps.specs.Views.{plan}
 use Rattle.store_past.specs.Past.{no_past}
@@ -14,9 +13,9 @@ use Rattle.running_heap.proofs.opening.open.Goals as goal
 pub new-helper-requires-clause-lanes : goal.new-helper-requires-clause-lanes
 new-helper-requires-clause-lanes g c =
     let made = c.in-Ok-open_sessions.made in
-    let lanes : c.in-Ok.opened.store.known.layout.lanes ≡ c.args.recovered.layout.lanes = ap (λ l. l.lanes) c.in-Ok.ensures.layout in
-    let count = ring_count c.in-Ok.opened.shared (rooms c.args.ring c.layout-layout.result.capacity) c.args.recovered.layout.lanes c.in-Ok.opened.seats.items made.0.items made.1.items c.in-Ok.ensures.views c.in-Ok-open_sessions.ensures.opened in
-    omega (arith, made.1.ok, count, lanes)
+    let threads = c.in-Ok.ensures.threads in
+    let count = ring_count c.in-Ok.opened.shared (rooms c.args.ring c.layout-layout.result.capacity) c.args.threads c.in-Ok.opened.seats.items made.0.items made.1.items c.in-Ok.ensures.views c.in-Ok-open_sessions.ensures.opened in
+    omega (arith, made.1.ok, count, threads)
 
 pub new-helper-requires-clause-rooms : goal.new-helper-requires-clause-rooms
 new-helper-requires-clause-rooms g c =
@@ -34,7 +33,7 @@ new-helper-requires-clause-sees g c =
     let made = c.in-Ok-open_sessions.made in
     let h = c.in-Ok.opened.shared in
     let of = c.in-Ok.ensures.helper.of in
-    all_seen h (rooms c.args.ring c.layout-layout.result.capacity) c.args.recovered.layout.lanes c.in-Ok.opened.seats.items made.0.items made.1.items c.in-Ok.ensures.views c.in-Ok-open_sessions.ensures.opened c.in-Ok.opened.seat of.0 of.1 c.in-Ok.ensures.seats
+    all_seen h (rooms c.args.ring c.layout-layout.result.capacity) c.args.threads c.in-Ok.opened.seats.items made.0.items made.1.items c.in-Ok.ensures.views c.in-Ok-open_sessions.ensures.opened c.in-Ok.opened.seat of.0 of.1 c.in-Ok.ensures.seats
 
 pub new-helper-requires-clause-silent : goal.new-helper-requires-clause-silent
 new-helper-requires-clause-silent g c = ap (λ (v : View). v.notes) c.in-Ok.ensures.silent
@@ -45,29 +44,28 @@ returns-clause-joined g c =
     let h = c.in-Ok.opened.shared in
     subst (λ rings. All (IsJoined h c.args.recovered.layout.capacity rings) made.0.items) (sym c.new-helper.ensures.parts.1)
     (subst (λ (l : Layout). All (IsJoined h l.capacity made.1.items) made.0.items) c.layout-layout.ensures.layout
-    (all_joined h (rooms c.args.ring c.layout-layout.result.capacity) c.args.recovered.layout.lanes c.in-Ok.opened.seats.items made.0.items made.1.items c.in-Ok.ensures.views c.in-Ok-open_sessions.ensures.opened c.in-Ok-open_sessions.ensures.heap))
+    (all_joined h (rooms c.args.ring c.layout-layout.result.capacity) c.args.threads c.in-Ok.opened.seats.items made.0.items made.1.items c.in-Ok.ensures.views c.in-Ok-open_sessions.ensures.opened c.in-Ok-open_sessions.ensures.heap))
 
 pub returns-clause-fresh : goal.returns-clause-fresh
 returns-clause-fresh g c =
     let made = c.in-Ok-open_sessions.made in
-    all_new c.in-Ok.opened.shared (rooms c.args.ring c.layout-layout.result.capacity) c.args.recovered.layout.lanes c.in-Ok.opened.seats.items made.0.items made.1.items c.in-Ok.ensures.views c.in-Ok-open_sessions.ensures.opened
+    all_new c.in-Ok.opened.shared (rooms c.args.ring c.layout-layout.result.capacity) c.args.threads c.in-Ok.opened.seats.items made.0.items made.1.items c.in-Ok.ensures.views c.in-Ok-open_sessions.ensures.opened
 
 pub returns-clause-count : goal.returns-clause-count
 returns-clause-count g c =
     let made = c.in-Ok-open_sessions.made in
-    session_count c.in-Ok.opened.shared (rooms c.args.ring c.layout-layout.result.capacity) c.args.recovered.layout.lanes c.in-Ok.opened.seats.items made.0.items made.1.items c.in-Ok.ensures.views c.in-Ok-open_sessions.ensures.opened
+    session_count c.in-Ok.opened.shared (rooms c.args.ring c.layout-layout.result.capacity) c.args.threads c.in-Ok.opened.seats.items made.0.items made.1.items c.in-Ok.ensures.views c.in-Ok-open_sessions.ensures.opened
 
 pub returns-clause-helping : goal.returns-clause-helping
 returns-clause-helping g c =
     let made = c.in-Ok-open_sessions.made in
     let h = c.in-Ok.opened.shared in
     let parts = c.new-helper.ensures.parts in
-    let lanes : h.plan.lanes ≡ c.args.recovered.layout.lanes = ap (λ (k : Plan). k.lanes) c.in-Ok.ensures.plan in
-    let layout : c.in-Ok.opened.store.known.layout.lanes ≡ c.args.recovered.layout.lanes = ap (λ l. l.lanes) c.in-Ok.ensures.layout in
-    let count = ring_count h (rooms c.args.ring c.layout-layout.result.capacity) c.args.recovered.layout.lanes c.in-Ok.opened.seats.items made.0.items made.1.items c.in-Ok.ensures.views c.in-Ok-open_sessions.ensures.opened in
+    let lanes : h.plan.lanes ≡ c.args.threads = ap (λ (k : Plan). k.lanes) c.in-Ok.ensures.plan in
+    let count = ring_count h (rooms c.args.ring c.layout-layout.result.capacity) c.args.threads c.in-Ok.opened.seats.items made.0.items made.1.items c.in-Ok.ensures.views c.in-Ok-open_sessions.ensures.opened in
     record {
       seat = subst (λ s. IsHelper h s) (sym parts.2) c.in-Ok.ensures.helper;
-      lanes = lanes ∙ sym layout ∙ ap (λ s. s.known.layout.lanes) (sym parts.0);
+      lanes = lanes ∙ sym c.in-Ok.ensures.threads ∙ ap (λ s. s.known.threads) (sym parts.0);
       rings = ap (λ r. length r) parts.1 ∙ count ∙ sym lanes;
       nobody = ap (λ s. taken_in s) parts.2 ∙ ap (λ v. map part_of v.gathered) c.in-Ok.ensures.silent;
       past = no_past;
@@ -82,3 +80,6 @@ returns-clause-rings g c =
     let made = c.in-Ok-open_sessions.made in
     subst (λ rings. HaveRoom c.args.ring rings) (sym c.new-helper.ensures.parts.1)
     (have_room (rooms c.args.ring c.layout-layout.result.capacity) c.in-Ok.opened.shared.plan c.in-Ok.opened.seats.items made.0.items made.1.items c.in-Ok-open_sessions.ensures.opened)
+
+pub returns-clause-threads : goal.returns-clause-threads
+returns-clause-threads g c = ap (λ s. s.known.threads) c.new-helper.ensures.parts.0 ∙ c.in-Ok.ensures.threads

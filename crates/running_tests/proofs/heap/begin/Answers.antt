@@ -1,4 +1,4 @@
-use Rattle.std.proofs.Common.{All, ap, subst, sym}
+use Rattle.std.proofs.Common.{◌≡◌, All, ap, subst, sym, arith}
 use Rattle.image.specs.declared.layout.Layout.{Layout}
 use Rattle.running_heap.specs.Joined.{IsJoined}
 use Rattle.running_tests.proofs.heap.begin.Goals as goal
@@ -10,6 +10,18 @@ open-requires-clause-schema g c = record {
   guarded = λ f d lt. ap (λ r. r.guard.0) (c.in-Ok.ensures.guards f d lt);
   marked = λ f d lt. ap (λ r. r.transient) (c.in-Ok.ensures.guards f d lt);
 }
+
+pub open-requires-clause-within : goal.open-requires-clause-within
+open-requires-clause-within g c =
+    let lanes : c.in-Ok.made.layout.lanes ≡ c.args.lanes = ap (λ l. l.lanes) c.in-Ok.ensures.layout in
+    let within = c.requires.within in
+    omega (arith, lanes, within)
+
+pub open-requires-clause-most : goal.open-requires-clause-most
+open-requires-clause-most g c =
+    let lanes : c.in-Ok.made.layout.lanes ≡ c.args.lanes = ap (λ l. l.lanes) c.in-Ok.ensures.layout in
+    let most = c.requires.most in
+    omega (arith, lanes, most)
 
 pub returns-clause-joined : goal.returns-clause-joined
 returns-clause-joined g c =

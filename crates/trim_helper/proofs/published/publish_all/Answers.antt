@@ -13,11 +13,11 @@ pub publish-requires-clause-seat : goal.publish-requires-clause-seat
 publish-requires-clause-seat g c = c.loop-lane.invariant.seat
 
 pub publish-requires-clause-lane : goal.publish-requires-clause-lane
-publish-requires-clause-lane g c = let at = ap (λ l. l.lanes) c.layout-lanes.ensures in omega (arith, c.requires.lanes, c.loop-lane-test.true)
+publish-requires-clause-lane g c = let at = c.threads-threads.ensures in omega (arith, c.requires.lanes, c.loop-lane-test.true)
 
 pub publish-requires-clause-count : goal.publish-requires-clause-count
 publish-requires-clause-count g c =
-    let at = ap (λ l. l.lanes) c.layout-lanes.ensures in
+    let at = c.threads-threads.ensures in
     let known = c.requires.rises in
     let low = known.3 c.loop-lane.lane (omega (arith, c.loop-lane-test.true)) in
     let was = c.loop-lane.invariant.rest c.loop-lane.lane (omega arith) (let few = c.requires.seat.few in omega (arith, c.requires.lanes, c.loop-lane-test.true)) in
@@ -25,7 +25,7 @@ publish-requires-clause-count g c =
 
 pub publish-requires-clause-place : goal.publish-requires-clause-place
 publish-requires-clause-place g c =
-    let at = ap (λ l. l.lanes) c.layout-lanes.ensures in
+    let at = c.threads-threads.ensures in
     let known = c.requires.rises in
     let low = known.3 c.loop-lane.lane (omega (arith, c.loop-lane-test.true)) in
     let was = c.loop-lane.invariant.rest c.loop-lane.lane (omega arith) (let few = c.requires.seat.few in omega (arith, c.requires.lanes, c.loop-lane-test.true)) in
@@ -33,7 +33,7 @@ publish-requires-clause-place g c =
 
 pub loop-lane-preserved : goal.loop-lane-preserved
 loop-lane-preserved g c =
-    let at = ap (λ l. l.lanes) c.layout-lanes.ensures in
+    let at = c.threads-threads.ensures in
     let low : (k : ℕ) → k < c.loop-lane.lane + 1 → k < 32 = λ k lt. let few = c.requires.seat.few in omega (arith, c.requires.lanes, c.loop-lane-test.true) in
     record {
       seat = c.publish.ensures.seat;
@@ -64,7 +64,7 @@ loop-lane-preserved g c =
     }
 
 pub returns-clause-published : goal.returns-clause-published
-returns-clause-published g c = λ s p has l lt. let at = ap (λ l. l.lanes) c.layout-lanes.ensures in c.loop-lane.invariant.done s p has l (omega (arith, c.loop-lane-test.false))
+returns-clause-published g c = λ s p has l lt. let at = c.threads-threads.ensures in c.loop-lane.invariant.done s p has l (omega (arith, c.loop-lane-test.false))
 
 pub returns-clause-counts : goal.returns-clause-counts
 returns-clause-counts g c = λ s p has l n lt was. let few = c.requires.seat.few in c.loop-lane.invariant.counts s p has l n (omega (arith, lt, few, c.requires.lanes)) was

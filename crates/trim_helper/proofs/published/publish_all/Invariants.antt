@@ -2,7 +2,7 @@ use Rattle.std.proofs.Common.{ℕ, ◌≡◌, ◌<◌, ◌≤◌, ◌⊎◌}
 use Rattle.heap_model.specs.Setting.{Setting}
 use Rattle.monitor.specs.Views.{GoesOn}
 use Rattle.store_past.specs.Past.{Past}
-use Rattle.durable.specs.Store.{HasPast}
+use Rattle.round_store.specs.Store.{HasPast}
 use Rattle.trim_helper.specs.Counts.{WasCount}
 use Rattle.trim_helper.specs.Helping.{IsHelper, count_published, place_published, taken_in}
 use Rattle.trim_helper.specs.Seen.{SameSight}

@@ -7,7 +7,7 @@ returns c =
     let law = c.host_law.ensures in
     let x = c.args.heap.now in
     let y = c.acknowledged.new.self in
-    let lanes = x.helper.store.known.layout.lanes in
+    let lanes = x.helper.store.known.threads in
     record {
       acknowledged = told.ok;
       safe = safe_now x y c.args.lane lanes told.heap law.now c.acknowledged.result told.all_made told.bad_lane told.met;

@@ -1,6 +1,5 @@
-use Rattle.std.proofs.Common.{All, IfErr, List, ap, sym, ◌∙◌, subst}
+use Rattle.std.proofs.Common.{ℕ, All, IfErr, List, ap, sym, ◌∙◌, subst}
 use Rattle.std.specs.List.{range_with_len}
-use Rattle.image.specs.declared.layout.Layout.{Layout}
 use Rattle.monitor.specs.Seats.{Home}
 use Rattle.hosted_heap.specs.Closing.{HasStopped}
 use Rattle.hosted_heap.specs.Hosting.{Hosting, handed_out}
@@ -16,7 +15,7 @@ close_all-requires-clause-lanes c =
     subst (λ (h : Home). All (IsLaneEnd h x.store.known.layout.capacity x.rings) c.self.inside.lanes.items) (sym c.in-Ok.ensures.ok) c.self.invariant.lanes_are
 
 pub close_all-requires-clause-order : goal.close_all-requires-clause-order
-close_all-requires-clause-order c = c.self.invariant.order ∙ ap (λ (l : Layout). range_with_len 0 l.lanes) c.self.invariant.layout_is
+close_all-requires-clause-order c = c.self.invariant.order ∙ ap (λ (n : ℕ). range_with_len 0 n) c.self.invariant.helping.lanes
 
 pub close_all-requires-clause-came : goal.close_all-requires-clause-came
 close_all-requires-clause-came c =

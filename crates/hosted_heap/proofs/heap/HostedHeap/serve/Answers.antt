@@ -49,6 +49,7 @@ returns-clause-kept c =
       out = ap (λ (k : Hosting). k.out) view;
       stop = ap (λ (k : Hosting). k.stop) view;
       layout = c.bounded_round.ensures.goes_on.layout ∙ ap (λ (k : Hosting). k.helper.store.known.layout) view;
+      threads = c.bounded_round.ensures.goes_on.threads ∙ ap (λ (k : Hosting). k.helper.store.known.threads) view;
     }
 
 pub returns-clause-heard : goal.returns-clause-heard

@@ -31,7 +31,7 @@ returns-clause-found c = λ s p next may.
     c.make.new.self made
     (subst (λ (r : Rounds). TellsDownTo c.counts_between-counts.result (log_from r.beyond) [] c.make.new.self) c.self.view_is
     (subst (λ (xs : List LaneRecord). TellsDownTo c.counts_between-counts.result (log_from xs) [] c.make.new.self) c.deref.ensures.value c.make.ensures.tells))
-    _ refl refl refl
+    _ (ap (λ (r : Rounds). length r.kept) c.self.view_is ∙ may.knows.fields) refl refl refl
 
 pub returns-clause-only : goal.returns-clause-only
 returns-clause-only c =

@@ -15,11 +15,16 @@ use Rattle.round_store.specs.Steps.{RefusesWrite, after_round}
 use Rattle.round_store.specs.Store.{HasPast}
 use Rattle.round_store.proofs.Afterwards.{failed_has, shows_turn, tells_now, turned_has}
 use Rattle.round_store.proofs.Composing.{plan_of, serves_of, turns_from}
-use Rattle.round_store.proofs.Turned.{adds_as, changes, helper_size, joined_as, loggable_as, may_join, numbers_as, stored, waiting}
+use Rattle.round_store.proofs.Turned.{adds_as, changes, found_few, helper_size, joined_as, loggable_as, may_join, numbers_as, stored, waiting}
 use Rattle.round_store.proofs.store.RoundStore.turn.Goals as goal
 
 pub returns-then-not-is_joined : goal.returns-then-not-is_joined
 returns-then-not-is_joined g c = turns_from c.self.view_is c.turn_apart.ensures
+
+pub is_joined-requires-clause-few : goal.is_joined-requires-clause-few
+is_joined-requires-clause-few g c =
+    let was = c.self.invariant.1 in
+    found_few _ was.0 was.1 _ was.2 c.args.stable.now.cut c.args.stable.now.places (plan_of c.args.stable.now.cut c.args.stable.now.places c.self.view_is c.requires.plan) c.changed.result.now c.changed.ensures
 
 pub push_sections-requires-clause-sorted : goal.push_sections-requires-clause-sorted
 push_sections-requires-clause-sorted g c =

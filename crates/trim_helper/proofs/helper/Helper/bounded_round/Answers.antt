@@ -1,4 +1,4 @@
-use Rattle.std.proofs.Common.{◌∙◌, sym, ap}
+use Rattle.std.proofs.Common.{◌∙◌, sym}
 use Rattle.trim_helper.proofs.HeardRings.{seen_still}
 use Rattle.trim_helper.proofs.Rounds.{goes_on_published, round_published, round_refused}
 use Rattle.trim_helper.proofs.helper.Helper.bounded_round.Goals as goal
@@ -10,7 +10,7 @@ pub publish-requires-clause-seat : goal.publish-requires-clause-seat
 publish-requires-clause-seat g c = c.in-Ok.ensures.goes_on.seat
 
 pub publish-requires-clause-lanes : goal.publish-requires-clause-lanes
-publish-requires-clause-lanes g c = c.requires.lanes ∙ sym (ap (λ l. l.lanes) c.in-Ok.ensures.goes_on.layout)
+publish-requires-clause-lanes g c = c.requires.lanes ∙ sym c.in-Ok.ensures.goes_on.threads
 
 pub returns-in-Ok-clause-rounds : goal.returns-in-Ok-clause-rounds
 returns-in-Ok-clause-rounds g c = λ s p serving. round_published g.D.Disk.device c.args.most s p c.args.self.now c.bounded_settle.new.self c.args.shared.now c.publish.new.self c.publish.ensures c.in-Ok.count (c.in-Ok.ensures.settles s p serving)

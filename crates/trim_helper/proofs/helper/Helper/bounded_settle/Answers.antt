@@ -4,7 +4,7 @@ use Rattle.monitor.specs.Seats.{Helping}
 use Rattle.trim_helper.specs.Calls.{DrainsUpTo, MayBePublished}
 use Rattle.trim_helper.specs.Heard.{HasSeen, Hears}
 use Rattle.trim_helper.proofs.HeardRings.{drained_parts, goes_on_heard, round_heard, rounds_heard}
-use Rattle.trim_helper.proofs.Homes.{passed_on}
+use Rattle.trim_helper.proofs.Rounding.{passed_on}
 use Rattle.trim_helper.proofs.Noting.{noted_same, noted_then}
 use Rattle.trim_helper.proofs.RingMoves.{same_refl}
 use Rattle.trim_helper.proofs.Rounds.{goes_on_drained, parts_from, rounds_done, rounds_failed, rounds_quiet, rounds_refused, same_serves, whole_still}
@@ -67,7 +67,7 @@ returns-in-Err-settle_and_trim-clause-settles g c = λ s p serving.
     let drains = subst (λ k. DrainsUpTo g.D.Disk.device c.args.most c.args.self.now k (Ok c.in-Ok.count)) (drained_parts g.D.Disk.device c.args.shared.now d y hears) c.in-Ok.ensures in
     let w = c.settle_and_trim.new.store in
     rounds_heard g.D.Disk.device (parts_from w d.rings x.waiting x.is_settled d.seat) x.rings.items x.seat hears.records hears.noted c.args.most s p c.args.self.now _
-    (rounds_refused g.D.Disk.device s p c.args.self.now serving z c.args.most c.in-Ok.count drains w c.if-self.false c.settle_and_trim.ensures.layout c.in-Err-settle_and_trim.reason c.in-Err-settle_and_trim.ensures.settles c.settle_and_trim.ensures.still c.settle_and_trim.ensures.takes
+    (rounds_refused g.D.Disk.device s p c.args.self.now serving z c.args.most c.in-Ok.count drains w c.if-self.false c.settle_and_trim.ensures.threads c.in-Err-settle_and_trim.reason c.in-Err-settle_and_trim.ensures.settles c.settle_and_trim.ensures.still c.settle_and_trim.ensures.takes
     (passed_on _ _ _ c.settle_and_trim.result (Err c.in-Err-settle_and_trim.reason) Fault c.in-Err-settle_and_trim.reason c.in-Err-settle_and_trim.is refl (omega arith) c.settle_and_trim.ensures.cause))
 
 pub returns-in-Err-settle_and_trim-clause-noted : goal.returns-in-Err-settle_and_trim-clause-noted
@@ -84,7 +84,7 @@ returns-in-Err-settle_and_trim-clause-goes_on g c =
     let y = parts_from x.store x.rings.items x.waiting x.is_settled x.seat in
     let hears = subst (λ k. Hears c.args.shared.now d k) (sym c.self.view_is) c.hear.ensures in
     let on = goes_on_heard g.D.Disk.device c.args.shared.now d y hears c.args.self.now (goes_on_drained g.D.Disk.device c.args.most c.args.shared.now c.args.self.now d _ c.requires.seat c.in-Ok.ensures) in
-    record { seat = on.seat; taken = on.taken; rings = on.rings; layout = c.settle_and_trim.ensures.layout ∙ on.layout }
+    record { seat = on.seat; taken = on.taken; rings = on.rings; layout = c.settle_and_trim.ensures.layout ∙ on.layout; threads = c.settle_and_trim.ensures.threads ∙ on.threads }
 
 pub returns-in-Err-settle_and_trim-clause-seen : goal.returns-in-Err-settle_and_trim-clause-seen
 returns-in-Err-settle_and_trim-clause-seen g c = λ runs.
@@ -108,7 +108,7 @@ returns-clause-settles g c = λ s p serving.
     let drains = subst (λ k. DrainsUpTo g.D.Disk.device c.args.most c.args.self.now k (Ok c.in-Ok.count)) (drained_parts g.D.Disk.device c.args.shared.now d y hears) c.in-Ok.ensures in
     let w = c.settle_and_trim.new.store in
     rounds_heard g.D.Disk.device (parts_from w d.rings x.waiting x.is_settled d.seat) x.rings.items x.seat hears.records hears.noted c.args.most s p c.args.self.now (Ok c.in-Ok.count)
-    (rounds_done g.D.Disk.device s p c.args.self.now serving z c.args.most c.in-Ok.count drains w c.if-self.false c.settle_and_trim.ensures.layout c.in_default.ensures.running c.in_default.ensures.settles c.settle_and_trim.ensures.takes
+    (rounds_done g.D.Disk.device s p c.args.self.now serving z c.args.most c.in-Ok.count drains w c.if-self.false c.settle_and_trim.ensures.threads c.in_default.ensures.running c.in_default.ensures.settles c.settle_and_trim.ensures.takes
     c.settle_and_trim.ensures.cause.later)
 
 pub returns-clause-ready : goal.returns-clause-ready
@@ -120,7 +120,7 @@ returns-clause-ready g c =
     let h = both.settles.same in (
       whole.setting,
       h.now,
-      same_serves g.D.Disk.device z c.settle_and_trim.new.store whole.setting whole.past c.if-self.false c.settle_and_trim.ensures.layout whole.serving h,
+      same_serves g.D.Disk.device z c.settle_and_trim.new.store whole.setting whole.past c.if-self.false c.settle_and_trim.ensures.threads whole.serving h,
       record { running = c.in_default.ensures.running; settled = both.settles.settled; trimmed = both.trimmed },
     )
 
@@ -138,7 +138,7 @@ returns-clause-goes_on g c =
     let y = parts_from x.store x.rings.items x.waiting x.is_settled x.seat in
     let hears = subst (λ k. Hears c.args.shared.now d k) (sym c.self.view_is) c.hear.ensures in
     let on = goes_on_heard g.D.Disk.device c.args.shared.now d y hears c.args.self.now (goes_on_drained g.D.Disk.device c.args.most c.args.shared.now c.args.self.now d _ c.requires.seat c.in-Ok.ensures) in
-    record { seat = on.seat; taken = on.taken; rings = on.rings; layout = c.settle_and_trim.ensures.layout ∙ on.layout }
+    record { seat = on.seat; taken = on.taken; rings = on.rings; layout = c.settle_and_trim.ensures.layout ∙ on.layout; threads = c.settle_and_trim.ensures.threads ∙ on.threads }
 
 pub returns-clause-seen : goal.returns-clause-seen
 returns-clause-seen g c = λ runs.
@@ -157,8 +157,8 @@ invariant_of-self g c =
     let whole = c.self.invariant in
     let w = c.settle_and_trim.new.store in
     let h = (c.in-Err-settle_and_trim.ensures.settles whole.setting whole.past whole.serving.taken.has).settles.same in
-    whole_still g.D.Disk.device z (parts_from w x.rings.items x.waiting x.is_settled x.seat) whole (same_refl x.rings.items) whole.sees c.settle_and_trim.ensures.layout h.now
-    (same_serves g.D.Disk.device z w whole.setting whole.past c.if-self.false c.settle_and_trim.ensures.layout whole.serving h)
+    whole_still g.D.Disk.device z (parts_from w x.rings.items x.waiting x.is_settled x.seat) whole (same_refl x.rings.items) whole.sees c.settle_and_trim.ensures.threads h.now
+    (same_serves g.D.Disk.device z w whole.setting whole.past c.if-self.false c.settle_and_trim.ensures.threads whole.serving h)
 
 pub invariant_of-self-2 : goal.invariant_of-self-2
 invariant_of-self-2 g c =
@@ -167,5 +167,5 @@ invariant_of-self-2 g c =
     let whole = c.self.invariant in
     let w = c.settle_and_trim.new.store in
     let h = (c.in_default.ensures.settles whole.setting whole.past whole.serving.taken.has).settles.same in
-    whole_still g.D.Disk.device z (parts_from w x.rings.items x.waiting x.is_settled x.seat) whole (same_refl x.rings.items) whole.sees c.settle_and_trim.ensures.layout h.now
-    (same_serves g.D.Disk.device z w whole.setting whole.past c.if-self.false c.settle_and_trim.ensures.layout whole.serving h)
+    whole_still g.D.Disk.device z (parts_from w x.rings.items x.waiting x.is_settled x.seat) whole (same_refl x.rings.items) whole.sees c.settle_and_trim.ensures.threads h.now
+    (same_serves g.D.Disk.device z w whole.setting whole.past c.if-self.false c.settle_and_trim.ensures.threads whole.serving h)

@@ -13,7 +13,7 @@ invariant_of-self g c =
     let before = parts_from x.store x.rings.items x.waiting x.is_settled x.seat in
     let now = parts_from c.meet.new.self x.rings.items x.waiting x.is_settled x.seat in
     let same : SameHelper g.D.Disk.device before now = record { known = told.known; device_is = told.device; rings = refl; waiting = refl; settled = refl; seat = refl } in
-    whole_still g.D.Disk.device before now was (same_refl x.rings.items) was.sees (ap (λ k. k.layout) told.known) was.past (serves_still g.D.Disk.device before now was.setting was.past same was.serving)
+    whole_still g.D.Disk.device before now was (same_refl x.rings.items) was.sees (ap (λ k. k.threads) told.known) was.past (serves_still g.D.Disk.device before now was.setting was.past same was.serving)
 
 pub returns-clause-same : goal.returns-clause-same
 returns-clause-same g c =

@@ -24,7 +24,7 @@ pub publish_all-requires-clause-seat : goal.publish_all-requires-clause-seat
 publish_all-requires-clause-seat g c = subst (λ k. IsHelper c.args.shared.now k.seat) (sym c.self.view_is) c.requires.seat
 
 pub publish_all-requires-clause-lanes : goal.publish_all-requires-clause-lanes
-publish_all-requires-clause-lanes g c = subst (λ k. c.args.shared.now.plan.lanes ≡ k.store.known.layout.lanes) (sym c.self.view_is) c.requires.lanes
+publish_all-requires-clause-lanes g c = subst (λ k. c.args.shared.now.plan.lanes ≡ k.store.known.threads) (sym c.self.view_is) c.requires.lanes
 
 pub publish_all-requires-clause-rises : goal.publish_all-requires-clause-rises
 publish_all-requires-clause-rises g c =
