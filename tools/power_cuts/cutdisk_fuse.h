@@ -1,6 +1,7 @@
 /* The disk of cutdisk.c as a file that is mounted by FUSE, for a loop device: the requests of the kernel for one open file (linux/fuse.h). */
 #include <linux/fuse.h>
 #include <sys/mount.h>
+#include <sys/prctl.h>
 #include <sys/uio.h>
 
 enum { MOST_WRITTEN = 1 << 20, FUSE_ROOM = MOST_WRITTEN + PAGE };
@@ -93,8 +94,11 @@ static int mount_fuse(const char *path) {
     struct stat info;
     char options[96];
     if (stat(path, &info) != 0 || !S_ISREG(info.st_mode)) return -1;
-    int from = open("/dev/fuse", O_RDWR | O_CLOEXEC);
+    /* A request may be taken back after poll has told of it. */
+    int from = open("/dev/fuse", O_RDWR | O_CLOEXEC | O_NONBLOCK);
     must(from >= 0, "/dev/fuse");
+    /* Memory that this process asks for is never got by writing to the disk that it answers for. Kernels before 5.6 can't. */
+    (void)prctl(PR_SET_IO_FLUSHER, 1, 0, 0, 0);
     (void)snprintf(options, sizeof options, "fd=%d,rootmode=%o,user_id=0,group_id=0,max_read=%d", from, (unsigned)S_IFREG, MOST_WRITTEN);
     must(mount("cutdisk", path, "fuse", MS_NOSUID | MS_NODEV, options) == 0, path);
     has_fuse = true;

@@ -1,4 +1,5 @@
 """The guests of tools/power-cuts: their disk (cutdisk.c), what they are made of, and a machine whose power can be cut."""
+import contextlib
 import copy
 import glob
 import json
@@ -14,12 +15,15 @@ import subprocess
 import sys
 import sysconfig
 import time
+from pathlib import Path
 
 HERE = os.path.dirname(os.path.realpath(__file__))
 TOP = os.path.dirname(os.path.dirname(HERE))
 PROGRAM, BANK, LIBRARY = f"{TOP}/crates/heapctl/out/heapctl", f"{TOP}/crates/bank/out/bank", f"{TOP}/crates/zelamiku/out/host"
 PATHS = f"{os.environ.get('PATH', '')}:/usr/sbin:/sbin"
 ATTACHED = "if=none,id=disk,cache=none,discard=unmap,werror=report,rerror=report"  # a guest is told of an error
+LONGEST = 900  # seconds, in which a command ends: cargo's is the longest
+PATIENCE = 120  # seconds, in which cutdisk answers, and what was killed ends
 SIZE = 320  # megabytes of the disk: the least that mkfs.xfs takes
 # By its name: the kind that is mounted, and what makes it. Blocks below a page show what a page hides, which is written whole.
 SYSTEMS = {
@@ -52,10 +56,46 @@ def must(is_so, text):
         raise Wrong(text)
 
 
+def standing(tasks):
+    """Where these tasks stand, folders of /proc: of each its name, its state, and the calls of the kernel that it is in, the last first."""
+    found = []
+    for task in tasks:
+        with contextlib.suppress(OSError):
+            name, state = (Path(task, "stat").read_text().rpartition(")")[i] for i in (0, 2))
+            calls = re.findall(r"\] (\w+)", Path(task, "stack").read_text())[:4] if os.geteuid() == 0 else []
+            found.append(f"{name.partition('(')[2]} {state.split()[0]} {' '.join(calls)}".strip())
+    return ", ".join(found)
+
+
+def below(pid):
+    """The tasks of a process, and of those that it has begun."""
+    tasks = glob.glob(f"/proc/{pid}/task/*")
+    for task in list(tasks):
+        with contextlib.suppress(OSError):
+            tasks += [it for child in Path(task, "children").read_text().split() for it in below(child)]
+    return tasks
+
+
 def must_run(*words, **how):
-    done = subprocess.run(words, capture_output=True, text=True, check=False, **how)
-    must(done.returncode == 0, f"{words[0]} has failed: {done.stderr[-2000:]}")
-    return done.stdout
+    """What a command prints. One that hangs isn't waited for: a process that waits for a disk can't be killed."""
+    running = subprocess.Popen(words, stdout=subprocess.PIPE, stderr=subprocess.PIPE, text=True, **how)
+    try:
+        printed, errors = running.communicate(timeout=LONGEST)
+    except subprocess.TimeoutExpired:
+        where = standing(below(running.pid))
+        running.kill()
+        raise Wrong(f"{' '.join(words)} hasn't ended in {LONGEST} s: {where}") from None
+    must(running.returncode == 0, f"{words[0]} has failed: {errors[-2000:]}")
+    return printed
+
+
+def must_end(running, name):
+    """Kills a process, and waits until it has ended."""
+    running.send_signal(signal.SIGKILL)
+    try:
+        running.wait(PATIENCE)
+    except subprocess.TimeoutExpired:
+        raise Wrong(f"{name} hasn't ended, {PATIENCE} s after it was killed: {standing(below(running.pid))}") from None
 
 
 def kind_of(system):
@@ -117,6 +157,25 @@ def free(path):
     return path
 
 
+class Lines:
+    """What comes by a descriptor, line by line."""
+
+    def __init__(self, source):
+        self.source, self.got = source, b""
+
+    def next(self, seconds):
+        """The next line, or None where none has come in so many seconds or none will come any more."""
+        until = time.monotonic() + seconds
+        while b"\n" not in self.got:
+            ready, _, _ = select.select([self.source], [], [], max(0, until - time.monotonic()))
+            more = os.read(self.source.fileno(), 65536) if ready else b""
+            if not more:
+                return None
+            self.got += more
+        line, _, self.got = self.got.partition(b"\n")
+        return line.decode(errors="replace")
+
+
 class Disk:
     """cutdisk, which is asked line by line."""
 
@@ -124,8 +183,9 @@ class Disk:
         self.socket, self.told_by = f"{folder}/disk", f"{folder}/told"
         self.clear()
         words = [f"{folder}/cutdisk", self.socket, self.told_by, str(SIZE), str(seed)]
-        self.running = subprocess.Popen(words, stdin=subprocess.PIPE, stdout=subprocess.PIPE, text=True, bufsize=1)
-        self.running.stdout.readline()
+        self.running = subprocess.Popen(words, stdin=subprocess.PIPE, stdout=subprocess.PIPE, bufsize=0)
+        self.lines = Lines(self.running.stdout)
+        must(self.lines.next(PATIENCE) == "ok", "cutdisk doesn't begin")
 
     def clear(self):
         """No file has the names of its sockets."""
@@ -134,10 +194,14 @@ class Disk:
 
     def ask(self, *words):
         must(self.running.poll() is None, "cutdisk has ended")
-        self.running.stdin.write(" ".join(map(str, words)) + "\n")
-        answer = self.running.stdout.readline().split()
-        must(answer[:1] == ["ok"], f"cutdisk ended at {words}")
-        return answer[1:]
+        self.running.stdin.write((" ".join(map(str, words)) + "\n").encode())
+        answer = self.lines.next(PATIENCE)
+        must(answer is not None, f"cutdisk has ended, or not answered in {PATIENCE} s, at {words}: {self.standing()}")
+        must(answer.split()[:1] == ["ok"], f"cutdisk answers {answer} at {words}")
+        return answer.split()[1:]
+
+    def standing(self):
+        return standing(below(self.running.pid))
 
     def count(self):
         return int(self.ask("count")[0])
@@ -150,21 +214,21 @@ class Disk:
         return {key: int(value) for key, value in (it.split("=") for it in self.ask("told", cut))}
 
     def end(self):
-        self.running.kill()
-        self.running.wait()
+        must_end(self.running, "cutdisk")
 
 
 class Guest:
     """A machine whose disk is cutdisk's. It runs the lines that it is sent. With a port of this machine, it serves by that."""
 
     def __init__(self, parts, disk, kind, memory, port, *words):
-        self.disk, self.got, path = disk, b"", free(f"{parts.folder}/control")
+        self.disk, path = disk, free(f"{parts.folder}/control")
         with socket.socket(socket.AF_UNIX) as door:
             door.bind(path)
             door.listen(1)
             door.settimeout(120)
             self.running = subprocess.Popen([*self.words(parts, kind, memory, path, port), *words], stdin=subprocess.DEVNULL)
             self.port, _ = door.accept()
+        self.lines = Lines(self.port)
 
     def words(self, parts, kind, memory, control, port):
         # A second processor, or a newer one, costs more in translation than it gives.
@@ -189,16 +253,15 @@ class Guest:
             *["-device", "virtserialport,chardev=c,name=control", "-device", "virtserialport,chardev=t,name=told", *network],
         ]
 
-    def line(self, seconds):
-        until = time.monotonic() + seconds
-        while b"\n" not in self.got:
-            ready, _, _ = select.select([self.port], [], [], max(0, until - time.monotonic()))
-            more = self.port.recv(65536) if ready else b""
-            if not more:
-                raise TimeoutError
-            self.got += more
-        line, _, self.got = self.got.partition(b"\n")
-        return line.decode(errors="replace")
+    def line(self, seconds, asked="its start"):
+        line = self.lines.next(seconds)
+        if line is None:
+            raise TimeoutError(f"a machine has ended, or not answered in {seconds} s, at {asked[:300]}: {self.standing()}")
+        return line
+
+    def standing(self):
+        """What is known of a machine that doesn't answer."""
+        return f"{standing(below(self.running.pid))}; cutdisk: {self.disk.standing()}"
 
     def send(self, line):
         self.port.sendall(line.encode() + b"\n")
@@ -207,13 +270,14 @@ class Guest:
         """The status of the line, and what it prints."""
         self.send(line)
         printed = []
-        while not (last := self.line(seconds)).startswith("END "):
+        while not (last := self.line(seconds, line)).startswith("END "):
             printed.append(last)
         return int(last[4:]), printed
 
     def save(self, monitor, path):
         """Writes the machine as it stands to a file."""
         with socket.socket(socket.AF_UNIX) as asked:
+            asked.settimeout(PATIENCE)
             asked.connect(monitor)
             answers = asked.makefile()
             for words in ({"execute": "qmp_capabilities"}, {"execute": "migrate", "arguments": {"uri": f"exec:cat >{path}"}}):
@@ -226,9 +290,10 @@ class Guest:
                 status = next(it for it in map(json.loads, answers) if "status" in it.get("return", {}))["return"]["status"]
 
     def end(self):
-        self.running.send_signal(signal.SIGKILL)
-        self.running.wait()
-        self.port.close()
+        try:
+            must_end(self.running, "a machine")
+        finally:
+            self.port.close()
 
     def cut(self):
         """The power fails."""

@@ -3,11 +3,12 @@
 Their disk is cutdisk's file, mounted by FUSE, behind a loop device. A cut ends the programs, and what the kernel writes from then on is in no
 record: what is in its caches is lost, as if the machine had lost its power. The kernel itself goes on, and so does all else that runs.
 """
+import glob
 import os
 import socket
 import subprocess
 
-from machines import HERE, Disk, Guest, Parts, is_installed, must, must_run
+from machines import HERE, Disk, Guest, Lines, Parts, is_installed, must, must_run, standing
 
 WANTED = ("losetup", "unshare", "busybox", "mkfs.ext4", "cc", "cpio")
 
@@ -39,30 +40,47 @@ class FuseDisk(Disk):
         """The names stand for what is mounted there, and for a FIFO."""
 
     def end(self):
-        super().end()
-        must_run("umount", "--lazy", self.socket)
+        """What still waits for the disk gets an error, so that it ends."""
+        try:
+            must_run("umount", "--force", "--lazy", self.socket)
+        finally:
+            super().end()
 
 
 class Programs(Guest):
     """Processes that are taken for a machine."""
 
     def __init__(self, parts, disk):
-        self.disk, self.got = disk, b""
+        self.disk = disk
         self.loop = must_run("losetup", "--find", "--show", "--direct-io=on", disk.socket).strip()
         self.port, theirs = socket.socketpair()
         words = ["unshare", "--mount", "--pid", "--fork", "--kill-child", f"{HERE}/native", parts.root, self.loop, disk.told_by]
         with theirs:
             self.running = subprocess.Popen(words, stdin=theirs, stdout=theirs)
-        must(self.line(60) == "READY", "programs don't begin")
+        self.lines = Lines(self.port)
+        try:
+            must(self.line(60) == "READY", "programs don't begin")
+        except BaseException:
+            self.end()
+            raise
+
+    def standing(self):
+        """The kernel's own tasks that wait for a disk may tell more than the programs."""
+        waiting = (it for it in glob.glob("/proc/[0-9]*/task/*") if standing([it]).partition(" ")[2].startswith("D"))
+        return f"{super().standing()}; waiting for a disk: {standing(waiting)}"
 
     def end(self):
-        super().end()
-        must_run("losetup", "--detach", self.loop)
+        try:
+            super().end()
+        finally:
+            must_run("losetup", "--detach", self.loop)
 
     def cut(self):
         """What was asked by now has come to the disk. The loop device ends once the file system is let go of."""
-        self.disk.ask("stop")
-        super().cut()
+        try:
+            self.disk.ask("stop")
+        finally:
+            super().cut()
 
 
 class NativeParts(Parts):

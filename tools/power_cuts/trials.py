@@ -94,6 +94,7 @@ class Trial:
         self.disk = parts.disk(self.chance.getrandbits(30))
         self.counts = dict.fromkeys(("states", "volatile", "in recovery", "true", "failures", "wrong", "absent", "unmounted"), 0)
         self.is_made, self.first_wrong, self.lines = bool(self.work.least), "", []
+        self.tells_at = time.monotonic() + 60
 
     def command(self, text):
         return text.replace(LEASES, getattr(self.parts, "leases", ""))
@@ -117,8 +118,8 @@ class Trial:
         return 0
 
     def cut(self):
-        self.guest.cut()
-        self.guest = None
+        guest, self.guest = self.guest, None
+        guest.cut()
 
     def begin(self):
         left_out = f"WITHOUT_SYNC={self.run.without} " if self.run.without else ""
@@ -185,15 +186,21 @@ class Trial:
         return "; ".join([self.mount(), *map(self.command, tries)])
 
     def look(self, is_reversed=False, stays=False):
-        """What a machine prints that mounts and recovers what the disk has. One that hangs is cut, once."""
-        end = "true" if stays or self.run.system == "none" else "umount /mnt"
+        """What a machine prints that mounts and recovers what the disk has. One that hangs is told of, and cut, once."""
+        end, hangs = "true" if stays or self.run.system == "none" else "umount /mnt", ""
         for _ in range(2):
             try:
                 self.switched_on()
                 return self.printed(is_reversed, end)
-            except TimeoutError:
-                self.cut()
-        return ["the guest hangs"]
+            except TimeoutError as error:
+                hangs = f"the guest hangs: {error}"
+                print(f"{self.run.name()}: {hangs}", flush=True)
+                self.cut_if_on()
+        return [hangs]
+
+    def cut_if_on(self):
+        if self.guest is not None:
+            self.cut()
 
     def printed(self, is_reversed, end):
         return tries_of(self.guest.run(f"{self.looks(is_reversed)}; {end}")[1])
@@ -219,10 +226,17 @@ class Trial:
         self.counts["absent"] += verdict.is_absent
         self.counts["unmounted"] += verdict.is_unmounted
         self.counts["wrong"] += bool(verdict.wrong)
+        self.tell_progress()
         if verdict.wrong and not self.first_wrong:
             self.first_wrong = f"{where}: {verdict.wrong}"
             if not self.run.leaves_out():
                 self.first_wrong = f"{self.keep(known, where, is_reversed, state)}: {self.first_wrong}"
+
+    def tell_progress(self):
+        """Tells once a minute how far a run has come, so that a slow one isn't taken for one that hangs."""
+        if time.monotonic() >= self.tells_at:
+            self.tells_at = time.monotonic() + 60
+            print(f"{self.run.name()}: so far {', '.join(f'{count} {name}' for name, count in self.counts.items() if count)}", flush=True)
 
     def keep(self, known, where, is_reversed, state):
         """Keeps the state that the last look has found wrong: the disk, and what is known of it. Where it lies."""
@@ -308,8 +322,7 @@ class Trial:
 
     def try_true_cuts(self, number):
         """The record's own cut, and so many more of the disk that it leaves, one in three of them in mount and recovery."""
-        if self.guest is not None:
-            self.cut()
+        self.cut_if_on()
         told, floor = self.disk.told(self.end), ()
         self.disk.ask("state", self.end, *self.policy())
         for i in range(number + 1):
@@ -341,6 +354,8 @@ class Trial:
             self.try_true_cuts(self.run.true)
 
     def end_all(self):
-        if self.guest is not None:
-            self.guest.end()
-        self.disk.end()
+        try:
+            if self.guest is not None:
+                self.guest.end()
+        finally:
+            self.disk.end()
