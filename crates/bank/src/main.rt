@@ -1,10 +1,10 @@
 //! Four threads that transfer between accounts in the file accounts.heap. Each transfer is durable before its thread makes the next one.
 
-use file_threads::{
-    FieldId, HeapThread, Joint, ObjectId, Schema, SchemaBuilder, SessionError, Work, run_file,
-};
 use std::alloc::Global;
 use std::sync::Wait;
+use thread_files::{
+    FieldId, HeapThread, Joint, ObjectId, Schema, SchemaBuilder, SessionError, Work, run_file,
+};
 
 const ACCOUNTS: u32 = 8;
 

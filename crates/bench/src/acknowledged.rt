@@ -1,7 +1,7 @@
 //! What a store has acknowledged.
 ghost use Rattle.std.specs.Prelude.{◌≡◌, ◌≤◌, ◌<◌, ◌^◌, ◌+◌, ℕ};
 ghost use Rattle.heap_model.specs.Setting.{Setting};
-ghost use Rattle.store_past.specs.Past.{Past};
+ghost use Rattle.heap_model.specs.Past.{Past};
 ghost use Rattle.durable.specs.Store.{HasPast};
 
 use block_disk::Disk;

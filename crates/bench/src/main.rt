@@ -21,9 +21,9 @@ mod stopped;
 mod trimming;
 mod words;
 
+use disk_file::{BackingFile, BufferedDisk, FileError, VolatileDisk};
 use durable::Store;
 use figures::{Figures, print_figures};
-use file_disk::{BackingFile, BufferedDisk, FileError, VolatileDisk};
 use holding_back::{HeldBack, hold_back, print_held_back};
 use measuring::{CAPACITY, image_size, measure, open};
 use memory::print_memory;

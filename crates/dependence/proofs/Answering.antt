@@ -4,7 +4,7 @@ use Rattle.std.specs.List.{filter}
 use Rattle.std.proofs.lemmas.Bool.{and_parts, leb-true, leb-false, le-leb, lt-leb, cases_Bool, cases_lt, not-true}
 use Rattle.heap_model.specs.Log.{lane}
 use Rattle.heap_model.specs.Sections.{Action, Takes, Frees, Stores, undo_action, ended}
-use Rattle.cut_laws.specs.Plain.{takes_after, counts, is_blocked_by, IsClosedOver, IsGreatest}
+use Rattle.law_cuts.specs.Plain.{takes_after, counts, is_blocked_by, IsClosedOver, IsGreatest}
 use Rattle.dependence.specs.declared.step.Step.{Step}
 use Rattle.dependence.specs.Trace.{growth}
 use Rattle.dependence.specs.Steps.{reading, log_of, HasSections}

@@ -2,7 +2,7 @@
 use Rattle.std.proofs.Common.{ℕ, zero, suc, ◌≡◌, ◌≢◌, ◌+◌, ◌<◌, ◌≤◌, List, [], ◌∷◌, ◌++◌, Option, Some, None, length, get_or, replicate, slice_index, slice_set, sym, ap, ◌∙◌, subst, inl, inr, arith, length-set, get_or-set_same, get_or-set_other}
 use Rattle.std.proofs.lemmas.Bool.{cases_eq}
 use Rattle.heap_model.specs.Sections.{Action, Stores, undo_action}
-use Rattle.cut_laws.specs.Plain.{takes_after, IsClosedOver}
+use Rattle.law_cuts.specs.Plain.{takes_after, IsClosedOver}
 use Rattle.dependence.specs.declared.section.Dependence.{Dependence}
 use Rattle.dependence.specs.declared.step.Step.{Step}
 use Rattle.dependence.specs.Steps.{reading}

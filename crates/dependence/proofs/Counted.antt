@@ -5,7 +5,7 @@ use Rattle.std.proofs.lemmas.Bool.Decides.{eqb_tells}
 use Rattle.std.proofs.lemmas.List.{get_or-map, length-reverse}
 use Rattle.heap_model.specs.Log.{lane}
 use Rattle.heap_model.specs.Sections.{Action, Takes, Frees, Stores, without, holding, ended}
-use Rattle.cut_laws.proofs.Stores.{ended_rises}
+use Rattle.law_cuts.proofs.Stores.{ended_rises}
 use Rattle.dependence.specs.declared.step.Step.{Step}
 use Rattle.dependence.specs.Counts.{held_after, ended_after, IsHeldBy}
 use Rattle.dependence.specs.Next.{IsNext}

@@ -3,7 +3,7 @@ use Rattle.std.proofs.Common.{ℕ, ◌≡◌, ◌≢◌, ◌+◌, ◌-◌, ◌<�
 use Rattle.std.proofs.lemmas.Bool.{and_parts, leb-true, leb-false, lt-leb, cases_Bool, cases_eq, cases_lt, not-true}
 use Rattle.std.proofs.lemmas.List.{get_or-map}
 use Rattle.heap_model.specs.Sections.{undo_action}
-use Rattle.cut_laws.specs.Plain.{takes_after, counts, is_blocked_by, IsClosedOver}
+use Rattle.law_cuts.specs.Plain.{takes_after, counts, is_blocked_by, IsClosedOver}
 use Rattle.dependence.specs.declared.section.Dependence.{Dependence}
 use Rattle.dependence.specs.declared.step.Step.{Step}
 use Rattle.dependence.specs.declared.links.Links.{Links}

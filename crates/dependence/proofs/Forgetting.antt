@@ -6,7 +6,7 @@ use Rattle.heap_model.specs.declared.cut.Cut.{Cut}
 use Rattle.heap_model.specs.Cuts.{counts_of, IsWhole}
 use Rattle.heap_model.specs.Sections.{Action}
 use Rattle.heap_model.specs.Base.{since}
-use Rattle.cut_laws.specs.Plain.{IsClosedOver}
+use Rattle.law_cuts.specs.Plain.{IsClosedOver}
 use Rattle.dependence.specs.declared.step.Step.{Step}
 use Rattle.dependence.specs.declared.graph.Graph.TheInside.{Inside}
 use Rattle.dependence.specs.Trace.{beyond}

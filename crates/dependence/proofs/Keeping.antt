@@ -6,7 +6,7 @@ use Rattle.heap_model.specs.declared.cut.Cut.{Cut}
 use Rattle.heap_model.specs.Cuts.{counts_of}
 use Rattle.heap_model.specs.Log.{lane}
 use Rattle.heap_model.specs.Sections.{Action, Stores, undo_action, ended}
-use Rattle.cut_laws.specs.Plain.{takes_after, IsClosedOver, IsGreatest}
+use Rattle.law_cuts.specs.Plain.{takes_after, IsClosedOver, IsGreatest}
 use Rattle.dependence.specs.declared.step.Step.{Step}
 use Rattle.dependence.specs.declared.links.Links.{Links}
 use Rattle.dependence.specs.declared.neighbours.Neighbours.{Neighbours}

@@ -3,7 +3,7 @@ use Rattle.std.proofs.Common.{ℕ, zero, suc, ◌≡◌, ◌≢◌, ◌+◌, ◌
 use Rattle.std.proofs.lemmas.Bool.{and_parts, eqb-true, eq-eqb, cases_eq, cases_lt, cases_Bool}
 use Rattle.std.proofs.lemmas.List.{get_or_past, get_or-map}
 use Rattle.heap_model.specs.Sections.{Action, Takes, Frees, Stores, undo_action}
-use Rattle.cut_laws.specs.Plain.{takes_after}
+use Rattle.law_cuts.specs.Plain.{takes_after}
 use Rattle.dependence.specs.declared.step.Step.{Step}
 use Rattle.dependence.specs.Links.{acts_in, act_at, checked_release, object_of, with_release, freed_after}
 use Rattle.dependence.specs.Kept.{IsPaired, LastRelease}

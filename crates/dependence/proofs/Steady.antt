@@ -5,8 +5,8 @@ use Rattle.std.proofs.lemmas.List.{get_or-reverse, length-reverse}
 use Rattle.heap_model.specs.Log.{lane}
 use Rattle.heap_model.specs.Sections.{undo_action, ended}
 use Rattle.heap_model.specs.Cuts.{IsStable}
-use Rattle.cut_laws.specs.Plain.{Reading, takes_after, counts, is_blocked_by, IsClosedOver, IsGreatest, IsNumbered}
-use Rattle.cut_laws.proofs.PlainStable.{plain_stable}
+use Rattle.law_cuts.specs.Plain.{Reading, takes_after, counts, is_blocked_by, IsClosedOver, IsGreatest, IsNumbered}
+use Rattle.law_cuts.proofs.PlainStable.{plain_stable}
 use Rattle.dependence.specs.declared.step.Step.{Step}
 use Rattle.dependence.specs.Steps.{reading, log_of, HasSections}
 use Rattle.dependence.proofs.Falling.{lane_is, section_is}

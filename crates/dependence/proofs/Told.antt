@@ -1,7 +1,7 @@
 -- What a reason tells of the graph.
 use Rattle.std.proofs.Common.{ℕ, ◌≡◌, ◌+◌, ◌<◌, ◌≤◌, ◌↔◌, reverse, slice_index, Option, Some, None, IsSome, IfSome, MatchOption, true, false, refl, ap, inl, inr, arith}
 use Rattle.heap_model.specs.Cuts.{IsStable}
-use Rattle.cut_laws.proofs.Existence.{stable_once}
+use Rattle.law_cuts.proofs.Existence.{stable_once}
 use Rattle.dependence.specs.declared.section.Dependence.{Dependence}
 use Rattle.dependence.specs.declared.graph.Graph.TheInside.{Inside}
 use Rattle.dependence.specs.Trace.{section_since, IsStableOf}

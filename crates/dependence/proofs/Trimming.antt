@@ -9,10 +9,10 @@ use Rattle.heap_model.specs.Log.{lane}
 use Rattle.heap_model.specs.Sections.{Action, Takes, Frees, Stores, without, holding, ended}
 use Rattle.heap_model.specs.Cuts.{counts_of, IsWhole, IsStable, is_counted}
 use Rattle.heap_model.specs.Base.{since}
-use Rattle.cut_laws.proofs.Stores.{ended_rises}
-use Rattle.cut_laws.proofs.Trimmed.{ends_free, since_counts}
-use Rattle.cut_laws.proofs.PartTrimmed.{part_trim_stable}
-use Rattle.cut_laws.proofs.Existence.{stable_exists, stable_once}
+use Rattle.law_cuts.proofs.Stores.{ended_rises}
+use Rattle.law_cuts.proofs.Trimmed.{ends_free, since_counts}
+use Rattle.law_cuts.proofs.PartTrimmed.{part_trim_stable}
+use Rattle.law_cuts.proofs.Existence.{stable_exists, stable_once}
 use Rattle.dependence.specs.declared.step.Step.{Step}
 use Rattle.dependence.specs.Trace.{Trace, base_of, beyond, IsStableOf}
 use Rattle.dependence.specs.Next.{IsBelow}

@@ -2,7 +2,7 @@
 use Rattle.std.specs.Prelude.{ℕ, ◌≡◌, ◌+◌, ◌<◌, ◌≤◌, ◌⊎◌, true, List, [], ◌∷◌, length, slice_index, vec_len, vec_capacity}
 use Rattle.heap_model.specs.Log.{lane}
 use Rattle.heap_model.specs.Sections.{Action, Takes, Frees, Stores, holding, ended}
-use Rattle.cut_laws.specs.Plain.{takes_after}
+use Rattle.law_cuts.specs.Plain.{takes_after}
 use Rattle.dependence.specs.declared.step.Step.{Step}
 use Rattle.dependence.specs.declared.links.Links.{Links}
 use Rattle.dependence.specs.Next.{IsBelow}

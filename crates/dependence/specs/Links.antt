@@ -1,7 +1,7 @@
 -- What the links of one more step are.
 use Rattle.std.specs.Prelude.{ℕ, ◌+◌, if◌then◌else◌, zero, suc, List, map, get_or, slice_set}
 use Rattle.heap_model.specs.Sections.{Action, Takes, Frees, Stores, undo_action}
-use Rattle.cut_laws.specs.Plain.{takes_after}
+use Rattle.law_cuts.specs.Plain.{takes_after}
 use Rattle.dependence.specs.declared.step.Step.{Step}
 use Rattle.dependence.specs.declared.neighbours.Neighbours.{Neighbours}
 

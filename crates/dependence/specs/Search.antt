@@ -1,6 +1,6 @@
 -- The search for the stable cut: a cut that falls, why it does in each lane, and there the place + 1 of the newest step that is left.
 use Rattle.std.specs.Prelude.{ℕ, ◌≡◌, ◌+◌, ◌-◌, ◌*◌, ◌<◌, ◌≤◌, ◌⊎◌, true, List, Option, Some, length, get_or, slice_index}
-use Rattle.cut_laws.specs.Plain.{takes_after, IsClosedOver, IsGreatest}
+use Rattle.law_cuts.specs.Plain.{takes_after, IsClosedOver, IsGreatest}
 use Rattle.dependence.specs.declared.section.Dependence.{Dependence}
 use Rattle.dependence.specs.declared.step.Step.{Step}
 use Rattle.dependence.specs.Trace.{growth}

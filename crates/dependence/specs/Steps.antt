@@ -2,7 +2,7 @@
 use Rattle.std.specs.Prelude.{ℕ, ◌≡◌, ◌+◌, List, [], ◌∷◌, map}
 use Rattle.heap_model.specs.Log.{lane}
 use Rattle.heap_model.specs.Sections.{Action, undo_action, ended}
-use Rattle.cut_laws.specs.Plain.{Reading}
+use Rattle.law_cuts.specs.Plain.{Reading}
 use Rattle.dependence.specs.declared.step.Step.{Step}
 
 -- what a step did, and in which lane

@@ -2,7 +2,7 @@
 
 ghost use Rattle.std.specs.Prelude.{◌≡◌, ◌+◌, ◌^◌, ◌<◌, ◌≤◌, ℕ, MatchOption, length, slice_index};
 ghost use Rattle.heap_model.specs.Cuts.{counts_of};
-ghost use Rattle.cut_laws.specs.Plain.{IsClosedOver};
+ghost use Rattle.law_cuts.specs.Plain.{IsClosedOver};
 ghost use Rattle.dependence.specs.Trace.{growth};
 ghost use Rattle.dependence.specs.Steps.{reading};
 ghost use Rattle.dependence.specs.Kept.{IsLinked};

@@ -3,7 +3,7 @@
 ghost use Rattle.std.specs.Prelude.{◌≡◌, ◌≢◌, ◌+◌, ◌-◌, ◌<◌, ◌≤◌, ◌↔◌, ℕ, List, true, false, IsTrue, MatchOption, length, slice_index, get_or, sum};
 ghost use Rattle.heap_model.specs.Sections.{undo_action};
 ghost use Rattle.heap_model.specs.Cuts.{counts_of};
-ghost use Rattle.cut_laws.specs.Plain.{IsClosedOver, takes_after};
+ghost use Rattle.law_cuts.specs.Plain.{IsClosedOver, takes_after};
 ghost use Rattle.dependence.specs.declared.step.Step.{Step as AnyStep};
 ghost use Rattle.dependence.specs.Steps.{reading};
 ghost use Rattle.dependence.specs.Links.{acts_in, act_at};

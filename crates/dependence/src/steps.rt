@@ -3,7 +3,7 @@
 ghost use Rattle.std.specs.Prelude.{◌≡◌, ◌≤◌, ◌+◌, ◌<◌, ℕ, length, slice_index, nat_lt, vec_len, vec_capacity};
 ghost use Rattle.std.specs.List.{filter};
 ghost use Rattle.heap_model.specs.Sections.{undo_action};
-ghost use Rattle.cut_laws.specs.Plain.{takes_after};
+ghost use Rattle.law_cuts.specs.Plain.{takes_after};
 
 use crate::step::Step;
 use heap_model::UndoRecord;

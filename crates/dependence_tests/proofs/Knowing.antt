@@ -7,7 +7,7 @@ use Rattle.heap_model.specs.Sections.{Action, Takes, Frees, Stores, without, hol
 use Rattle.heap_model.specs.declared.cut.Cut.{Cut}
 use Rattle.heap_model.specs.Cuts.{counts_of, IsWhole}
 use Rattle.heap_model.specs.Base.{since}
-use Rattle.cut_laws.proofs.Trimmed.{since_counts}
+use Rattle.law_cuts.proofs.Trimmed.{since_counts}
 use Rattle.dependence.specs.Trace.{Trace, base_of, beyond, IsStableOf}
 use Rattle.dependence.proofs.Coming.{first_held, later_held, still_held}
 use Rattle.dependence.proofs.Trimming.{below_since, holding_since}

@@ -3,9 +3,9 @@
 ghost use Rattle.std.specs.Prelude.{◌<◌, ◌≤◌, ◌^◌};
 
 use crate::told::Told;
-use cut_laws::plain;
 use dependence::Dependence;
 use heap_model::{Cut, FieldId, Lane, LaneRecord, ObjectId, Record};
+use law_cuts::plain;
 use std::alloc::Global;
 
 // A constant's value may call no function, so a lane's records are spelt by macros.

@@ -1,7 +1,7 @@
 //! Disks that forget, over files that fail.
 use crate::flaky_file::Medium;
 use crate::steps::{BEYOND, FAULT, OK, Step, go_so, go_so_alone};
-use file_disk::{BufferedDisk, FileError, VolatileDisk};
+use disk_file::{BufferedDisk, FileError, VolatileDisk};
 use std::alloc::Global;
 use std::fs;
 

@@ -1,6 +1,6 @@
 //! A short life of a deferred disk, and the calls that its host makes of it.
 use block_disk::Disk;
-use deferred_disk::{DeferredDisk, DeviceCall, HostCalls, SYNCS};
+use disk_deferred::{DeferredDisk, DeviceCall, HostCalls, SYNCS};
 use std::alloc::Global;
 
 // Makes the next call on this device. Answers whether there was one.

@@ -2,7 +2,7 @@
 use crate::flaky_file::Medium;
 use crate::steps::{BEYOND, FAULT, OK, Step, go_so, go_so_alone};
 use block_disk::Disk;
-use file_disk::{BackingFile, FileDisk, FileError};
+use disk_file::{BackingFile, FileDisk, FileError};
 use std::alloc::Global;
 use std::fs;
 

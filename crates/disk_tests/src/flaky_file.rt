@@ -1,5 +1,5 @@
 //! A file in memory that fails, is interrupted and moves a byte at a time.
-use file_disk::{BackingFile, read_there, write_there};
+use disk_file::{BackingFile, read_there, write_there};
 use std::cell::Cell;
 use std::io;
 use std::io::{ErrorKind, Read, Seek, SeekFrom, Write};

@@ -1,4 +1,4 @@
-//! Tests of: block_disk, file_disk, deferred_disk.
+//! Tests of: block_disk, disk_file, disk_deferred.
 //!
 //! Tests of disks, by public calls.
 //!

@@ -16,7 +16,7 @@ use Rattle.image.specs.declared.layout.Layout.{Layout}
 use Rattle.undo_log.specs.Dropped.{undo_logs}
 use Rattle.undo_log.specs.StandsFor.{row_of}
 use Rattle.undo_log.proofs.Back.{length_undo}
-use Rattle.store_past.specs.Past.{Past, after_settle, after_trim}
+use Rattle.heap_model.specs.Past.{Past, after_settle, after_trim}
 use Rattle.store_image.specs.Consistent.{IsConsistent, ShowsEither}
 use Rattle.store_image.specs.declared.committed.Committed.{Committed}
 use Rattle.store_image.proofs.Places.{records_within, cut_place}

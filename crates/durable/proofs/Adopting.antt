@@ -8,7 +8,7 @@ use Rattle.image.specs.Recovered.{IsRecovered}
 use Rattle.image.specs.declared.guard_row.GuardRow.{GuardRow}
 use Rattle.image.specs.declared.layout.Layout.{Layout}
 use Rattle.image.specs.declared.slot.Slot.{Slot}
-use Rattle.store_past.specs.Past.{no_past}
+use Rattle.heap_model.specs.Past.{no_past}
 use Rattle.store_memory.specs.Begin.{AreFieldsOf}
 use Rattle.durable.specs.Begin.{HasRows, IsSettingOf}
 use Rattle.store_image.specs.Consistent.{IsConsistent}

@@ -21,7 +21,7 @@ use Rattle.image.specs.declared.layout.Layout.{Layout}
 use Rattle.image.specs.declared.slot.Slot.{Slot}
 use Rattle.image.proofs.Commits.{steady_now}
 use Rattle.undo_log.specs.StandsFor.{AreRowsOf, guard_in, is_transient_in}
-use Rattle.store_past.specs.Past.{Past, IsPast, applied, no_past, after_apply}
+use Rattle.heap_model.specs.Past.{Past, IsPast, applied, no_past, after_apply}
 use Rattle.store_image.specs.Consistent.{HasParts, IsConsistent}
 use Rattle.store_image.specs.declared.committed.Committed.{Committed}
 

@@ -5,12 +5,12 @@ use Rattle.heap_model.specs.Setting.{Setting}
 use Rattle.heap_model.specs.Log.{lane, value}
 use Rattle.heap_model.specs.Sections.{actions, holding}
 use Rattle.heap_model.specs.KeptHeap.{kept_value}
-use Rattle.cut_laws.proofs.Next.{legal_before}
+use Rattle.law_cuts.proofs.Next.{legal_before}
 use Rattle.block_disk.specs.Device.{Device}
 use Rattle.block_disk.specs.Images.{Always}
 use Rattle.image.specs.Cells.{HasCell}
 use Rattle.undo_log.specs.StandsFor.{StandsFor}
-use Rattle.store_past.specs.Past.{Past, applied}
+use Rattle.heap_model.specs.Past.{Past, applied}
 use Rattle.store_image.specs.KeptHeap.{values_below, kept_heap, StandsForCut}
 use Rattle.store_image.proofs.Stands.{stands_always}
 use Rattle.durable.specs.Calls.{HasOpen, IsWritten}

@@ -4,7 +4,7 @@ use Rattle.heap_model.specs.Setting.{Setting}
 use Rattle.block_disk.specs.Device.{Device, Moment, LeftIn, LeftSince}
 use Rattle.block_disk.specs.Images.{Continues, LeavesOnly}
 use Rattle.image.specs.declared.layout.Layout.{Layout}
-use Rattle.store_past.specs.Past.{Past}
+use Rattle.heap_model.specs.Past.{Past}
 use Rattle.durable.specs.Calls.{MakeAll, ShowsAfterSome}
 use Rattle.durable.specs.Moments.{LeftBetween, LeftUpTo}
 use Rattle.durable.specs.Store.{ShowsStep, Shows, ShowsLogged, ShowsSettled, ShowsTrimmed, ShowsAcknowledged, doubt_in}

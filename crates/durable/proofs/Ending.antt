@@ -15,7 +15,7 @@ use Rattle.store_memory.specs.Begin.{IsLeastDirtyOf}
 use Rattle.durable.specs.Calls.{HasOpen, IsClean}
 use Rattle.store_memory.specs.declared.states.LaneState.{LaneState}
 use Rattle.store_memory.specs.Memory.{Memory, new_lane}
-use Rattle.store_past.specs.Past.{Past}
+use Rattle.heap_model.specs.Past.{Past}
 use Rattle.store_memory.specs.Remembers.{held_of, Remembers}
 use Rattle.durable.specs.Store.{Known, HasPast}
 use Rattle.store_memory.proofs.Begins.{none_held}

@@ -1,6 +1,6 @@
 -- What each call promises, said of it as a value.
 use Rattle.std.proofs.Common.{◌≡◌, ◌≢◌, ◌+◌, ◌⊎◌, ℕ, false, Result, Ok, Err, IfErr, OnErr, refl, sym, ap, inr, subst, arith}
-use Rattle.cut_laws.proofs.Existence.{stable_exists}
+use Rattle.law_cuts.proofs.Existence.{stable_exists}
 use Rattle.heap_model.specs.declared.ids.Lane.{Lane}
 use Rattle.heap_model.specs.declared.record.Record.{Record}
 use Rattle.heap_model.specs.Sections.{actions}
@@ -10,9 +10,9 @@ use Rattle.block_disk.proofs.Images.{begin}
 use Rattle.store_image.specs.Sequences.{ShowsUpTo}
 use Rattle.store_image.specs.Steps.{step_ranges}
 use Rattle.store_image.specs.declared.home.Home.{Home}
-use Rattle.store_past.specs.Past.{after_log}
-use Rattle.store_past.specs.declared.error.StoreError.{StoreError}
-use Rattle.store_past.specs.declared.error.StoreError.TheVariants.{Fault}
+use Rattle.heap_model.specs.Past.{after_log}
+use Rattle.heap_model.specs.declared.store_error.StoreError.{StoreError}
+use Rattle.heap_model.specs.declared.store_error.StoreError.TheVariants.{Fault}
 use Rattle.durable.specs.Calls.{after_home_step}
 use Rattle.durable.specs.Plays.{MakesCall}
 use Rattle.durable.specs.Steps.{Applies, Commits, GoesHome, IsPastOf, Logs, Settles, Trims}

@@ -3,8 +3,8 @@ use Rattle.std.proofs.Common.{ℕ}
 use Rattle.heap_model.specs.declared.record.Record.{Record}
 use Rattle.heap_model.specs.Setting.{Setting}
 use Rattle.heap_model.specs.Log.{IsLegal}
-use Rattle.cut_laws.specs.Laws.{StayLaw}
-use Rattle.store_past.specs.Past.{Past, IsPast, applied, after_apply, after_log, after_home, after_settle}
+use Rattle.law_cuts.specs.Laws.{StayLaw}
+use Rattle.heap_model.specs.Past.{Past, IsPast, applied, after_apply, after_log, after_home, after_settle}
 use Rattle.store_memory.specs.Memory.{Memory}
 use Rattle.store_memory.specs.Remembers.{Remembers}
 

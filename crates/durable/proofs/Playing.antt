@@ -13,8 +13,8 @@ use Rattle.block_disk.specs.Device.{Device, HasCause, HasFailed}
 use Rattle.block_disk.specs.Images.{ImageBut, LeavesOnly}
 use Rattle.block_disk.proofs.Failures.{failed_since}
 use Rattle.block_disk.proofs.Images.{and_then, begin, weaker}
-use Rattle.store_past.specs.declared.error.StoreError.{StoreError}
-use Rattle.store_past.specs.declared.error.StoreError.TheVariants.{Fault}
+use Rattle.heap_model.specs.declared.store_error.StoreError.{StoreError}
+use Rattle.heap_model.specs.declared.store_error.StoreError.TheVariants.{Fault}
 use Rattle.durable.specs.declared.store_call.StoreCall.{StoreCall}
 use Rattle.durable.specs.declared.store_call.StoreCall.TheVariants.{Apply, Settle, Trim}
 use Rattle.store_image.specs.Steps.{step_ranges}
@@ -22,7 +22,7 @@ use Rattle.store_image.proofs.Within.{within_then}
 use Rattle.store_memory.specs.Fresh.{IsOfLanes}
 use Rattle.durable.specs.Runs.{TakesSequences}
 use Rattle.durable.specs.Calls.{AreQuiet, IsClean, IsQuiet, MakeAll, Makes, Reached, RefusesApply, RefusesSettle, RefusesTrim, RefusesCall, ShowsAfterSome, StandsAfterSome, StoppedAt}
-use Rattle.store_past.specs.Past.{Past, applied, after_apply, after_settle, after_trim}
+use Rattle.heap_model.specs.Past.{Past, applied, after_apply, after_settle, after_trim}
 use Rattle.durable.specs.Store.{Known, HasPast, ShowsStep, StandsForStep, doubt_in}
 use Rattle.durable.specs.declared.doubt.Doubt.{Doubt}
 use Rattle.durable.proofs.Sequences.{takes_none, takes_more, takes_then}

@@ -10,9 +10,9 @@ use Rattle.block_disk.specs.Device.{Device}
 use Rattle.block_disk.specs.Images.{Always, LeavesOnly}
 use Rattle.block_disk.proofs.Images.{and_then, begin, weaker}
 use Rattle.image.specs.declared.layout.Layout.{Layout}
-use Rattle.store_past.specs.declared.error.StoreError.{StoreError}
-use Rattle.store_past.specs.declared.error.StoreError.TheVariants.{Fault}
-use Rattle.store_past.specs.Past.{Past, applied, after_settle, after_trim}
+use Rattle.heap_model.specs.declared.store_error.StoreError.{StoreError}
+use Rattle.heap_model.specs.declared.store_error.StoreError.TheVariants.{Fault}
+use Rattle.heap_model.specs.Past.{Past, applied, after_settle, after_trim}
 use Rattle.store_image.specs.Consistent.{IsConsistent}
 use Rattle.store_image.specs.declared.committed.Committed.{Committed}
 use Rattle.store_image.proofs.Stands.{none_logged, shows_always}

@@ -19,9 +19,9 @@ use Rattle.store_image.specs.declared.committed.Committed.{Committed}
 use Rattle.store_memory.specs.Begin.{IsLeastDirtyOf}
 use Rattle.store_memory.specs.Remembers.{Remembers}
 use Rattle.store_memory.specs.Sections.{Logged, place_behind, TellsSections}
-use Rattle.store_past.specs.Past.{Past}
-use Rattle.store_past.specs.declared.error.StoreError.{StoreError}
-use Rattle.store_past.specs.declared.error.StoreError.TheVariants.{Worn, Fault}
+use Rattle.heap_model.specs.Past.{Past}
+use Rattle.heap_model.specs.declared.store_error.StoreError.{StoreError}
+use Rattle.heap_model.specs.declared.store_error.StoreError.TheVariants.{Worn, Fault}
 use Rattle.durable.specs.Calls.{IsClean, RefusesSettle}
 use Rattle.durable.specs.Steps.{IsPastOf}
 use Rattle.durable.specs.Store.{Parts, HasPast, ShowsStep}

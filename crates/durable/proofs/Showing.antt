@@ -7,12 +7,12 @@ use Rattle.heap_model.specs.Record.{undo_of}
 use Rattle.heap_model.specs.Log.{lane}
 use Rattle.heap_model.specs.Sections.{actions}
 use Rattle.heap_model.specs.Cuts.{IsStable}
-use Rattle.cut_laws.proofs.Stays.{cut_stays}
+use Rattle.law_cuts.proofs.Stays.{cut_stays}
 use Rattle.block_disk.specs.Device.{Device}
 use Rattle.image.specs.declared.layout.Layout.{Layout}
 use Rattle.undo_log.specs.Dropped.{undo_logs}
 use Rattle.undo_log.specs.StandsFor.{StandsFor}
-use Rattle.store_past.specs.Past.{Past, IsPast, applied, after_log, after_settle, after_trim}
+use Rattle.heap_model.specs.Past.{Past, IsPast, applied, after_log, after_settle, after_trim}
 use Rattle.store_memory.specs.Fresh.{IsOfLanes}
 use Rattle.store_image.specs.KeptHeap.{kept_heap, StandsForCut}
 use Rattle.durable.specs.Store.{Known, HasPast, ShowsStep, Shows, ShowsLogged, ShowsSettled, ShowsTrimmed, ShowsAcknowledged, StandsForStep, Stands, StandsSettled, StandsAcknowledged}

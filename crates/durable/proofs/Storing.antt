@@ -27,14 +27,14 @@ use Rattle.store_memory.specs.Fresh.{IsOfLanes, undo_log_of}
 use Rattle.store_memory.specs.Limits.{AreWithin, FitWords}
 use Rattle.store_memory.specs.Memory.{Memory, KeepsLayout, lane_in}
 use Rattle.store_image.specs.NewRecords.{FitsLane}
-use Rattle.store_past.specs.Past.{Past, after_apply, after_log, after_home, after_settle, after_trim}
+use Rattle.heap_model.specs.Past.{Past, after_apply, after_log, after_home, after_settle, after_trim}
 use Rattle.store_memory.specs.Remembers.{Remembers}
 use Rattle.store_memory.specs.Sections.{Logged, place_behind, TellsSections, MayBeLogged}
 use Rattle.store_memory.specs.Apply.{Answers}
 use Rattle.store_memory.specs.Begin.{IsLeastDirtyOf}
 use Rattle.durable.specs.Calls.{HasDirty, IsClean, RefusesApply, RefusesSettle}
-use Rattle.store_past.specs.declared.error.StoreError.{StoreError}
-use Rattle.store_past.specs.declared.error.StoreError.TheVariants.{Failed, BadLane, BadId, Worn, NotNext, TooLong, LogFull, Unwritten, Fault, Unfinished}
+use Rattle.heap_model.specs.declared.store_error.StoreError.{StoreError}
+use Rattle.heap_model.specs.declared.store_error.StoreError.TheVariants.{Failed, BadLane, BadId, Worn, NotNext, TooLong, LogFull, Unwritten, Fault, Unfinished}
 use Rattle.store_image.specs.Steps.{MayGoHome, MayLog, MaySettle}
 use Rattle.durable.specs.Store.{Known, Parts, FitsLayout, HasPast, ShowsStep}
 use Rattle.durable.specs.declared.doubt.Doubt.{Doubt}

@@ -13,7 +13,7 @@ use Rattle.image.specs.declared.lane_row.LaneRow.{LaneRow}
 use Rattle.undo_log.specs.Dropped.{undo_logs}
 use Rattle.undo_log.specs.StandsFor.{row_of}
 use Rattle.undo_log.proofs.Back.{length_undo}
-use Rattle.store_past.specs.Past.{Past, IsTrimmed, after_trim}
+use Rattle.heap_model.specs.Past.{Past, IsTrimmed, after_trim}
 use Rattle.store_image.specs.Consistent.{IsConsistent}
 use Rattle.store_image.specs.declared.committed.Committed.{Committed}
 use Rattle.store_image.proofs.Places.{records_within, cut_place}

@@ -10,9 +10,9 @@ use Rattle.store_image.specs.KeptHeap.{StandsForCut, StandsForEither}
 use Rattle.store_image.specs.Sequences.{ShowsUpTo}
 use Rattle.store_image.specs.Steps.{step_ranges}
 use Rattle.store_image.specs.declared.home.Home.{Home}
-use Rattle.store_past.specs.Past.{Past, IsTrimmed}
-use Rattle.store_past.specs.declared.error.StoreError.{StoreError}
-use Rattle.store_past.specs.declared.error.StoreError.TheVariants.{Failed, Worn, Unwritten, Fault}
+use Rattle.heap_model.specs.Past.{Past, IsTrimmed}
+use Rattle.heap_model.specs.declared.store_error.StoreError.{StoreError}
+use Rattle.heap_model.specs.declared.store_error.StoreError.TheVariants.{Failed, Worn, Unwritten, Fault}
 use Rattle.durable.specs.Calls.{RefusesHome, RefusesLog, RefusesTrim}
 use Rattle.durable.specs.Steps.{Acknowledges, Applies, Commits, GoesHome, Logs, Trims, Writes}
 use Rattle.durable.specs.Store.{Known, Parts, HasPast}

@@ -9,15 +9,15 @@ use Rattle.block_disk.specs.Device.{Device, LeftSince}
 use Rattle.block_disk.specs.Images.{LeavesOnly}
 use Rattle.durable.specs.Moments.{LeftUpTo}
 use Rattle.image.specs.declared.layout.Layout.{Layout}
-use Rattle.store_past.specs.declared.error.StoreError.{StoreError}
-use Rattle.store_past.specs.declared.error.StoreError.TheVariants.{Failed, Worn, Unwritten, Fault, Unfinished}
+use Rattle.heap_model.specs.declared.store_error.StoreError.{StoreError}
+use Rattle.heap_model.specs.declared.store_error.StoreError.TheVariants.{Failed, Worn, Unwritten, Fault, Unfinished}
 use Rattle.store_image.specs.declared.home.Home.{Home}
 use Rattle.store_image.specs.declared.home.Home.TheVariants.{Wrote, Done}
 use Rattle.durable.specs.declared.store_call.StoreCall.{StoreCall}
 use Rattle.durable.specs.declared.store_call.StoreCall.TheVariants.{Apply, Log, Home as HomeStep, Settle, Trim}
 use Rattle.store_memory.specs.Apply.{Answers}
 use Rattle.store_memory.specs.Begin.{IsLeastDirtyOf}
-use Rattle.store_past.specs.Past.{Past, IsPast, IsTrimmed, applied, after_apply, after_log, after_home, after_settle, after_trim}
+use Rattle.heap_model.specs.Past.{Past, IsPast, IsTrimmed, applied, after_apply, after_log, after_home, after_settle, after_trim}
 use Rattle.store_memory.specs.Fresh.{IsOfLanes}
 use Rattle.store_memory.specs.Remembers.{held_of}
 pub use Rattle.durable.specs.Store.{IsClean}

@@ -9,9 +9,9 @@ use Rattle.durable.specs.Calls.{AreQuiet, IsQuiet, MakeAll, Makes, Reached, Refu
 use Rattle.durable.specs.Steps.{Commits, IsPastOf, ShowsUpToMeanwhile, WritesWithin}
 use Rattle.durable.specs.Store.{Parts, doubt_in}
 use Rattle.durable.specs.declared.store_call.StoreCall.{StoreCall}
-use Rattle.store_past.specs.Past.{Past}
-use Rattle.store_past.specs.declared.error.StoreError.{StoreError}
-use Rattle.store_past.specs.declared.error.StoreError.TheVariants.{Fault}
+use Rattle.heap_model.specs.Past.{Past}
+use Rattle.heap_model.specs.declared.store_error.StoreError.{StoreError}
+use Rattle.heap_model.specs.declared.store_error.StoreError.TheVariants.{Fault}
 
 -- One call, whichever it is.
 pub record MakesCall {D : Type 0} (device : D → Device) (x y : Parts D) (call : StoreCall) (result : Result (Unit {0}) StoreError) : Type 0 where

@@ -7,7 +7,7 @@ use Rattle.image.specs.declared.layout.Layout.{Layout}
 use Rattle.undo_log.specs.Dropped.{undo_logs}
 use Rattle.store_image.specs.Consistent.{ShowsPast}
 use Rattle.store_image.specs.Sequences.{ShowsUpTo}
-use Rattle.store_past.specs.Past.{Past, IsPast}
+use Rattle.heap_model.specs.Past.{Past, IsPast}
 use Rattle.durable.specs.Calls.{MakeAll, ShowsAfterSome}
 use Rattle.durable.specs.Store.{Known}
 use Rattle.durable.specs.declared.store_call.StoreCall.{StoreCall}

@@ -20,9 +20,9 @@ use Rattle.store_image.specs.Steps.{step_ranges}
 use Rattle.store_image.specs.declared.home.Home.{Home}
 use Rattle.store_image.specs.declared.home.Home.TheVariants.{Done}
 use Rattle.store_memory.specs.Apply.{Answers}
-use Rattle.store_past.specs.Past.{Past, IsTrimmed, after_apply, after_log, after_settle, after_trim}
-use Rattle.store_past.specs.declared.error.StoreError.{StoreError}
-use Rattle.store_past.specs.declared.error.StoreError.TheVariants.{Worn, Fault}
+use Rattle.heap_model.specs.Past.{Past, IsTrimmed, after_apply, after_log, after_settle, after_trim}
+use Rattle.heap_model.specs.declared.store_error.StoreError.{StoreError}
+use Rattle.heap_model.specs.declared.store_error.StoreError.TheVariants.{Worn, Fault}
 
 module _ {D : Type 0} (device : D → Device) where
   -- the store has this past

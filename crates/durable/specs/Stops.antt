@@ -16,8 +16,8 @@ use Rattle.durable.specs.Closed.{applied_heap}
 use Rattle.durable.specs.Steps.{IsPastOf}
 use Rattle.durable.specs.Store.{Parts, ShowsStep, StandsForStep}
 use Rattle.store_image.specs.KeptHeap.{StandsForCut}
-use Rattle.store_past.specs.Past.{Past, applied, no_past}
-use Rattle.store_past.specs.declared.error.StoreError.{StoreError}
+use Rattle.heap_model.specs.Past.{Past, applied, no_past}
+use Rattle.heap_model.specs.declared.store_error.StoreError.{StoreError}
 
 module _ {D : Type 0} (device : D → Device) where
   -- with what was recovered a store begins that was told nothing

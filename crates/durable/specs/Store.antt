@@ -8,7 +8,7 @@ use Rattle.block_disk.specs.Images.{Always}
 use Rattle.image.specs.Layout.{IsLayout}
 use Rattle.image.specs.declared.layout.Layout.{Layout}
 use Rattle.undo_log.specs.Dropped.{undo_logs, records_in}
-use Rattle.store_past.specs.Past.{Past, IsPast, after_log, after_settle, after_trim}
+use Rattle.heap_model.specs.Past.{Past, IsPast, after_log, after_settle, after_trim}
 use Rattle.store_image.specs.Consistent.{TellsCut, ShowsPast, IsConsistent}
 use Rattle.store_image.specs.KeptHeap.{StandsForCut}
 use Rattle.store_memory.specs.Memory.{Memory, lane_in}

@@ -19,7 +19,7 @@ mod store;
 mod store_call;
 
 pub use doubt::Doubt;
+pub use heap_model::StoreError;
 pub use store::Store;
 pub use store_call::StoreCall;
 pub use store_image::{Home, standing_law};
-pub use store_past::StoreError;

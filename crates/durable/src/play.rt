@@ -4,7 +4,7 @@ ghost use Rattle.durable.specs.Plays.{MakesCall, Plays};
 use crate::store::Store;
 use crate::store_call::StoreCall;
 use block_disk::Disk;
-use store_past::StoreError;
+use heap_model::StoreError;
 
 impl<D: Disk> Store<D> {
     /// Makes these calls, in order. It stops at the first refusal, and answers its place among them and the reason; what was

@@ -4,8 +4,8 @@ ghost use Rattle.durable.specs.Steps.{Logs, SettlesAndTrims};
 use crate::doubt::Doubt;
 use crate::store::{Store, kept_cut, starts};
 use block_disk::Disk;
+use heap_model::StoreError;
 use store_image::{Syncs, settle_and_trim};
-use store_past::StoreError;
 
 impl<D: Disk> Store<D> {
     /// Makes all applied records of all lanes durable, and answers how many there were: what [`log_step`](Store::log_step) does.

@@ -6,7 +6,7 @@ ghost use Rattle.image.specs.Layout.{IsLayout};
 ghost use Rattle.undo_log.specs.StandsFor.{row_of};
 ghost use Rattle.durable.specs.Begin.{HasRows, IsSettingOf};
 ghost use Rattle.store_memory.specs.Memory.{lane_in};
-ghost use Rattle.store_past.specs.Past.{Past, applied, no_past};
+ghost use Rattle.heap_model.specs.Past.{Past, applied, no_past};
 ghost use Rattle.store_memory.specs.Remembers.{Remembers};
 ghost use Rattle.store_memory.specs.Sections.{TellsSections};
 ghost use Rattle.durable.specs.Store.{HasPast};
@@ -16,13 +16,12 @@ ghost use Rattle.durable.specs.Stops.{AnswersClose, BeginsWith, ClosesAtHome, Cl
 use crate::beginning::fields_of;
 use crate::doubt::Doubt;
 use block_disk::Disk;
-use heap_model::{Cut, FieldId, Lane, Record};
+use heap_model::{Cut, FieldId, Lane, Record, StoreError};
 use image::{GuardRow, LaneRow, Layout, Recovered, RecoveredParts};
 use std::alloc::{AllocError, Global};
 use std::marker::Model;
 use store_image::{Committed, Home, Syncs, is_trimmed, log_records, settle, trim, write_home};
 use store_memory::{Applied, LoggedSections};
-use store_past::StoreError;
 
 /// A heap whose sections survive a crash whole or not at all, on a device of its own.
 ///
@@ -49,7 +48,7 @@ pub struct Store<D: Disk> {
 
 impl<D: Disk> Model for Store<D> {
     ghost use Rattle.heap_model.specs.Setting.{Setting};
-    ghost use Rattle.store_past.specs.Past.{Past};
+    ghost use Rattle.heap_model.specs.Past.{Past};
     ghost use Rattle.durable.specs.Store.{HasPast, Parts};
 
     ghost Value = { Parts D };

@@ -7,10 +7,10 @@ use Rattle.block_disk.specs.Device.{Device}
 use Rattle.image.specs.declared.layout.Layout.{Layout}
 use Rattle.recover.specs.Recovery.{IsRecovery, OneStudyLaw, RefusesRecovery}
 use Rattle.recover.specs.declared.report.Report.{Report}
-use Rattle.store_past.specs.Past.{Past}
-use Rattle.survival.specs.Promise.{Answer}
+use Rattle.heap_model.specs.Past.{Past}
+use Rattle.law_survival.specs.Promise.{Answer}
 use Rattle.headline.specs.Headline.{Gives}
-use Rattle.running_life.specs.Running.{KeepsRunning}
+use Rattle.law_running.specs.Running.{KeepsRunning}
 
 pub gives_kept : {E : Type 0} (device : E → Device) (there : Device) (answer : Answer E) → OneStudyLaw →
     IfOk answer (λ r. IsRecovery there (device r.0.disk) r.0 r.1) → IfErr answer (λ back. RefusesRecovery there.now.bytes back.1) →

@@ -8,14 +8,14 @@ use Rattle.heap_model.specs.Setting.{Setting}
 use Rattle.block_disk.specs.Device.{Device}
 use Rattle.image.specs.declared.layout.Layout.{Layout}
 use Rattle.monitor.specs.Seats.{Home}
-use Rattle.steps.specs.Views.{plan}
+use Rattle.thread_steps.specs.Views.{plan}
 use Rattle.store_image.specs.KeptHeap.{kept_heap}
-use Rattle.store_past.specs.Past.{Past}
-use Rattle.store_past.specs.declared.error.StoreError.{StoreError}
-use Rattle.survival.specs.Promise.{Answer}
-use Rattle.survival.specs.WholeRun.{CannotRecover, MayBeLeft}
+use Rattle.heap_model.specs.Past.{Past}
+use Rattle.heap_model.specs.declared.store_error.StoreError.{StoreError}
+use Rattle.law_survival.specs.Promise.{Answer}
+use Rattle.law_survival.specs.WholeRun.{CannotRecover, MayBeLeft}
 use Rattle.trim_helper.specs.Parts.{IsServing, Parts}
-use Rattle.running_life.specs.Running.{GoesOnLegally, HasMadeRound, Rests}
+use Rattle.law_running.specs.Running.{GoesOnLegally, HasMadeRound, Rests}
 
 -- Recovery gave this heap, and reported so many sections of each lane as kept. They are one set of sections: of each lane the first so many. The past
 -- says what was acknowledged before, and `seen` is what the helper has seen of the threads' history.

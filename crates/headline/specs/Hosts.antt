@@ -2,19 +2,19 @@
 use Rattle.std.specs.Prelude.{ℕ, List, Result}
 use Rattle.heap_model.specs.declared.event.Event.{Event}
 use Rattle.block_disk.specs.Device.{Device}
-use Rattle.deferred_disk.specs.Deferred.{Deferred}
-use Rattle.deferred_disk.specs.Host.{Host}
+use Rattle.disk_deferred.specs.Deferred.{Deferred}
+use Rattle.disk_deferred.specs.Host.{Host}
 use Rattle.monitor.specs.Seats.{Home}
-use Rattle.steps.specs.Views.{plan}
-use Rattle.store_past.specs.Past.{Past}
-use Rattle.store_past.specs.declared.error.StoreError.{StoreError}
-use Rattle.survival.specs.Promise.{Answer}
+use Rattle.thread_steps.specs.Views.{plan}
+use Rattle.heap_model.specs.Past.{Past}
+use Rattle.heap_model.specs.declared.store_error.StoreError.{StoreError}
+use Rattle.law_survival.specs.Promise.{Answer}
 use Rattle.trim_helper.specs.Parts.{Parts}
-use Rattle.running_life.specs.Running.{RunsOn}
-use Rattle.hosted_heap.specs.Hosting.{Hosting, hosted_device}
-use Rattle.hosted_heap.specs.Rounds.{HearsThreads, MakesRound}
-use Rattle.hosted_life.specs.Running.{HasRunOn}
-use Rattle.hosted_life.specs.Safe.{LeavesSince}
+use Rattle.law_running.specs.Running.{RunsOn}
+use Rattle.host_heap.specs.Hosting.{Hosting, hosted_device}
+use Rattle.host_heap.specs.Rounds.{HearsThreads, MakesRound}
+use Rattle.law_hosted.specs.Running.{HasRunOn}
+use Rattle.law_hosted.specs.Safe.{LeavesSince}
 use Rattle.headline.specs.Headline.{Gives}
 
 -- A store of this past had the old device, and has run since; a helper serves it now, and has seen this history. The host has made the calls that

@@ -3,10 +3,10 @@ ghost use Rattle.headline.specs.Headline.{GivesNow, GivesRound};
 ghost use Rattle.headline.specs.Hosts.{GivesHostRound, GivesHostRun};
 
 use block_disk::Disk;
-use hosted_life::running_law;
 use image::Recovered;
+use law_hosted::running_law;
+use law_running::round_law;
 use recover::{RecoverError, Report, one_study_law, recover};
-use running_life::round_law;
 use std::alloc::Global;
 
 /// Recovers a device that holds what a crash left of a heap while its threads ran, on a device of kind `D`.

@@ -16,3 +16,5 @@ pub mod Cuts
 pub mod KeptHeap
 pub mod Base
 pub mod Earliest
+-- What the clauses of a store's parts are said of.
+pub mod Past

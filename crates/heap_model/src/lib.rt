@@ -2,7 +2,8 @@
 //!
 //! What threads do to monitors and fields, what their logs keep of it, which records make a section,
 //! which sections depend on which, and which heap a cut of them keeps. The definitions are in `specs/`,
-//! to be read in the order that docs/PROOFS.md gives; what holds of them is proved in `cut_laws` and `history_laws`.
+//! to be read in the order that docs/PROOFS.md gives; what holds of them is proved in `law_cuts` and `law_histories`.
+//! A store is spoken of by its past (`specs/Past.antt`): what it was told, and what became of that.
 //! Nothing here knows a device, a word in memory or a place in a log.
 #![tactic(auto)]
 
@@ -10,7 +11,9 @@ mod cut;
 mod event;
 mod ids;
 mod limits;
+mod new_records;
 mod record;
+mod store_error;
 
 pub use cut::Cut;
 pub use event::{Event, Sight};
@@ -19,4 +22,6 @@ pub use limits::{
     LANES, LAST_NUMBER, LAST_PLACE, LEAST_CAPACITY, MOST_CAPACITY, MOST_FIELDS, MOST_OBJECTS,
     RING_RECORDS, SECTION_RECORDS,
 };
+pub use new_records::NewRecords;
 pub use record::{LaneRecord, Record, UndoRecord};
+pub use store_error::StoreError;

@@ -7,16 +7,16 @@
 
 ghost use Rattle.std.specs.Prelude.{◌≡◌};
 ghost use Rattle.std.specs.Process.{exit_status};
-ghost use Rattle.commands.specs.Status.{status_after};
+ghost use Rattle.heapctl_commands.specs.Status.{status_after};
 
 use clap::Error;
 use clap::error::ErrorKind;
-use command_words::{Asked, Words, read_words};
-use commands::{
+use disk_file::BackingFile;
+use heapctl_commands::{
     FAULT, KeptText, ToldImages, WRONG_INPUT, WorkFault, explain, is_left_by_reader,
     is_something_there, obey, status_of_fault, tell_kept, tell_salvaged,
 };
-use file_disk::BackingFile;
+use heapctl_words::{Asked, Words, read_words};
 use image_file::{FileImages, Place, Trouble, Watched};
 use std::fs::OpenFile;
 use std::io::{IsTerminal, Read};

@@ -14,3 +14,4 @@ pub mod Fresh
 pub mod Reading
 pub mod Places
 pub mod Heads
+pub mod Numbered

@@ -4,6 +4,7 @@ pub mod Header
 pub mod Guards
 pub mod Cells
 pub mod Rows
+pub mod NumberedRows
 pub mod Control
 pub mod Slots
 pub mod Head

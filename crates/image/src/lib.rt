@@ -3,7 +3,7 @@
 //! [`Layout`] says where each part lies. [`write_header`] makes an image. [`read_header`], [`read_guards`] and [`choose_control`] read one,
 //! whatever its bytes, and refuse it by the first thing that is wrong. [`commit_control`] replaces the control: at every moment a crash leaves
 //! the old one or the new one. So does [`commit_by_turning`], with two syncs, where other writes are still pending. What logs hold is no matter
-//! of this crate.
+//! of this crate. An image keeps no names: [`declare`] makes the schema of its guard rows, whose objects and fields are numbered.
 #![tactic(auto)]
 
 mod bytes;
@@ -21,6 +21,7 @@ mod header;
 mod lane_row;
 mod laws;
 mod layout;
+mod numbered_rows;
 mod one_gate;
 mod pending;
 mod recovered;
@@ -42,5 +43,6 @@ pub use laws::{
     empty_rows_law, fresh_law, place_law, reading_law, spelling_law, steady_law, survival_law,
 };
 pub use layout::{HEAD_BYTES, Layout};
+pub use numbered_rows::declare;
 pub use recovered::{Recovered, RecoveredParts};
 pub use slot::Slot;

@@ -1,10 +1,10 @@
 -- The size of an image, and what is said where none is made.
 use Rattle.std.proofs.Common.{ℕ, ◌≡◌, ◌+◌, ◌*◌, List, Option, ap, refl, sym, ◌∙◌, inl, inr}
 use Rattle.store_image.specs.Formatting.{AreLimits, layout_with}
-use Rattle.declarations.specs.SchemaFiles.{DeclaresSchema, RefusesSchema}
-use Rattle.declarations.specs.declared.schema_fault.SchemaFault.{SchemaFault}
-use Rattle.declarations.specs.declared.schema_fault.SchemaFaultKind.{SchemaFaultKind}
-use Rattle.declarations.specs.declared.schema_fault.SchemaFaultKind.TheVariants as kinds
+use Rattle.script_declarations.specs.SchemaFiles.{DeclaresSchema, RefusesSchema}
+use Rattle.script_declarations.specs.declared.schema_fault.SchemaFault.{SchemaFault}
+use Rattle.script_declarations.specs.declared.schema_fault.SchemaFaultKind.{SchemaFaultKind}
+use Rattle.script_declarations.specs.declared.schema_fault.SchemaFaultKind.TheVariants as kinds
 use Rattle.guards.specs.Schema.{Declarations}
 use Rattle.image.specs.Layout.{IsLayoutOf, size_of}
 use Rattle.image.specs.declared.layout.Layout.{Layout}

@@ -1,8 +1,8 @@
 -- Why a schema file gives no names.
 use Rattle.std.proofs.Common.{inl, inr, refl}
-use Rattle.declarations.specs.declared.schema_fault.SchemaFault.{SchemaFault}
-use Rattle.declarations.specs.declared.schema_fault.SchemaFaultKind.{SchemaFaultKind}
-use Rattle.declarations.specs.declared.schema_fault.SchemaFaultKind.TheVariants as kinds
+use Rattle.script_declarations.specs.declared.schema_fault.SchemaFault.{SchemaFault}
+use Rattle.script_declarations.specs.declared.schema_fault.SchemaFaultKind.{SchemaFaultKind}
+use Rattle.script_declarations.specs.declared.schema_fault.SchemaFaultKind.TheVariants as kinds
 use Rattle.image_file.specs.Naming.{IsOfSchemaFile, named_by_kind}
 
 pub of_kind : (kind : SchemaFaultKind) (fault : SchemaFault) → IsOfSchemaFile (named_by_kind kind fault)

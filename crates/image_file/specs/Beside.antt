@@ -1,6 +1,6 @@
 -- What is known of what lies beside an image's path (this project's own).
 use Rattle.std.specs.Prelude.{ℕ, ◌≡◌, ◌≢◌, ◌⊎◌, ◌++◌, Bool, true, false, List, [], ◌∷◌, Option, None, Some, IfSome, Result, Ok, Err, codes}
-use Rattle.sector_disk.specs.declared.size.SectorSize.{SectorSize}
+use Rattle.disk_sectors.specs.declared.size.SectorSize.{SectorSize}
 use Rattle.image_file.specs.Images.{IsThere}
 
 -- the path at which an image that is replaced is kept

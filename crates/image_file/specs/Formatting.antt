@@ -3,12 +3,12 @@ use Rattle.std.specs.Prelude.{◌≡◌, ◌⊎◌, ℕ, List, [], ◌∷◌, Op
 use Rattle.std.specs.Fmt.{decimal}
 use Rattle.std.specs.Io.KnownBytes.{Appends}
 use Rattle.block_disk.specs.Device.{Device, new_device}
-use Rattle.file_disk.specs.declared.error.FileError.{FileError}
-use Rattle.file_disk.specs.declared.error.FileError.TheVariants as disks
-use Rattle.sector_disk.specs.declared.error.PlacesError.{PlacesError}
-use Rattle.sector_disk.specs.declared.error.PlacesError.TheVariants as places
-use Rattle.sector_disk.specs.declared.size.SectorSize.{SectorSize}
-use Rattle.sector_file.specs.ImageDisks.{room_for}
+use Rattle.disk_file.specs.declared.error.FileError.{FileError}
+use Rattle.disk_file.specs.declared.error.FileError.TheVariants as disks
+use Rattle.disk_sectors.specs.declared.error.PlacesError.{PlacesError}
+use Rattle.disk_sectors.specs.declared.error.PlacesError.TheVariants as places
+use Rattle.disk_sectors.specs.declared.size.SectorSize.{SectorSize}
+use Rattle.disk_sector_file.specs.ImageDisks.{room_for}
 use Rattle.guards.specs.Schema.{Declarations}
 use Rattle.image.specs.Calls.{after}
 use Rattle.image.specs.Format.{format_calls}
@@ -17,10 +17,10 @@ use Rattle.image.specs.declared.layout.Layout.{Layout}
 use Rattle.inspect.specs.Pieces.{line}
 use Rattle.inspect.specs.Written.{AppendsPart}
 use Rattle.store_image.specs.Formatting.{AreLimits, layout_with}
-use Rattle.declarations.specs.declared.schema_fault.SchemaFault.{SchemaFault}
-use Rattle.declarations.specs.declared.schema_fault.SchemaFaultKind.{SchemaFaultKind}
-use Rattle.declarations.specs.declared.schema_fault.SchemaFaultKind.TheVariants as kinds
-use Rattle.declarations.specs.SchemaFiles.{DeclaresSchema, RefusesSchema}
+use Rattle.script_declarations.specs.declared.schema_fault.SchemaFault.{SchemaFault}
+use Rattle.script_declarations.specs.declared.schema_fault.SchemaFaultKind.{SchemaFaultKind}
+use Rattle.script_declarations.specs.declared.schema_fault.SchemaFaultKind.TheVariants as kinds
+use Rattle.script_declarations.specs.SchemaFiles.{DeclaresSchema, RefusesSchema}
 use Rattle.image_file.specs.Images.{IsThere, Stays}
 use Rattle.image_file.specs.declared.new_image.NewImage.{NewImage}
 use Rattle.image_file.specs.declared.error.FileFault.{FileFault}

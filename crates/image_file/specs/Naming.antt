@@ -2,9 +2,9 @@
 use Rattle.std.specs.Prelude.{ℕ, ◌≡◌, ◌⊎◌, Option, None, Some, List, []}
 use Rattle.std.specs.Io.KnownBytes.{Appends}
 use Rattle.guards.specs.Schema.{Declarations}
-use Rattle.declarations.specs.declared.schema_fault.SchemaFault.{SchemaFault}
-use Rattle.declarations.specs.declared.schema_fault.SchemaFaultKind.{SchemaFaultKind}
-use Rattle.declarations.specs.declared.schema_fault.SchemaFaultKind.TheVariants as kinds
+use Rattle.script_declarations.specs.declared.schema_fault.SchemaFault.{SchemaFault}
+use Rattle.script_declarations.specs.declared.schema_fault.SchemaFaultKind.{SchemaFaultKind}
+use Rattle.script_declarations.specs.declared.schema_fault.SchemaFaultKind.TheVariants as kinds
 use Rattle.image_schema.specs.declared.error.DumpError.{DumpError}
 use Rattle.image_schema.specs.declared.error.DumpError.TheVariants as dumps
 use Rattle.recover.specs.declared.error.RecoverError.TheVariants.{Fault, NoMemory}

@@ -2,9 +2,9 @@
 
 use crate::error::FileFault;
 use crate::trouble::{Place, Trouble};
-use file_disk::{BackingFile, Claim};
+use disk_file::{BackingFile, Claim};
+use disk_sector_file::label_of;
 use image::{HEADER_BYTES, is_formatted};
-use sector_file::label_of;
 use std::fs::{OpenFile, OpenOptions};
 use std::io;
 use std::io::ErrorKind;

@@ -4,10 +4,10 @@ ghost use Rattle.image_file.specs.Formatting.{told_of_disk, told_of_file, told_o
 ghost use Rattle.image_file.specs.Naming.{told_of_names};
 ghost use Rattle.image_file.specs.Showing.{told_of_attaching};
 
-use declarations::{SchemaFault, SchemaFaultKind};
-use file_disk::FileError;
+use disk_file::FileError;
+use disk_sectors::PlacesError;
 use recover::RecoverError;
-use sector_disk::PlacesError;
+use script_declarations::{SchemaFault, SchemaFaultKind};
 use thiserror::Error;
 
 /// Why an image file isn't had. Each leaves every byte that it had.

@@ -1,7 +1,7 @@
 //! Making an image for the schema of a file.
 ghost use Rattle.std.specs.Prelude.{◌≡◌, [], IfErr, IfOk, IfSome, OnErr, OnOk};
 ghost use Rattle.std.specs.Io.KnownBytes.{Appends};
-ghost use Rattle.declarations.specs.SchemaFiles.{DeclaresSchema};
+ghost use Rattle.script_declarations.specs.SchemaFiles.{DeclaresSchema};
 ghost use Rattle.image.specs.Layout.{size_of};
 ghost use Rattle.inspect.specs.Written.{AppendsPart};
 ghost use Rattle.image_file.specs.declared.error.FormatError.TheVariants.{BadHeader, Fault};
@@ -16,11 +16,11 @@ use crate::new_image::NewImage;
 use crate::trouble::{Place, Trouble};
 use crate::watched::Watched;
 use block_disk::Disk;
-use declarations::{SchemaFault, read_schema};
 use durable::Store;
 use guards::Schema;
 use image::{ImageError, Layout};
 use inspect::{Piece, WriteError, put_line};
+use script_declarations::{SchemaFault, read_schema};
 use std::alloc::Global;
 use std::fs;
 use std::io::{Read, Write};

@@ -1,15 +1,15 @@
 //! The images that words name by paths.
 ghost use Rattle.std.specs.Prelude.{◌≡◌, ◌⊎◌, ◌↔◌, ℕ, List, [], Option, replicate, IfOk, IfSome, IsTrue, OnErr, OnOk};
 ghost use Rattle.block_disk.specs.Device.{Device, new_device};
-ghost use Rattle.sector_disk.specs.declared.size.SectorSize.{SectorSize as Size};
-ghost use Rattle.sector_file.specs.ImageDisks.{room_for};
+ghost use Rattle.disk_sectors.specs.declared.size.SectorSize.{SectorSize as Size};
+ghost use Rattle.disk_sector_file.specs.ImageDisks.{room_for};
 ghost use Rattle.image_file.specs.Beside.{IsKept, KeepsBeside, LeavesBeside, LiesOn, kept_at};
 ghost use Rattle.image_file.specs.Images.{BeginsThere, IsLeft, IsThere};
 
 use crate::error::FileFault;
 use block_disk::Disk;
-use file_disk::VolatileDisk;
-use sector_disk::SectorSize;
+use disk_file::VolatileDisk;
+use disk_sectors::SectorSize;
 use std::alloc::Global;
 
 /// The images that words name by paths, and the disks that they are.

@@ -1,6 +1,6 @@
 //! What a new image is to be.
 
-use sector_disk::SectorSize;
+use disk_sectors::SectorSize;
 
 /// What a new image is to be.
 #[derive(Clone, Copy)]

@@ -2,7 +2,7 @@
 ghost use Rattle.std.specs.Prelude.{◌≡◌};
 
 use crate::trouble::{Place, Trouble};
-use file_disk::{BackingFile, Claim};
+use disk_file::{BackingFile, Claim};
 use std::io;
 use std::io::{Read, Write};
 

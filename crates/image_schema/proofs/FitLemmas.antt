@@ -7,8 +7,8 @@ use Rattle.guards.specs.Schema.{Declarations, field_count, guard_of, is_transien
 use Rattle.image.specs.Guards.{no_row}
 use Rattle.image.specs.declared.guard_row.GuardRow.{GuardRow}
 use Rattle.image.specs.declared.layout.Layout.{Layout}
-use Rattle.numbered_schema.specs.Rows.{numbered}
-use Rattle.numbered_schema.proofs.Numbered.{fields_are, guard_at, mark_at, objects_are, owner_at}
+use Rattle.image.specs.NumberedRows.{numbered}
+use Rattle.image.proofs.Numbered.{fields_are, guard_at, mark_at, objects_are, owner_at}
 use Rattle.recover.specs.declared.studied.Study.{Study}
 use Rattle.image_schema.specs.OfImage.{FitsImage, IsStudied, fits_row, is_row_of, is_same_mark}
 

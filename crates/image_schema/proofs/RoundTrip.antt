@@ -13,16 +13,16 @@ use Rattle.image.specs.Guards.{HasGuards, NamesObjects, no_row}
 use Rattle.image.specs.Layout.{IsLayout}
 use Rattle.image.specs.declared.guard_row.GuardRow.{GuardRow}
 use Rattle.image.specs.declared.layout.Layout.{Layout}
-use Rattle.numbered_schema.specs.Rows.{field_name, fields_from, names_below, numbered, object_name}
-use Rattle.numbered_schema.proofs.Numbered.{field_is_new, fields_are, fields_more, guard_at, object_is_new, objects_are, owner_at}
+use Rattle.image.specs.NumberedRows.{field_name, fields_from, names_below, numbered, object_name}
+use Rattle.image.proofs.Numbered.{field_is_new, fields_are, fields_more, guard_at, object_is_new, objects_are, owner_at}
 use Rattle.recover.specs.Study.{IsStudyOf}
 use Rattle.recover.specs.declared.studied.Study.{Study}
 use Rattle.script_lines.specs.Grammar.{is_name, is_name_byte, IsName}
 use Rattle.script_lines.specs.Lines.{lines_of}
-use Rattle.declarations.specs.SchemaFiles.{DeclaresLines}
-use Rattle.declarations.specs.SchemaText.{AreNames, HasNames, SchemaTextLaw, begun_with, beginning_with, schema_text}
-use Rattle.declarations.proofs.NameLemmas.{names_more}
-use Rattle.declarations.proofs.TextLemmas.{names-push}
+use Rattle.script_declarations.specs.SchemaFiles.{DeclaresLines}
+use Rattle.script_declarations.specs.SchemaText.{AreNames, HasNames, SchemaTextLaw, begun_with, beginning_with, schema_text}
+use Rattle.script_declarations.proofs.NameLemmas.{names_more}
+use Rattle.script_declarations.proofs.TextLemmas.{names-push}
 use Rattle.image_schema.specs.OfImage.{FitsImage, named_as}
 use Rattle.image_schema.specs.Dumping.{DumpLaw, IsOfFile, dumped}
 

@@ -3,7 +3,7 @@ use Rattle.std.proofs.Common.{ℕ, zero, suc, ◌≡◌, ◌+◌, ◌<◌, false
 use Rattle.std.specs.Prelude.{slice_index}
 use Rattle.std.specs.List.{flat_map}
 use Rattle.guards.specs.Schema.{Declarations, Field, guard_of, guards_of, marks_of, names_of, owner_of, owners_of}
-use Rattle.declarations.specs.SchemaText.{begun_with, ended, field_line, field_lines, object_line, object_lines}
+use Rattle.script_declarations.specs.SchemaText.{begun_with, ended, field_line, field_lines, object_line, object_lines}
 use Rattle.image_schema.specs.Lines.{field_at}
 
 abbrev pub object_item : List ℕ → List ℕ

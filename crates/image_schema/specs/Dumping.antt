@@ -1,8 +1,8 @@
 -- What is written of an image's heap: a schema file.
 use Rattle.std.specs.Prelude.{ℕ, ◌≡◌, ◌<◌, ◌^◌, Option, None, Some, List, [], slice_index}
 use Rattle.std.specs.Io.KnownBytes.{Appends}
-use Rattle.declarations.specs.SchemaFiles.{DeclaresLines}
-use Rattle.declarations.specs.SchemaText.{HasNames, beginning_with, schema_text}
+use Rattle.script_declarations.specs.SchemaFiles.{DeclaresLines}
+use Rattle.script_declarations.specs.SchemaText.{HasNames, beginning_with, schema_text}
 use Rattle.guards.specs.Schema.{Declarations, IsSchema, nothing}
 use Rattle.inspect.specs.Written.{AppendsPart}
 use Rattle.recover.specs.Reading.{RefusesImage}

@@ -1,7 +1,7 @@
 -- The lines of a schema file, by number.
 use Rattle.std.specs.Prelude.{ℕ, List, [], slice_index_or}
 use Rattle.guards.specs.Schema.{Declarations, Field, guard_of, is_transient_of, names_of, owner_of}
-use Rattle.declarations.specs.SchemaText.{ended, field_line, name_of, object_line}
+use Rattle.script_declarations.specs.SchemaText.{ended, field_line, name_of, object_line}
 
 -- the line of the object of this number
 abbrev pub object_at : Declarations → ℕ → List ℕ

@@ -1,7 +1,7 @@
 //! A law of dumps: a contract of a function that does nothing.
 ghost use Rattle.image_schema.specs.Dumping.{DumpLaw};
 
-use declarations::schema_text_law;
+use script_declarations::schema_text_law;
 
 /// What [`dump`](crate::dump) writes declares the image's schema with the heap that recovery gives. So an image that is made of it
 /// has that heap, and one that is made of it with more lines at its end has more beside.

@@ -2,12 +2,12 @@
 ghost use Rattle.std.specs.Prelude.{◌≡◌, ◌↔◌, IfOk, IsErrOf};
 ghost use Rattle.image_schema.specs.OfImage.{FitsImage, IsStudied, named_as};
 ghost use Rattle.image_schema.specs.declared.error.NamingError.TheVariants.{OtherSchema};
-ghost use Rattle.numbered_schema.specs.Rows.{numbered};
+ghost use Rattle.image.specs.NumberedRows.{numbered};
 
 use crate::error::NamingError;
 use crate::fitting::fits;
 use guards::Schema;
-use numbered_schema::declare;
+use image::declare;
 use recover::Study;
 use std::alloc::{AllocError, Global};
 

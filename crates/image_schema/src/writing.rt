@@ -2,7 +2,7 @@
 ghost use Rattle.std.specs.Prelude.{◌≡◌, ◌<◌, length, slice_index, slice_index_or, OnOk, OnErr};
 ghost use Rattle.std.specs.Io.KnownBytes.{Appends};
 ghost use Rattle.std.specs.List.{flat_map};
-ghost use Rattle.declarations.specs.SchemaText.{beginning_with, begun_with, ended, object_line, field_line, object_lines, field_lines, schema_text};
+ghost use Rattle.script_declarations.specs.SchemaText.{beginning_with, begun_with, ended, object_line, field_line, object_lines, field_lines, schema_text};
 ghost use Rattle.guards.specs.Schema.{field_count, object_count};
 ghost use Rattle.image_schema.specs.Lines.{object_at, field_at};
 ghost use Rattle.inspect.specs.Written.{AppendsPart};

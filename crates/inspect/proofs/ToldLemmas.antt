@@ -8,11 +8,11 @@ use Rattle.std.proofs.lemmas.List.Concat.{flat_map-append}
 use Rattle.heap_model.specs.Sections.{undo_action}
 use Rattle.heap_model.specs.declared.record.UndoRecord.{UndoRecord}
 use Rattle.heap_model.specs.declared.record.UndoRecord.TheVariants.{Acq}
-use Rattle.log_state.proofs.LaneLemmas.{held_few, ended_few, since_few}
+use Rattle.recover_logs.proofs.LaneCountLemmas.{held_few, ended_few, since_few}
 use Rattle.inspect.specs.Written.{AppendsPart}
-use Rattle.log_state.specs.Lanes.{count_after, count_of}
+use Rattle.recover_logs.specs.Lanes.{count_after, count_of}
 use Rattle.inspect.specs.Sections.{told}
-use Rattle.log_state.specs.declared.lane_count.LaneCount.{LaneCount}
+use Rattle.recover_logs.specs.declared.lane_count.LaneCount.{LaneCount}
 use Rattle.inspect.proofs.PartLemmas.{part_first, part_second}
 
 abbrev pub none : UndoRecord

@@ -2,8 +2,8 @@
 use Rattle.std.specs.Prelude.{ℕ, zero, suc, ◌+◌, ◌-◌, ◌==◌, if◌then◌else◌, true, false, List, [], ◌∷◌, ◌++◌, reverse, take}
 use Rattle.heap_model.specs.declared.record.UndoRecord.{UndoRecord}
 use Rattle.image.specs.declared.lane_row.LaneRow.{LaneRow}
-use Rattle.log_state.specs.Lanes.{count_of, ends_at}
-use Rattle.log_state.specs.declared.lane_count.LaneCount.{LaneCount}
+use Rattle.recover_logs.specs.Lanes.{count_of, ends_at}
+use Rattle.recover_logs.specs.declared.lane_count.LaneCount.{LaneCount}
 use Rattle.undo_log.specs.StandsFor.{row_of}
 use Rattle.recover.specs.Logs.{records_of}
 use Rattle.recover.specs.declared.studied.Study.{Study}

@@ -15,7 +15,7 @@ use crate::releases::{Releases, releaser};
 use crate::section::{Link, SectionId};
 use crate::section_lines::put_link_line;
 use heap_model::{ObjectId, UndoRecord};
-use log_state::LaneCount;
+use recover_logs::LaneCount;
 use std::io::Write;
 
 /// Writes a dependence for each acquire of the lane of what a section of another lane released, by place. The lane's live

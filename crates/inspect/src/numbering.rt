@@ -8,8 +8,8 @@ use crate::lanes::records_in;
 use crate::section::SectionId;
 use heap_model::{Lane, UndoRecord};
 use image::LaneRow;
-use log_state::count_all;
 use recover::Study;
+use recover_logs::count_all;
 
 /// How a lane's live sections are numbered.
 #[derive(Clone, Copy, Debug, PartialEq, Eq)]

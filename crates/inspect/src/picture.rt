@@ -1,6 +1,6 @@
 //! What of a study is drawn.
 ghost use Rattle.std.specs.Prelude.{◌≡◌, ◌+◌, ◌-◌, ◌<◌, ◌^◌, length, reverse, take};
-ghost use Rattle.log_state.specs.Lanes.{count_of};
+ghost use Rattle.recover_logs.specs.Lanes.{count_of};
 ghost use Rattle.recover.specs.Fits.{FitsNumbers};
 ghost use Rattle.inspect.specs.Drawn as drawn;
 
@@ -9,8 +9,8 @@ use crate::numbering::{Numbering, lane_numbering};
 use crate::section::SectionId;
 use guards::Schema;
 use heap_model::{Lane, UndoRecord};
-use log_state::count_all;
 use recover::{Dropped, Study};
+use recover_logs::count_all;
 
 /// What of a study is drawn, and by which names.
 #[derive(Clone, Copy)]

@@ -10,8 +10,8 @@ use crate::lanes::records_in;
 use crate::numbering::{Numbering, lane_numbering};
 use crate::section::SectionId;
 use heap_model::{Lane, ObjectId, UndoRecord};
-use log_state::LaneCount;
 use recover::Study;
+use recover_logs::LaneCount;
 use std::alloc::{AllocError, Global};
 use std::collections::BTreeMap;
 

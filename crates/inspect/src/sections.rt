@@ -3,7 +3,7 @@ ghost use Rattle.std.specs.Prelude.{◌≡◌, ◌+◌, ◌<◌, ◌^◌, IfOk, 
 ghost use Rattle.std.specs.Io.KnownBytes.{Appends};
 ghost use Rattle.std.specs.List.{flat_map};
 ghost use Rattle.inspect.specs.Written.{AppendsPart};
-ghost use Rattle.log_state.specs.Lanes.{count_of};
+ghost use Rattle.recover_logs.specs.Lanes.{count_of};
 ghost use Rattle.inspect.specs.Sections.{ended_by, whole_sections, unfinished_section, live_sections};
 ghost use Rattle.inspect.specs.SectionText.{section_text};
 
@@ -14,7 +14,7 @@ use crate::numbering::Numbering;
 use crate::section::Section;
 use crate::section_lines::put_section_line;
 use heap_model::UndoRecord;
-use log_state::LaneCount;
+use recover_logs::LaneCount;
 use std::io::Write;
 
 /// Writes each live section of the lane, by number. The lane's live records have the oldest first.

@@ -1,9 +1,9 @@
 //! Image files in a folder that the tests share.
 mod recovered;
 
-use declarations::{SchemaFault, SchemaFaultKind};
-use file_disk::{BackingFile, Claim};
+use disk_file::{BackingFile, Claim};
 use image_file::{FileImages, FormatError, NewImage, Trouble, format_at};
+use script_declarations::{SchemaFault, SchemaFaultKind};
 use std::fs;
 use std::fs::OpenOptions;
 

@@ -2,7 +2,7 @@
 use Rattle.std.proofs.Common.{ℕ, ◌≡◌, ◌≢◌, ◌+◌, ◌≤◌, ◌⊎◌, nat_lt, if◌then◌else◌, Bool, true, false, inl, inr, sym, ◌∙◌, arith}
 use Rattle.heap_model.specs.declared.ids.ObjectId.{ObjectId}
 use Rattle.monitor.specs.Seats.{Home}
-use Rattle.steps.specs.Views.{plan, hold}
+use Rattle.thread_steps.specs.Views.{plan, hold}
 use Rattle.session.specs.Logs.{actions_in, held_count}
 use Rattle.session.specs.Sessions.{view_of}
 use Rattle.session.specs.declared.session.Session.{Session}

@@ -8,7 +8,7 @@ use Rattle.heap_model.specs.declared.ids.FieldId.{FieldId}
 use Rattle.heap_model.specs.declared.limits.TheConstants.{SECTION_RECORDS}
 use Rattle.heap_model.specs.Own.{Hold}
 use Rattle.monitor.specs.Seats.{Home}
-use Rattle.steps.specs.Views.{View, Lengthens, hold, plan, IsHeld}
+use Rattle.thread_steps.specs.Views.{View, Lengthens, hold, plan, IsHeld}
 use Rattle.session.specs.declared.error.SessionError.{SessionError}
 use Rattle.session.specs.declared.error.SessionError.TheVariants.{UnknownObject, UnknownField, NotHeld, Behind, SectionFull, TooMany, TooDeep, NoFat, Worn, Held}
 use Rattle.session.specs.declared.session.Session.{Session}

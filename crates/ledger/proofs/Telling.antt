@@ -12,7 +12,7 @@ use Rattle.heap_model.specs.State.{with_at}
 use Rattle.heap_model.specs.Own.{Hold, own, own_log, with_own, more}
 use Rattle.heap_model.specs.OwnSections.{held_in, open_records, own_actions}
 use Rattle.heap_model.specs.Sections.{Action, Takes, Stores, action, holding, open_section}
-use Rattle.steps.specs.Views.{View, Lengthens, hold}
+use Rattle.thread_steps.specs.Views.{View, Lengthens, hold}
 use Rattle.session.specs.Calls.{AreLooks, OnlyLooks}
 use Rattle.ledger.specs.Transfers.{stores}
 

@@ -1,6 +1,6 @@
 -- Which answer a request gets.
 use Rattle.std.specs.Prelude.{ℕ, ◌≡◌, ◌<◌, ◌⊎◌, List, [], codes}
-use Rattle.heap_threads.specs.Threads.{IsDurable, IsUnsettled}
+use Rattle.thread_work.specs.Threads.{IsDurable, IsUnsettled}
 use Rattle.http.specs.Request.{head_of}
 use Rattle.http.specs.declared.request.Request.{Request}
 use Rattle.http_server.specs.declared.response.Response.{Response}

@@ -3,7 +3,7 @@ use Rattle.std.specs.Prelude.{ℕ, ◌≡◌, ◌≢◌, ◌+◌, ◌<◌, ◌�
 use Rattle.heap_model.specs.declared.ids.ObjectId.{ObjectId}
 use Rattle.heap_model.specs.Own.{Hold}
 use Rattle.monitor.specs.Seats.{Home}
-use Rattle.steps.specs.Views.{hold, plan}
+use Rattle.thread_steps.specs.Views.{hold, plan}
 use Rattle.session.specs.Calls.{HoldsGuard, Loads, Owns}
 use Rattle.session.specs.Logs.{held_count, section_records}
 use Rattle.session.specs.Sessions.{view_of}

@@ -5,7 +5,7 @@ use Rattle.heap_model.specs.declared.ids.ObjectId.{ObjectId}
 use Rattle.heap_model.specs.declared.event.Event.{Event}
 use Rattle.heap_model.specs.declared.event.Event.TheVariants.{Enter, NestedEnter, NestedExit, Exit, Load, Store, Wait, Resume, Notify, NotifyAll, Look}
 use Rattle.monitor.specs.Seats.{Home}
-use Rattle.steps.specs.Views.{plan}
+use Rattle.thread_steps.specs.Views.{plan}
 use Rattle.session.specs.Calls.{Exits, Loads, StoresAs, WaitsToEnter}
 use Rattle.session.specs.Logs.{held_count}
 use Rattle.session.specs.Sessions.{view_of}

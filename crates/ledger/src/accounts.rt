@@ -1,6 +1,6 @@
 //! A thread's accounts, as a service.
 ghost use Rattle.std.specs.Prelude.{◌≡◌, ◌⊎◌, IfOk, IfSome, MatchOption};
-ghost use Rattle.heap_threads.specs.Threads.{IsDurable, IsUnsettled};
+ghost use Rattle.thread_work.specs.Threads.{IsDurable, IsUnsettled};
 ghost use Rattle.ledger.specs.Answers.{Answers, AsksFor, IsAnswer, IsUnasked};
 ghost use Rattle.ledger.specs.declared.answer.Answer.TheVariants.{Durable, NotDurable};
 
@@ -8,11 +8,11 @@ use crate::answer::Answer;
 use crate::moving::{Made, transfer};
 use crate::order::{Order, order_of};
 use bytes::{BufMut, Bytes};
-use heap_threads::{HeapThread, Joint, SessionError};
 use http::Request;
 use http_server::{Response, Service};
 use std::alloc::{AllocError, Global};
 use std::sync::Wait;
+use thread_work::{HeapThread, Joint, SessionError};
 
 /// The longest text of an answer, in bytes.
 const MOST_TEXT: usize = 8;

@@ -1,13 +1,13 @@
 //! A thread's calls, as a transfer makes them: which of them can't be refused.
 ghost use Rattle.std.specs.Prelude.{◌≡◌, ◌≢◌, ◌+◌, ◌<◌, ◌≤◌, IfErr, IfOk, IfSome, None, Ok};
 ghost use Rattle.heap_model.specs.declared.limits.TheConstants.{SECTION_RECORDS};
-ghost use Rattle.steps.specs.Views.{plan};
+ghost use Rattle.thread_steps.specs.Views.{plan};
 ghost use Rattle.session.specs.Calls.{Exits, HoldsGuard, StoresAs, WaitsToEnter};
 ghost use Rattle.ledger.specs.Transfers.{HasStoredNothing, IsAccount, balance_of, monitor_of};
 ghost use Rattle.ledger.specs.Holding.{HasRead, IsTaken, KeepsOthers, Misses, SameHolds, Stays, Took, needs};
 
-use heap_threads::{FieldId, HeapThread, Joint, ObjectId, SessionError};
 use std::sync::Wait;
+use thread_work::{FieldId, HeapThread, Joint, ObjectId, SessionError};
 
 // Takes the monitor. A refusal has stored nothing.
 pub(crate) fn take<J: Joint, R: Wait>(

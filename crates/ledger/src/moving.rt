@@ -10,8 +10,8 @@ ghost use Rattle.ledger.specs.Holding.{HasBoth, SameHolds, needs};
 
 use crate::calls::{leave, put, read, take};
 use crate::order::Order;
-use heap_threads::{HeapThread, Joint, ObjectId, SessionError};
 use std::sync::Wait;
+use thread_work::{HeapThread, Joint, ObjectId, SessionError};
 
 /// What has become of an order. Nothing was stored but by `Moved`.
 #[derive(Clone, Copy, Debug, Drop, PartialEq, Eq)]

@@ -2,13 +2,13 @@
 
 use crate::connection::{Peer, answered, is_answer};
 use crate::room::{CAPACITY, FIRST, SECOND, disk, schema};
-use heap_threads::{HeapThread, Joint, ObjectId, SessionError, Work, run_new};
 use std::alloc::Global;
 use std::hash::RandomState;
 use std::sync::Wait;
 use std::sync::atomic::{AtomicU64, Ordering};
 use std::test::Fail;
 use std::thread::Threads;
+use thread_work::{HeapThread, Joint, ObjectId, SessionError, Work, run_new};
 
 // A request line; the status and the text that it is answered; and both balances then.
 #[derive(Clone, Copy)]

@@ -1,11 +1,11 @@
 //! A connection in memory.
 
-use heap_threads::{HeapThread, Joint};
 use http_server::{Config, Connection, Service, serve};
 use ledger::Accounts;
 use std::alloc::{AllocError, Global};
 use std::hash::RandomState;
 use std::sync::Wait;
+use thread_work::{HeapThread, Joint};
 
 /// Where what is needed to serve a connection comes from.
 #[derive(Clone, Copy, Drop)]

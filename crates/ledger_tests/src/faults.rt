@@ -4,13 +4,13 @@ ghost use Rattle.std.specs.Prelude.{◌≤◌};
 
 use crate::connection::{Peer, answered, is_answer};
 use crate::room::{CAPACITY, disk, schema};
-use heap_threads::{HeapThread, Joint, SessionError, Work, run_new};
 use std::alloc::Global;
 use std::hash::RandomState;
 use std::sync::Wait;
 use std::sync::atomic::{AtomicU64, Ordering};
 use std::test::Fail;
 use std::thread::Threads;
+use thread_work::{HeapThread, Joint, SessionError, Work, run_new};
 
 // How many requests there are at most.
 const MOST: u64 = 1_000;

@@ -1,9 +1,9 @@
 //! Accounts, and a disk for them.
 
 use block_disk::MemDisk;
-use heap_threads::{Schema, SchemaBuilder, lanes_for};
 use image::Layout;
 use std::alloc::Global;
+use thread_work::{Schema, SchemaBuilder, lanes_for};
 
 /// How many records a lane has room for.
 pub const CAPACITY: u32 = 4_000;

@@ -1,8 +1,8 @@
 //! What no clause says: that the definitions mean what docs/SCRIPTS.md's examples show, and that the calls succeed.
 
-use cut_laws::plain::{replay, stable_cut};
 use heap_model::{Cut, FieldId, LANES, Lane, LaneRecord, ObjectId, Record, UndoRecord};
-use history_laws::earliest_law;
+use law_cuts::plain::{replay, stable_cut};
+use law_histories::earliest_law;
 use std::alloc::Global;
 
 // A constant's value may call no function, so records are spelt by macros.

@@ -3,7 +3,7 @@
 ghost use Rattle.std.specs.Prelude.{◌<◌};
 
 use heap_model::{FieldId, Lane, ObjectId, UndoRecord};
-use log_state::{LaneCount, Monitors};
+use recover_logs::{LaneCount, Monitors};
 
 const OBJECT: ObjectId = ObjectId(3);
 

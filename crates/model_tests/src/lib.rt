@@ -1,4 +1,4 @@
-//! Tests of: heap_model, cut_laws, log_state, lock_word.
+//! Tests of: heap_model, law_cuts, recover_logs, lock_word.
 //!
 //! Tests of the words that every room speaks by, by public calls: what the definitions mean, and how words are spelt.
 //!

@@ -17,7 +17,7 @@ use Rattle.heap_model.specs.declared.event.Sight.TheVariants.{Found}
 use Rattle.heap_model.specs.State.{State, with_at}
 use Rattle.heap_model.specs.Events.{after_event}
 use Rattle.heap_model.specs.Own.{Hold, own}
-use Rattle.history_laws.proofs.Own.{by_test}
+use Rattle.law_histories.proofs.Own.{by_test}
 use Rattle.monitor.specs.declared.view.Plan.{Plan}
 use Rattle.monitor.specs.declared.view.View.{View}
 use Rattle.monitor.specs.Words.{objects, LockAt, Words}

@@ -5,17 +5,17 @@ use Rattle.heap_model.specs.declared.event.Event.{Event}
 use Rattle.heap_model.specs.declared.event.Event.TheVariants.{Enter, Exit, Look}
 use Rattle.heap_model.specs.declared.event.Sight.{Sight}
 use Rattle.heap_model.specs.Own.{Own, Hold, Pause, own}
-use Rattle.history_laws.proofs.Own.{by_test}
+use Rattle.law_histories.proofs.Own.{by_test}
 use Rattle.lock_word.specs.declared.lock_word.Shape.TheVariants as thin
 use Rattle.monitor.specs.declared.view.View as raw
 use Rattle.monitor.specs.Views as views
 use Rattle.monitor.specs.Seats as seats
 use Rattle.monitor.specs.Seats.{Home, Sitting}
 use Rattle.monitor.specs.Words.{setting_of}
-use Rattle.steps.specs.declared.grip.Grip.{Grip}
-use Rattle.steps.specs.declared.grip.Seen.{Seen}
-use Rattle.steps.specs.declared.grip.Seen.TheVariants as seen
-use Rattle.steps.specs.Views.{view, IsSeatOf, IsClear, Lengthens, Takes, Misses, miss_events}
+use Rattle.thread_steps.specs.declared.grip.Grip.{Grip}
+use Rattle.thread_steps.specs.declared.grip.Seen.{Seen}
+use Rattle.thread_steps.specs.declared.grip.Seen.TheVariants as seen
+use Rattle.thread_steps.specs.Views.{view, IsSeatOf, IsClear, Lengthens, Takes, Misses, miss_events}
 use Rattle.one_monitor.specs.Idle.{IsIdle}
 
 pub idle_dealt : (h : Home) (s : Sitting) (v : raw.View) → seats.IsSeatOf h s → s.view ≡ views.lane_for v → IsIdle h s

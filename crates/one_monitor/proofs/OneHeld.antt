@@ -7,11 +7,11 @@ use Rattle.heap_model.specs.declared.event.Event.{Event}
 use Rattle.heap_model.specs.declared.event.Event.TheVariants.{Enter, NestedEnter, NestedExit, Exit, Load, Store, Wait, Resume, Notify, Look}
 use Rattle.heap_model.specs.declared.event.Sight.TheVariants.{StillInSet}
 use Rattle.heap_model.specs.Own.{Hold, own, more, less, hold_count, pause_count}
-use Rattle.history_laws.proofs.Own.{by_test}
+use Rattle.law_histories.proofs.Own.{by_test}
 use Rattle.monitor.specs.Seats.{Home, Sitting}
-use Rattle.steps.specs.declared.grip.Grip.{Grip}
-use Rattle.steps.specs.declared.grip.Seen.{Seen}
-use Rattle.steps.specs.Views.{view, plan, IsSeatOf, IsClear, IsAwake, Keeps, KeepsEach, Lengthens, Takes, Misses, Fattens, room_of, hold, miss_events}
+use Rattle.thread_steps.specs.declared.grip.Grip.{Grip}
+use Rattle.thread_steps.specs.declared.grip.Seen.{Seen}
+use Rattle.thread_steps.specs.Views.{view, plan, IsSeatOf, IsClear, IsAwake, Keeps, KeepsEach, Lengthens, Takes, Misses, Fattens, room_of, hold, miss_events}
 use Rattle.one_monitor.specs.Idle.{IsIdle}
 use Rattle.one_monitor.specs.Held.{HasOne, IsWaiting}
 use Rattle.one_monitor.proofs.Idling.{missed_own}

@@ -2,9 +2,9 @@
 use Rattle.std.specs.Prelude.{ℕ, ◌≡◌, ◌≢◌, ◌<◌, ◌≤◌, Some, None}
 use Rattle.heap_model.specs.declared.ids.ObjectId.{ObjectId}
 use Rattle.monitor.specs.Seats.{Home, Sitting}
-use Rattle.steps.specs.declared.grip.Grip.{Grip}
-use Rattle.steps.specs.declared.limits.TheConstants.{FAT_LOCKS}
-use Rattle.steps.specs.Views.{view, plan, IsSeatOf, IsClear, IsAwake, IsPaused, IsSlot, Keeps, hold}
+use Rattle.thread_steps.specs.declared.grip.Grip.{Grip}
+use Rattle.thread_steps.specs.declared.limits.TheConstants.{FAT_LOCKS}
+use Rattle.thread_steps.specs.Views.{view, plan, IsSeatOf, IsClear, IsAwake, IsPaused, IsSlot, Keeps, hold}
 
 -- by its own events it holds this monitor and no other, and isn't in a wait
 pub record HasOne (h : Home) (s : Sitting) (g : Grip) : Type 0 where

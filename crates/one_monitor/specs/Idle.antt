@@ -1,7 +1,7 @@
 -- A seat between two sections.
 use Rattle.std.specs.Prelude.{ℕ, ◌≡◌, None}
 use Rattle.monitor.specs.Seats.{Home, Sitting}
-use Rattle.steps.specs.Views.{view, IsSeatOf, IsClear, IsAwake, hold}
+use Rattle.thread_steps.specs.Views.{view, IsSeatOf, IsClear, IsAwake, hold}
 
 -- by its own events it holds nothing and isn't in a wait
 pub record IsIdle (h : Home) (s : Sitting) : Type 0 where

@@ -1,7 +1,7 @@
 -- A thread of a race between two sections.
 use Rattle.std.specs.Prelude.{ℕ, ◌<◌}
 use Rattle.monitor.specs.Seats.{Home}
-use Rattle.steps.specs.Views.{plan}
+use Rattle.thread_steps.specs.Views.{plan}
 use Rattle.one_monitor.specs.declared.racing.Racer.{Racer}
 use Rattle.one_monitor.specs.Idle.{IsIdle}
 

@@ -2,14 +2,14 @@
 
 ghost use Rattle.std.specs.Prelude.{◌≡◌, ◌<◌, ◌≤◌, [], ◌∷◌, Some, None, true, IfOk, MatchResult, MatchBool};
 ghost use Rattle.heap_model.specs.declared.event.Event.TheVariants as event;
-ghost use Rattle.steps.specs.Views.{view, plan, Lengthens, Takes, IsClear, IsRemoved, room_of};
+ghost use Rattle.thread_steps.specs.Views.{view, plan, Lengthens, Takes, IsClear, IsRemoved, room_of};
 ghost use Rattle.one_monitor.specs.Idle.{IsIdle};
 ghost use Rattle.one_monitor.specs.Held.{HasOne, IsWaiting};
 
 use heap_model::{FieldId, Lane, ObjectId};
 use lock_word::{FAT_SLOTS, FatShape, FatWord, Shape};
 use monitor::{Seat, Shared};
-use steps::{FAT_LOCKS, Grip, Seen, Sighted, THIN_LOCKS};
+use thread_steps::{FAT_LOCKS, Grip, Seen, Sighted, THIN_LOCKS};
 
 /// A thread in a wait: for which monitor, by how many locks, and in which slot.
 #[derive(Clone, Copy, Debug, PartialEq, Eq)]
@@ -25,7 +25,7 @@ pub fn words_of(shared: &Shared, seat: &mut Seat, object: ObjectId) -> (u64, Opt
     requires object { object.0 < (plan shared.now).objects }
     ensures idle { IsIdle shared.now seat.new }
 {
-    let Sighted { lock, fat } = steps::look(shared, seat, object);
+    let Sighted { lock, fat } = thread_steps::look(shared, seat, object);
     match fat {
         None => (lock.bits(), None),
         Some(word) => (lock.bits(), Some(word.bits())),
@@ -60,17 +60,17 @@ pub fn try_enter(shared: &Shared, seat: &mut Seat, object: ObjectId) -> Result<G
     ensures object { IfOk result (λ g. g.object ≡ object) }
     ensures count { IfOk result (λ g. g.count ≡ 1) }
 {
-    let Sighted { lock, fat } = steps::look(shared, seat, object);
+    let Sighted { lock, fat } = thread_steps::look(shared, seat, object);
     let shape = lock.shape();
     let number = number_of(shape, fat);
-    if number >= steps::last(shared) {
+    if number >= thread_steps::last(shared) {
         return Err(lock.bits());
     }
     let slot = match shape {
         Shape::Fat { index, .. } => Some(index),
         Shape::Free { .. } | Shape::Thin { .. } => None,
     };
-    match steps::try_take(shared, seat, object, slot, number) {
+    match thread_steps::try_take(shared, seat, object, slot, number) {
         Ok(grip) => Ok(grip),
         Err(seen) => Err(bits(seen)),
     }
@@ -96,7 +96,7 @@ pub fn nest_to(shared: &Shared, seat: &mut Seat, grip: Grip, count: u32) -> Grip
         if grip.count >= count || grip.count >= room(grip) {
             break;
         }
-        grip = steps::nest(shared, seat, grip);
+        grip = thread_steps::nest(shared, seat, grip);
     }
     grip
 }
@@ -111,7 +111,7 @@ pub fn fatten(shared: &Shared, seat: &mut Seat, grip: Grip) -> Grip
     if grip.slot.is_some() {
         return grip;
     }
-    match steps::inflate(shared, seat, grip) {
+    match thread_steps::inflate(shared, seat, grip) {
         None => grip,
         Some(fat) => fat,
     }
@@ -124,9 +124,9 @@ pub fn leave(shared: &Shared, seat: &mut Seat, grip: Grip)
 {
     let mut grip = grip;
     while grip.count > 1 {
-        grip = steps::unnest(shared, seat, grip);
+        grip = thread_steps::unnest(shared, seat, grip);
     }
-    steps::release(shared, seat, grip);
+    thread_steps::release(shared, seat, grip);
 }
 
 /// Goes to wait for a fat monitor, with all locks kept aside.
@@ -137,7 +137,7 @@ pub fn begin_wait(shared: &Shared, seat: &mut Seat, grip: Grip, slot: u32) -> Wa
     ensures clear { IsClear (view seat.new) }
     ensures told { Lengthens (view seat.old) (view seat.new) (event.Wait grip.object grip.number ∷ []) }
 {
-    steps::join_wait(shared, seat, grip);
+    thread_steps::join_wait(shared, seat, grip);
     Waiter {
         object: grip.object,
         count: grip.count,
@@ -152,7 +152,7 @@ pub fn is_in_set(shared: &Shared, seat: &mut Seat, waiter: Waiter) -> bool
     ensures waits { IsWaiting shared.now seat.new waiter.object waiter.count waiter.slot }
     ensures mark { MatchBool result (IsClear (view seat.new)) (IsRemoved (view seat.new) waiter.object) }
 {
-    steps::poll_wait(shared, seat, waiter.object)
+    thread_steps::poll_wait(shared, seat, waiter.object)
 }
 
 /// Tries to come back from a wait at this number. Answers the grip, or the fat word that was found.
@@ -169,7 +169,7 @@ pub fn try_return(
     ensures removed { MatchResult result (λ _. IsClear (view seat.new)) (λ _. IsRemoved (view seat.new) waiter.object) }
     ensures told { IfOk result (λ g. Takes (view seat.old) (view seat.new) (event.Resume waiter.object number) waiter.object waiter.count number g) }
 {
-    match steps::try_retake(
+    match thread_steps::try_retake(
         shared,
         seat,
         waiter.object,
@@ -188,7 +188,7 @@ pub fn wake(shared: &Shared, seat: &mut Seat, grip: Grip) -> Option<Lane>
     ensures one { HasOne shared.now seat.new grip }
     ensures told { Lengthens (view seat.old) (view seat.new) (event.Notify grip.object result ∷ []) }
 {
-    steps::notify_one(shared, seat, grip)
+    thread_steps::notify_one(shared, seat, grip)
 }
 
 /// Whether the monitor guards the field.
@@ -196,7 +196,7 @@ pub fn is_guard(shared: &Shared, grip: Grip, field: FieldId) -> bool
     requires field { field.0 < (plan shared.now).fields }
     ensures guard { result ≡ true → (plan shared.now).guard field.0 ≡ grip.object.0 }
 {
-    steps::guard(shared, field).0 == grip.object.0
+    thread_steps::guard(shared, field).0 == grip.object.0
 }
 
 /// The field's value, whose guard the thread holds.
@@ -207,7 +207,7 @@ pub fn read(shared: &Shared, seat: &mut Seat, grip: Grip, field: FieldId) -> u64
     ensures one { HasOne shared.now seat.new grip }
     ensures told { Lengthens (view seat.old) (view seat.new) (event.Load field result ∷ []) }
 {
-    steps::read_field(shared, seat, field)
+    thread_steps::read_field(shared, seat, field)
 }
 
 /// Stores a value, and answers the one before. The thread holds the field's guard.
@@ -218,5 +218,5 @@ pub fn write(shared: &Shared, seat: &mut Seat, grip: Grip, field: FieldId, value
     ensures one { HasOne shared.now seat.new grip }
     ensures told { Lengthens (view seat.old) (view seat.new) (event.Store field result value ∷ []) }
 {
-    steps::write_field(shared, seat, field, value)
+    thread_steps::write_field(shared, seat, field, value)
 }

@@ -2,7 +2,7 @@
 
 ghost use Rattle.std.specs.Prelude.{◌≡◌, ◌+◌, ◌<◌, ◌≤◌, All, IfOk};
 ghost use Rattle.monitor.specs.Seats.{IsHelperOf};
-ghost use Rattle.steps.specs.Views.{plan};
+ghost use Rattle.thread_steps.specs.Views.{plan};
 ghost use Rattle.one_monitor.specs.Idle.{IsIdle};
 ghost use Rattle.one_monitor.specs.Race.{IsRacer};
 
@@ -100,7 +100,7 @@ fn takes(shared: &Shared, seat: &mut Seat, object: ObjectId) -> u64
     requires object { object.0 < (plan shared.now).objects }
     ensures idle { IsIdle shared.now seat.new }
 {
-    match steps::look(shared, seat, object).lock.shape() {
+    match thread_steps::look(shared, seat, object).lock.shape() {
         Shape::Free { number } => number,
         Shape::Thin { .. } | Shape::Fat { .. } => 0,
     }

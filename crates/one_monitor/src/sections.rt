@@ -1,13 +1,13 @@
 //! Sections that take a monitor and leave it at once.
 
 ghost use Rattle.std.specs.Prelude.{◌≡◌, ◌<◌, ◌≤◌};
-ghost use Rattle.steps.specs.Views.{plan};
+ghost use Rattle.thread_steps.specs.Views.{plan};
 ghost use Rattle.one_monitor.specs.Idle.{IsIdle};
 
 use heap_model::ObjectId;
 use lock_word::Shape;
 use monitor::{Seat, Shared};
-use steps::{last, look, release, try_take};
+use thread_steps::{last, look, release, try_take};
 
 /// Takes the monitor and leaves it, if it is found free and nobody comes first. Answers whether it did.
 pub fn take_once(shared: &Shared, seat: &mut Seat, object: ObjectId) -> bool

@@ -4,3 +4,6 @@ mod NameLemmas
 mod DeclaringLemmas
 mod FirstLists
 mod LayingOut
+mod Loading
+mod Storing
+mod Calling

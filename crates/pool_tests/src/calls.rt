@@ -1,12 +1,11 @@
 //! A pool's calls in a section, so that a test may list them with their answers.
 
 ghost use Rattle.std.specs.Prelude.{◌≡◌};
-ghost use Rattle.pool_in_section.specs.Knowing.{home_of};
+ghost use Rattle.pool.specs.Knowing.{home_of};
 ghost use Rattle.session.specs.Sessions.{IsSessionOf};
 
 use monitor::Shared;
-use pool::{Pool, PoolError};
-use pool_in_section::InSection;
+use pool::{InSection, Pool, PoolError};
 use session::{Session, SessionError};
 
 /// A call of a pool.

@@ -8,11 +8,11 @@ ghost use Rattle.session.specs.Sessions.{IsSessionOf};
 
 use guards::{Schema, SchemaBuilder};
 use heap_model::{FieldId, ObjectId};
-use lane_rings::{Receiver, RingRecords};
 use monitor::{Seat, Shared};
 use pool::{MOST_SLOTS, Pool};
 use session::{Session, open_sessions};
 use std::alloc::{AllocError, Global};
+use thread_rings::{Receiver, RingRecords};
 
 /// The object that guards the pool.
 pub const GUARD: ObjectId = ObjectId(0);

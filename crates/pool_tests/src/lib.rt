@@ -1,4 +1,4 @@
-//! Tests of: pool, pool_in_section.
+//! Tests of: pool, pool.
 //!
 //! Pools by public calls alone: as a schema declares one, and in a plain row of cells; in the fields of a heap, what its calls answer in
 //! sections; and threads that take and give its slots side by side.

@@ -7,12 +7,12 @@ ghost use Rattle.session.specs.Sessions.{IsSessionOf};
 use crate::calls::{Call, Row, call_all};
 use crate::heap::{GUARD, HEAD, SLOT, empty, open_pool, take_last, take_two, value_in};
 use heap_model::{FieldId, ObjectId};
-use lane_rings::Receiver;
 use monitor::Shared;
 use pool::{MOST_SLOTS, Pool, PoolError, TAKEN};
 use session::{Session, SessionError};
 use std::alloc::Global;
-use steps::Seen;
+use thread_rings::Receiver;
+use thread_steps::Seen;
 
 // Stores the value in the head so many times. Answers whether all were Ok.
 fn fill(shared: &Shared, session: &mut Session, value: u64, times: u32) -> bool

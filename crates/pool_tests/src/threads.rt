@@ -5,14 +5,13 @@ ghost use Rattle.session.specs.Sessions.{IsSessionOf};
 
 use crate::heap::{GUARD, HEAD, empty, open_pool, take_last, take_two, value_in};
 use heap_model::FieldId;
-use lane_rings::Receiver;
 use monitor::Shared;
-use pool::Pool;
-use pool_in_section::{give, take};
+use pool::{Pool, give, take};
 use session::Session;
 use std::alloc::Global;
 use std::sync::Wait;
 use std::thread::{Threads, join};
+use thread_rings::Receiver;
 
 // How many slots the pool has.
 const SLOTS: u32 = 4;

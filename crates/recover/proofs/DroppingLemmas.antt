@@ -4,7 +4,7 @@ use Rattle.std.proofs.lemmas.Bool.{cases_lt}
 use Rattle.heap_model.specs.Log.{lane}
 use Rattle.heap_model.specs.Sections.{Action, Frees, ended, Section, Did}
 use Rattle.heap_model.specs.Cuts.{Counts}
-use Rattle.cut_laws.proofs.Stores.{ended_rises}
+use Rattle.law_cuts.proofs.Stores.{ended_rises}
 use Rattle.dependence.specs.Reason.{IsLeftOut, IsReason, Previous, Releaser}
 use Rattle.recover.specs.declared.report.Dropped.{Dropped}
 use Rattle.recover.specs.Dropping.{AreEntriesOf, IsEntryOf, sections_after}

@@ -24,10 +24,10 @@ use Rattle.recover.specs.Dropping.{AreDropped, AreEntriesOf, sections_after, set
 use Rattle.recover.specs.Logs.{lanes_of, records_of, logged_guard_in}
 use Rattle.recover.specs.Reading.{HasFront, Holds}
 use Rattle.recover.specs.Recovery.{IsEnded}
-use Rattle.live_logs.specs.Replay.{Replays}
+use Rattle.recover_logs.specs.Replay.{Replays}
 use Rattle.recover.specs.Settled.{AreLegal, IsAtRest, TakesUnsettled, settled_records}
 use Rattle.recover.specs.Study.{AreUndone, IsReportOf, IsStudyOf, held_by}
-use Rattle.live_logs.proofs.ReplayLemmas.{zeros}
+use Rattle.recover_logs.proofs.ReplayLemmas.{zeros}
 use Rattle.recover.proofs.StudyLemmas.{stands_for}
 
 -- the rows of empty logs

@@ -15,8 +15,8 @@ use Rattle.heap_model.specs.declared.ids.ObjectId.{ObjectId}
 use Rattle.heap_model.specs.declared.record.UndoRecord.{UndoRecord}
 use Rattle.heap_model.specs.declared.record.UndoRecord.TheVariants.{Acq, Rel, WaitRel, Put}
 use Rattle.undo_log.specs.OldValues.{held_since, OldValue, IsOld, HasOld, IsNoLater, TakesBack, NothingBack, FirstBack, IsUnsettled}
-use Rattle.log_state.specs.Monitors.{MayStore}
-use Rattle.live_logs.specs.Replay.{holder, number, IsAllowed, IsGreedy, Replays}
+use Rattle.recover_logs.specs.Monitors.{MayStore}
+use Rattle.recover_logs.specs.Replay.{holder, number, IsAllowed, IsGreedy, Replays}
 use Rattle.recover.specs.Heap.{stored, earlier, first_old, AreFields, IsOldOrHome, IsUndone}
 
 -- a lane's stores with one more record of some lane

@@ -6,7 +6,7 @@ use Rattle.heap_model.specs.declared.record.UndoRecord.TheVariants.{Acq, Rel, Wa
 use Rattle.image.specs.Layout.{IsLayout}
 use Rattle.image.specs.declared.guard_row.GuardRow.{GuardRow}
 use Rattle.image.specs.declared.layout.Layout.{Layout}
-use Rattle.log_state.specs.Limits.{IsBelow, IsOfObjects}
+use Rattle.recover_logs.specs.Limits.{IsBelow, IsOfObjects}
 use Rattle.undo_log.specs.Area.{IsLoggable}
 use Rattle.undo_log.specs.StandsFor.{guard_in, is_transient_in, row_in}
 use Rattle.recover.specs.Logs.{AreGuards, logged_guard_in}

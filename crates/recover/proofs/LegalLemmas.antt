@@ -4,7 +4,7 @@ use Rattle.heap_model.specs.declared.ids.ObjectId.{ObjectId}
 use Rattle.heap_model.specs.declared.record.UndoRecord.{UndoRecord}
 use Rattle.image.specs.declared.lane_row.LaneRow.{LaneRow}
 use Rattle.undo_log.specs.StandsFor.{row_of, settled_of}
-use Rattle.live_logs.specs.Settled as logs
+use Rattle.recover_logs.specs.Settled as logs
 use Rattle.recover.specs.Settled.{IsIllegalAt, Stuck, Restless, Crossing, kept_of}
 
 -- the place that a test names is one of the image, where the lane's records begin at its row's start

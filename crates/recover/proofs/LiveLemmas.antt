@@ -4,7 +4,7 @@ use Rattle.std.proofs.lemmas.Bool.{cases_lt}
 use Rattle.std.proofs.lemmas.List.{map-append, take-append-drop, reverse-append, reverse-reverse, get_or-drop, get_or_past, length-map, length-reverse}
 use Rattle.heap_model.specs.Sections.{Action, Takes, Frees, Stores, undo_action, without, holding, ended}
 use Rattle.heap_model.specs.declared.record.UndoRecord.{UndoRecord}
-use Rattle.cut_laws.proofs.Stores.{ended_rises}
+use Rattle.law_cuts.proofs.Stores.{ended_rises}
 use Rattle.dependence.proofs.Counted.{without_length}
 use Rattle.image.specs.Control.{AreRows}
 use Rattle.image.specs.Rows.{empty_row}
@@ -14,10 +14,10 @@ use Rattle.undo_log.specs.StandsFor.{row_of, settled_of}
 use Rattle.recover.specs.declared.live_sections.LiveSections.{LiveSections}
 use Rattle.recover.specs.Logs.{records_of, lanes_of}
 use Rattle.recover.specs.Settled.{settled_records}
-use Rattle.live_logs.specs.Tally.{FreesHeld, acts_of}
+use Rattle.recover_logs.specs.Tally.{FreesHeld, acts_of}
 use Rattle.recover.specs.Dropping.{whole_sections, settled_sections, live_sections}
 use Rattle.recover.specs.Live.{nothing_live, IsLiveOf, IsLiveIn}
-use Rattle.live_logs.proofs.LaneLemmas.{records_past}
+use Rattle.recover_logs.proofs.LaneLemmas.{records_past}
 
 -- a section that has ended has a record, and so has a monitor that is held
 pub counted_short : (acts : List Action) → FreesHeld acts → ended acts + length (holding acts) ≤ length acts

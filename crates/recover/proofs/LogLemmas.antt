@@ -12,7 +12,7 @@ use Rattle.undo_log.specs.Runs.{IsFull}
 use Rattle.undo_log.specs.StandsFor.{row_of}
 use Rattle.recover.specs.declared.error.RecoverError.{RecoverError}
 use Rattle.recover.specs.declared.error.RecoverError.TheVariants.{Fault, NotFormatted, BadHeader, TooSmall, NoControl, BadControl, OldVersion, Worn, BadRecord, IllegalLog, NoMemory}
-use Rattle.live_logs.proofs.LaneLemmas.{records_past}
+use Rattle.recover_logs.proofs.LaneLemmas.{records_past}
 use Rattle.recover.specs.Logs.{records_of, AreLogs, IsReadTo, IsBadAt, RefusesLane, RefusesLogs}
 
 -- the row of a lane of the image

@@ -8,7 +8,7 @@ use Rattle.heap_model.specs.declared.ids.Lane.{Lane}
 use Rattle.heap_model.specs.declared.ids.ObjectId.{ObjectId}
 use Rattle.heap_model.specs.declared.record.UndoRecord.{UndoRecord}
 use Rattle.heap_model.specs.declared.record.UndoRecord.TheVariants.{Acq, Rel, WaitRel, Put}
-use Rattle.live_logs.specs.Replay.{holder, number, BeginsAt, IsAllowed, IsNext, GoesOn, NoneBelow, IsGreedy, IsReplay}
+use Rattle.recover_logs.specs.Replay.{holder, number, BeginsAt, IsAllowed, IsNext, GoesOn, NoneBelow, IsGreedy, IsReplay}
 
 -- of two ends of one list, the longer ends with the other
 pub ends_with : {A : Type 0} → (a x b y : List A) → a ++ x ≡ b ++ y → length x ≤ length y → (more : List A) × (y ≡ more ++ x)

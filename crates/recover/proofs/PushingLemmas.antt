@@ -9,13 +9,13 @@ use Rattle.heap_model.specs.declared.ids.ObjectId.{ObjectId}
 use Rattle.heap_model.specs.declared.record.UndoRecord.{UndoRecord}
 use Rattle.heap_model.specs.declared.record.UndoRecord.TheVariants.{Acq, Rel, WaitRel, Put}
 use Rattle.dependence.specs.Next.{IsBelow, IsNext}
-use Rattle.live_logs.specs.declared.step.Step.{Step}
-use Rattle.live_logs.specs.Replay.{holder, number, IsAllowed, IsGreedy}
-use Rattle.live_logs.specs.Tables.{log_of}
+use Rattle.recover_logs.specs.declared.step.Step.{Step}
+use Rattle.recover_logs.specs.Replay.{holder, number, IsAllowed, IsGreedy}
+use Rattle.recover_logs.specs.Tables.{log_of}
 use Rattle.recover.specs.Dropping.{acts_in}
 use Rattle.recover.specs.Live.{ArePushable}
-use Rattle.live_logs.proofs.ReplayLemmas.{log_more}
-use Rattle.live_logs.proofs.TallyLemmas.{held_by}
+use Rattle.recover_logs.proofs.ReplayLemmas.{log_more}
+use Rattle.recover_logs.proofs.TallyLemmas.{held_by}
 
 -- a lane's actions are what its records did
 pub lane_acts : (l : ℕ) (done : List (ℕ × UndoRecord)) → lane l (acts_in done) ≡ map undo_action (lane l done)

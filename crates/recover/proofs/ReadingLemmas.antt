@@ -19,7 +19,7 @@ use Rattle.recover.specs.declared.error.RecoverError.TheVariants.{Fault, NotForm
 use Rattle.recover.specs.Logs.{records_of, lanes_of, AreLogs, AreLoggable, RefusesLogs, logged_guard_in}
 use Rattle.recover.specs.Settled.{RefusesLegal}
 use Rattle.recover.specs.Reading.{HasLayout, HasControl, RefusesFront, RefusesLive, RefusesImage}
-use Rattle.live_logs.proofs.LaneLemmas.{records_past}
+use Rattle.recover_logs.proofs.LaneLemmas.{records_past}
 
 pub refused_logs : (image : List ℕ) (l : Layout) (guards : List GuardRow) (c : Control) (e : RecoverError) → RefusesLogs l image c.rows e → RefusesLive image l guards c e
 refused_logs image l guards c Fault h = tt

@@ -9,7 +9,7 @@ use Rattle.heap_model.specs.Sections.{Action, undo_action, ended, Section, Did}
 use Rattle.heap_model.specs.declared.ids.ObjectId.{ObjectId}
 use Rattle.heap_model.specs.declared.record.UndoRecord.{UndoRecord}
 use Rattle.heap_model.specs.declared.record.UndoRecord.TheVariants.{Acq, Rel, WaitRel, Put}
-use Rattle.cut_laws.proofs.Lanes.{lane_append}
+use Rattle.law_cuts.proofs.Lanes.{lane_append}
 use Rattle.dependence.specs.Next.{IsObjectBelow}
 use Rattle.dependence.specs.Trace.{Trace}
 use Rattle.image.specs.Layout.{IsLayout}
@@ -20,17 +20,17 @@ use Rattle.image.specs.declared.lane_row.LaneRow.{LaneRow}
 use Rattle.undo_log.specs.Area.{IsLoggable}
 use Rattle.undo_log.specs.StandsFor.{row_of}
 use Rattle.recover.specs.declared.live_sections.LiveSections.{LiveSections}
-use Rattle.live_logs.specs.declared.step.Step.{Step}
+use Rattle.recover_logs.specs.declared.step.Step.{Step}
 use Rattle.recover.specs.Logs.{records_of, lanes_of, AreLoggable}
-use Rattle.live_logs.specs.Replay.{Replays}
-use Rattle.live_logs.specs.Tables.{log_of}
-use Rattle.live_logs.specs.Tally.{acts_of}
+use Rattle.recover_logs.specs.Replay.{Replays}
+use Rattle.recover_logs.specs.Tables.{log_of}
+use Rattle.recover_logs.specs.Tally.{acts_of}
 use Rattle.recover.specs.Dropping.{acts_in}
 use Rattle.recover.specs.Live.{live_at, IsLiveIn, IsGraphOf, IsReady}
 use Rattle.recover.proofs.LogLemmas.{row_is}
-use Rattle.live_logs.proofs.LaneLemmas.{records_past}
-use Rattle.live_logs.proofs.FirstLemmas.{All-reverse}
-use Rattle.live_logs.proofs.ReplayLemmas.{is_there}
+use Rattle.recover_logs.proofs.LaneLemmas.{records_past}
+use Rattle.recover_logs.proofs.FirstLemmas.{All-reverse}
+use Rattle.recover_logs.proofs.ReplayLemmas.{is_there}
 use Rattle.recover.proofs.PushingLemmas.{lane_acts, log_parts, log_step, ended_short}
 use Rattle.recover.proofs.LiveLemmas.{acts_long, row_past}
 

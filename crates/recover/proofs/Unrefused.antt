@@ -21,7 +21,7 @@ use Rattle.undo_log.specs.StandsFor.{is_transient_in, row_of, HasLive}
 use Rattle.recover.specs.Logs.{AreLogs, IsBadAt, lanes_of, logged_guard_in}
 use Rattle.recover.specs.Reading.{HasFront, HasLayout, HasControl, HasStrayMark, RefusesRows, RefusesImage}
 use Rattle.recover.specs.Recovery.{StudiedLaw}
-use Rattle.live_logs.specs.Replay.{IsStuckAt, Replays}
+use Rattle.recover_logs.specs.Replay.{IsStuckAt, Replays}
 use Rattle.recover.specs.Settled.{AreLegal, IsIllegalAt, Stuck, Restless, Crossing}
 use Rattle.recover.specs.Study.{IsStudyOf}
 use Rattle.recover.specs.declared.error.RecoverError.{RecoverError}

@@ -9,7 +9,7 @@ use Rattle.dependence.specs.Trace.{Trace, base_of}
 use Rattle.dependence.specs.Next.{IsNext}
 use Rattle.recover.specs.declared.live_sections.LiveSections.{LiveSections}
 use Rattle.recover.specs.declared.report.Dropped.{Dropped}
-use Rattle.live_logs.specs.Tally.{acts_of}
+use Rattle.recover_logs.specs.Tally.{acts_of}
 use Rattle.recover.specs.Dropping.{whole_sections, settled_sections, trimmed_sections, live_sections, acts_in, AreEntriesOf, sections_after}
 
 -- a lane that has no records

@@ -10,7 +10,7 @@ use Rattle.image.specs.declared.guard_row.GuardRow.{GuardRow}
 use Rattle.undo_log.specs.Area.{HasRecord, IsLoggable}
 use Rattle.undo_log.specs.Runs.{IsFull}
 use Rattle.undo_log.specs.StandsFor.{row_of, guard_in, HasLive}
-pub use Rattle.live_logs.specs.Logs.{records_of, lanes_of}
+pub use Rattle.recover_logs.specs.Logs.{records_of, lanes_of}
 use Rattle.recover.specs.declared.error.RecoverError.{RecoverError}
 use Rattle.recover.specs.declared.error.RecoverError.TheVariants.{Fault, BadRecord, NoMemory}
 

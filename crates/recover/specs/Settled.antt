@@ -5,9 +5,9 @@ use Rattle.heap_model.specs.declared.ids.ObjectId.{ObjectId}
 use Rattle.heap_model.specs.declared.record.UndoRecord.{UndoRecord}
 use Rattle.image.specs.declared.lane_row.LaneRow.{LaneRow}
 use Rattle.undo_log.specs.StandsFor.{row_of, settled_of}
-use Rattle.live_logs.specs.Replay.{Replays, IsStuckAt}
-use Rattle.live_logs.specs.Settled as logs
-pub use Rattle.live_logs.specs.Settled.{first_of, HasAt, TakesUnsettled, IsLeastUnsettled}
+use Rattle.recover_logs.specs.Replay.{Replays, IsStuckAt}
+use Rattle.recover_logs.specs.Settled as logs
+pub use Rattle.recover_logs.specs.Settled.{first_of, HasAt, TakesUnsettled, IsLeastUnsettled}
 use Rattle.recover.specs.declared.error.RecoverError.{RecoverError}
 use Rattle.recover.specs.declared.error.RecoverError.TheVariants.{IllegalLog, NoMemory}
 

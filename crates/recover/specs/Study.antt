@@ -14,7 +14,7 @@ use Rattle.recover.specs.Dropping.{AreDropped}
 use Rattle.recover.specs.Heap.{AreFields, IsUndone}
 use Rattle.recover.specs.Logs.{lanes_of, logged_guard_in}
 use Rattle.recover.specs.Reading.{Holds}
-use Rattle.live_logs.specs.Replay.{Replays}
+use Rattle.recover_logs.specs.Replay.{Replays}
 
 -- what the study says that the image holds
 abbrev pub held_by : Study → LoggedImage

@@ -3,9 +3,9 @@ ghost use Rattle.std.specs.Prelude.{◌≡◌, ◌-◌, ℕ, All, IfErr, IfOk, M
 ghost use Rattle.image.specs.Control.{AreRows};
 ghost use Rattle.image.specs.Layout.{IsLayout};
 ghost use Rattle.undo_log.specs.StandsFor.{settled_of};
-ghost use Rattle.live_logs.specs.Logs.{guard_in as guard_among, count_of};
-ghost use Rattle.live_logs.specs.Replay.{Replays};
-ghost use Rattle.live_logs.specs.Tables.{IsLow, log_of};
+ghost use Rattle.recover_logs.specs.Logs.{guard_in as guard_among, count_of};
+ghost use Rattle.recover_logs.specs.Replay.{Replays};
+ghost use Rattle.recover_logs.specs.Tables.{IsLow, log_of};
 ghost use Rattle.recover.specs.Logs.{AreGuards, AreLoggable, lanes_of, logged_guard as logged, logged_guard_in};
 ghost use Rattle.recover.specs.Settled.{AreLegal, RefusesLegal, kept_of};
 ghost use Rattle.recover.specs.declared.error.RecoverError.TheVariants.{NoMemory};
@@ -13,13 +13,13 @@ ghost use Rattle.recover.specs.declared.error.RecoverError.TheVariants.{NoMemory
 use crate::error::RecoverError;
 use heap_model::{ObjectId, UndoRecord};
 use image::{GuardRow, LaneRow, Layout};
-use live_logs::{LogsError, SettledCount, Step};
+use recover_logs::{LogsError, SettledCount, Step};
 use std::alloc::Global;
 
 /// Tests the lanes' live records, which are those of an image with these guard rows and these rows of its control, and
 /// answers them in the order in which they were replayed, the oldest first.
 ///
-/// `IllegalLog` comes from the three tests of [`live_logs::check_logs`], in their order, with the place of the image that
+/// `IllegalLog` comes from the three tests of [`recover_logs::check_logs`], in their order, with the place of the image that
 /// each names. `NoMemory` comes where there is no room for the guards or for the replay.
 pub fn check_logs(
     alloc: Global,
@@ -40,7 +40,7 @@ pub fn check_logs(
     ensures low { IfOk result (λ steps. All IsLow steps.items) }
 {
     let objects = guarding_objects(alloc, guards)?;
-    match live_logs::check_logs(alloc, &objects, &settled_counts(rows), logs) {
+    match recover_logs::check_logs(alloc, &objects, &settled_counts(rows), logs) {
         Ok(steps) => Ok(steps),
         Err(LogsError::IllegalLog { lane, place }) => Err(RecoverError::IllegalLog {
             lane,

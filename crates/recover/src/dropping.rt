@@ -4,9 +4,9 @@ ghost use Rattle.heap_model.specs.Cuts.{IsStable};
 ghost use Rattle.image.specs.Control.{AreRows};
 ghost use Rattle.image.specs.Layout.{IsLayout};
 ghost use Rattle.recover.specs.Logs.{AreGuards, AreLoggable, lanes_of, logged_guard_in};
-ghost use Rattle.live_logs.specs.Replay.{Replays};
+ghost use Rattle.recover_logs.specs.Replay.{Replays};
 ghost use Rattle.recover.specs.Settled.{AreLegal};
-ghost use Rattle.live_logs.specs.Tables.{log_of};
+ghost use Rattle.recover_logs.specs.Tables.{log_of};
 ghost use Rattle.recover.specs.Dropping.{AreDropped, IsWhy, IsEntryOf};
 ghost use Rattle.recover.specs.Live.{AddsReports, IsReady, live_at, trimmed_at};
 ghost use Rattle.recover.specs.declared.error.RecoverError.TheVariants.{NoMemory};
@@ -19,7 +19,7 @@ use crate::report::{Dropped, Why};
 use dependence::Graph;
 use heap_model::{Lane, UndoRecord};
 use image::{GuardRow, LaneRow, Layout};
-use live_logs::Step;
+use recover_logs::Step;
 use std::alloc::Global;
 
 /// The sections that recovery drops, by lane and then by number: each live one that isn't settled, with the reason.

@@ -3,12 +3,12 @@ ghost use Rattle.std.specs.Prelude.{◌≡◌, ◌<◌, ◌≤◌, All, MatchRes
 ghost use Rattle.dependence.specs.Next.{IsObjectBelow};
 ghost use Rattle.recover.specs.Dropping.{acts_in};
 ghost use Rattle.recover.specs.Live.{ArePushable, IsGraphOf};
-ghost use Rattle.live_logs.specs.Tables.{log_of};
+ghost use Rattle.recover_logs.specs.Tables.{log_of};
 ghost use Rattle.recover.specs.declared.error.RecoverError.TheVariants.{NoMemory};
 
 use crate::error::RecoverError;
 use dependence::Graph;
-use live_logs::Step;
+use recover_logs::Step;
 use std::alloc::Global;
 
 /// The graph of a replay's steps, of so many lanes.

@@ -7,15 +7,15 @@ ghost use Rattle.image.specs.Layout.{size_of};
 ghost use Rattle.undo_log.specs.StandsFor.{guard_in, row_in, settled_of};
 ghost use Rattle.recover.specs.Heap.{AreFields, IsOldOrHome, IsUndone, RefusesHeap, TakesAllBack, earlier, first_old, stored};
 ghost use Rattle.recover.specs.Logs.{lanes_of, logged_guard_in};
-ghost use Rattle.live_logs.specs.Replay.{Replays};
-ghost use Rattle.live_logs.specs.Tables.{IsLow, log_of};
+ghost use Rattle.recover_logs.specs.Replay.{Replays};
+ghost use Rattle.recover_logs.specs.Tables.{IsLow, log_of};
 ghost use Rattle.recover.specs.declared.error.RecoverError.TheVariants.{Fault, NoMemory};
 
 use crate::error::RecoverError;
 use block_disk::Disk;
 use heap_model::{FieldId, Lane, UndoRecord};
 use image::{GuardRow, LaneRow, Layout, get_cell};
-use live_logs::Step;
+use recover_logs::Step;
 use std::alloc::Global;
 
 /// What a replayed image stands for.

@@ -5,13 +5,13 @@ ghost use Rattle.image.specs.Rows.{empty_row};
 ghost use Rattle.recover.specs.Logs.{records_of, lanes_of};
 ghost use Rattle.heap_model.specs.Sections.{ended};
 ghost use Rattle.recover.specs.Settled.{IsAtRest};
-ghost use Rattle.live_logs.specs.Tally.{FreesHeld, acts_of};
+ghost use Rattle.recover_logs.specs.Tally.{FreesHeld, acts_of};
 ghost use Rattle.recover.specs.Live.{IsLiveIn, IsLiveOf, live_at};
 
 use crate::live_sections::LiveSections;
 use heap_model::{Lane, UndoRecord};
 use image::LaneRow;
-use live_logs::{records_in, tally};
+use recover_logs::{records_in, tally};
 
 /// By lane: how many sections come before its live records, and how many are live. Each record is looked at at most twice.
 pub fn live_counts(rows: &[LaneRow; 32], logs: &[Vec<UndoRecord>]) -> [LiveSections; 32]

@@ -7,8 +7,8 @@ ghost use Rattle.image.specs.Layout.{IsLayout, size_of};
 ghost use Rattle.image.specs.Slots.{Shows};
 ghost use Rattle.recover.specs.Logs.{lanes_of, logged_guard_in};
 ghost use Rattle.recover.specs.Reading.{HasControl, HasLayout, Holds, RefusesControl, RefusesFront, RefusesLayout, RefusesLive, RefusesRows};
-ghost use Rattle.live_logs.specs.Replay.{Replays};
-ghost use Rattle.live_logs.specs.Tables.{IsLow, log_of};
+ghost use Rattle.recover_logs.specs.Replay.{Replays};
+ghost use Rattle.recover_logs.specs.Tables.{IsLow, log_of};
 ghost use Rattle.recover.specs.declared.error.RecoverError.TheVariants.{Fault};
 
 use crate::check::check_logs;

@@ -1,6 +1,6 @@
 //! An image with the replay of its live records.
 use crate::logged_image::LoggedImage;
-use live_logs::Step;
+use recover_logs::Step;
 
 /// What an image holds that no test refuses, with the replay of its live records.
 #[derive(Drop)]

@@ -7,9 +7,9 @@ ghost use Rattle.undo_log.specs.StandsFor.{StandsFor, row_of};
 ghost use Rattle.recover.specs.Heap.{RefusesHeap};
 ghost use Rattle.recover.specs.Logs.{lanes_of, logged_guard_in};
 ghost use Rattle.recover.specs.Reading.{HasControl, Holds, RefusesImage, RefusesLive};
-ghost use Rattle.live_logs.specs.Replay.{Replays};
+ghost use Rattle.recover_logs.specs.Replay.{Replays};
 ghost use Rattle.recover.specs.Study.{AreUndone, AreUndoneOf, IsReportOf, IsStudyOf};
-ghost use Rattle.live_logs.specs.Tables.{IsLow, log_of};
+ghost use Rattle.recover_logs.specs.Tables.{IsLow, log_of};
 ghost use Rattle.recover.specs.declared.error.RecoverError.TheVariants.{Fault, NoMemory};
 
 use crate::dropping::dropped_sections;
@@ -25,7 +25,7 @@ use crate::studied::Study;
 use block_disk::Disk;
 use heap_model::{Cut, FieldId};
 use image::LaneRow;
-use live_logs::Step;
+use recover_logs::Step;
 use std::alloc::Global;
 
 /// Studies the image on the device, of which nothing has to be known: what it holds, the heap that it stands for, and

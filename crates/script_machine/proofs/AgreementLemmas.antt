@@ -12,20 +12,20 @@ use Rattle.heap_model.specs.Setting.{Setting}
 use Rattle.heap_model.specs.State.{State, initial_state}
 use Rattle.heap_model.specs.Events.{MayDo, IsEventOf, after_event}
 use Rattle.heap_model.specs.History.{state_after, IsLegalHistory, logged, with_record, log_of}
-use Rattle.history_laws.specs.Laws.{LogLaw}
+use Rattle.law_histories.specs.Laws.{LogLaw}
 use Rattle.heap_model.specs.Log.{IsLegal}
 use Rattle.block_disk.specs.Memory.{Memory}
-use Rattle.store_past.specs.Past.{Past, applied, no_past, after_apply, after_home}
+use Rattle.heap_model.specs.Past.{Past, applied, no_past, after_apply, after_home}
 use Rattle.durable.specs.Calls.{RefusesLog, RefusesSettle, RefusesTrim}
 use Rattle.durable.specs.Store.{Known, Parts}
-use Rattle.store_past.specs.declared.error.StoreError.{StoreError}
-use Rattle.store_past.specs.declared.error.StoreError.TheVariants.{Failed, BadLane, BadId, Worn, NotNext, TooLong, LogFull, Unwritten, Fault, Unfinished}
+use Rattle.heap_model.specs.declared.store_error.StoreError.{StoreError}
+use Rattle.heap_model.specs.declared.store_error.StoreError.TheVariants.{Failed, BadLane, BadId, Worn, NotNext, TooLong, LogFull, Unwritten, Fault, Unfinished}
 use Rattle.script_machine.specs.Agreement.{Agrees, BeginsWith, IsForCall, IsForRecord, setting_from}
 use Rattle.script_machine.specs.Homes.{WriteHomes}
 use Rattle.script_machine.specs.Machine.{Keeps, RefusesRecord}
 use Rattle.script_machine.specs.OfSchema.{FitsSchema, IsDiskOf}
 use Rattle.script_machine.specs.States.{Tells}
-use Rattle.plain_monitors.specs.Table.{Table, lanes_of, setting_in, setting_of, state_of, IsStepOf, IsAfter, SameSetting}
+use Rattle.script_monitors.specs.Table.{Table, lanes_of, setting_in, setting_of, state_of, IsStepOf, IsAfter, SameSetting}
 
 -- the values at first don't decide what is allowed
 pub may-from : (a : Table) (first : ℕ → ℕ) (s : State) (t : ℕ) (e : Event) → MayDo (setting_of a) s t e → MayDo (setting_from a first) s t e

@@ -4,7 +4,7 @@ use Rattle.std.proofs.lemmas.Bool.{cases_lt}
 use Rattle.std.proofs.lemmas.Bool.Decides.{eqb_tells}
 use Rattle.heap_model.specs.Setting.{Setting}
 use Rattle.store_memory.specs.Begin.{IsLeastDirtyOf}
-use Rattle.store_past.specs.Past.{Past, after_home}
+use Rattle.heap_model.specs.Past.{Past, after_home}
 use Rattle.image.specs.declared.layout.Layout.{Layout}
 use Rattle.store_image.specs.Consistent.{ShowsPast}
 

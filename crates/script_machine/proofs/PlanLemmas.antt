@@ -14,14 +14,14 @@ use Rattle.script_machine.specs.declared.answer.Answer.TheVariants.{Done}
 use Rattle.script_machine.specs.declared.answer.Answer.TheVariants as answers
 use Rattle.script_machine.specs.declared.answer.Refusal.{Refusal}
 use Rattle.script_machine.specs.declared.answer.Refusal.TheVariants as why
-use Rattle.plain_monitors.specs.declared.monitors.MonitorRefusal.{MonitorRefusal}
-use Rattle.plain_monitors.specs.declared.monitors.MonitorRefusal.TheVariants as monitor
+use Rattle.script_monitors.specs.declared.monitors.MonitorRefusal.{MonitorRefusal}
+use Rattle.script_monitors.specs.declared.monitors.MonitorRefusal.TheVariants as monitor
 use Rattle.script_machine.specs.Refusals.{told_of_monitor}
 use Rattle.script_machine.specs.Lookups.{LooksUp, object_of}
 use Rattle.script_machine.specs.States.{Live}
 use Rattle.script_machine.specs.Answers.{woken_in}
-use Rattle.plain_monitors.specs.Table.{Table, IsAfter, lanes_of, setting_of, state_of}
-use Rattle.plain_monitors.specs.WaitSets.{least_of}
+use Rattle.script_monitors.specs.Table.{Table, IsAfter, lanes_of, setting_of, state_of}
+use Rattle.script_monitors.specs.WaitSets.{least_of}
 use Rattle.script_machine.specs.Machine.{MachineState, Refuses, WhileAwake, Does, Enters, Exits, Loads, Stores, Waits, Resumes, Notifies, NotifiesAll, Running, waiters}
 
 -- a thread of which it isn't so that it waits

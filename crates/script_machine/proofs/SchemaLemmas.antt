@@ -19,12 +19,12 @@ use Rattle.image.specs.declared.guard_row.GuardRow.{GuardRow}
 use Rattle.image.specs.declared.layout.Layout.{Layout}
 use Rattle.image.proofs.GuardLemmas.{one_row_there}
 use Rattle.image.proofs.Reading.{guards_are_read, one_layout}
-use Rattle.store_past.specs.Past.{Past, after_log, after_settle, after_trim, no_past}
+use Rattle.heap_model.specs.Past.{Past, after_log, after_settle, after_trim, no_past}
 use Rattle.store_image.specs.Consistent.{HasParts}
 use Rattle.durable.specs.Store.{FitsImage, Parts, ShowsStep}
 use Rattle.durable.specs.Store.ShowsStep.{Shows, ShowsLogged, ShowsSettled, ShowsTrimmed, ShowsAcknowledged}
 use Rattle.durable.specs.declared.doubt.Doubt.{Doubt}
-use Rattle.plain_monitors.specs.Table.{Table, setting_in}
+use Rattle.script_monitors.specs.Table.{Table, setting_in}
 use Rattle.recover.specs.Reading.{HasFront}
 use Rattle.recover.specs.Recovery.{IsOnTheWay}
 use Rattle.recover.specs.Study.{IsStudyOf}

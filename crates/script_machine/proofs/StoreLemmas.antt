@@ -5,15 +5,15 @@ use Rattle.block_disk.specs.Memory.{Memory}
 use Rattle.heap_model.specs.declared.record.Record.{Record}
 use Rattle.store_memory.specs.Apply.{Answers}
 use Rattle.durable.specs.Calls.{RefusesApply}
-use Rattle.store_past.specs.Past.{Past, after_apply}
+use Rattle.heap_model.specs.Past.{Past, after_apply}
 use Rattle.durable.specs.Store.{Parts}
-use Rattle.store_past.specs.declared.error.StoreError.{StoreError}
-use Rattle.store_past.specs.declared.error.StoreError.TheVariants.{Fault}
+use Rattle.heap_model.specs.declared.store_error.StoreError.{StoreError}
+use Rattle.heap_model.specs.declared.store_error.StoreError.TheVariants.{Fault}
 use Rattle.script_machine.specs.declared.answer.Answer.TheVariants.{Refused}
 use Rattle.script_machine.specs.declared.answer.Refusal.{Refusal}
 use Rattle.script_machine.specs.Refusals.{told_of_store}
 use Rattle.script_machine.specs.States.{Live, Tells}
-use Rattle.plain_monitors.specs.Table.{Table}
+use Rattle.script_monitors.specs.Table.{Table}
 use Rattle.script_machine.specs.Machine.{Running, IsRefusedByStore, Takes}
 
 -- these monitors over this store

@@ -6,13 +6,13 @@ use Rattle.heap_model.specs.declared.event.Event.{Event}
 use Rattle.heap_model.specs.Setting.{Setting}
 use Rattle.heap_model.specs.History.{state_after, IsLegalHistory, log_of}
 use Rattle.block_disk.specs.Memory.{Memory}
-use Rattle.store_past.specs.Past.{Past, applied, no_past}
+use Rattle.heap_model.specs.Past.{Past, applied, no_past}
 use Rattle.durable.specs.Store.{Parts}
-use Rattle.store_past.specs.declared.error.StoreError.{StoreError}
-use Rattle.store_past.specs.declared.error.StoreError.TheVariants as store
+use Rattle.heap_model.specs.declared.store_error.StoreError.{StoreError}
+use Rattle.heap_model.specs.declared.store_error.StoreError.TheVariants as store
 use Rattle.script_machine.specs.OfSchema.{IsDiskOf}
 use Rattle.script_machine.specs.States.{Tells}
-use Rattle.plain_monitors.specs.Table.{Table, lanes_of, setting_in, setting_of, state_of}
+use Rattle.script_monitors.specs.Table.{Table, lanes_of, setting_in, setting_of, state_of}
 
 -- what events and records are judged by, where the fields begin with these values
 abbrev pub setting_from : Table → (first : ℕ → ℕ) → Setting

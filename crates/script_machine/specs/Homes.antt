@@ -5,7 +5,7 @@ use Rattle.heap_model.specs.Setting.{Setting}
 use Rattle.block_disk.specs.Memory.{Memory}
 use Rattle.store_memory.specs.Begin.{IsLeastDirtyOf}
 use Rattle.durable.specs.Calls.{IsClean}
-use Rattle.store_past.specs.Past.{Past, after_home}
+use Rattle.heap_model.specs.Past.{Past, after_home}
 use Rattle.durable.specs.Store.{Parts}
 use Rattle.script_machine.specs.States.{Tells}
 

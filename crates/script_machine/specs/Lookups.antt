@@ -5,7 +5,7 @@ use Rattle.heap_model.specs.declared.ids.FieldId.{FieldId}
 use Rattle.heap_model.specs.State.{Awake}
 use Rattle.script_machine.specs.declared.answer.Refusal.{Refusal}
 use Rattle.script_machine.specs.declared.answer.Refusal.TheVariants as why
-use Rattle.plain_monitors.specs.Table.{Table, lanes_of, state_of}
+use Rattle.script_monitors.specs.Table.{Table, lanes_of, state_of}
 
 -- the object of this number
 abbrev pub object_of : ℕ → ObjectId

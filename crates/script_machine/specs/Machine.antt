@@ -1,8 +1,8 @@
 -- What a line does to the machine, and which lines are refused, and why (docs/SCRIPTS.md, "Lines" and "Refusals").
 use Rattle.std.specs.Prelude.{ℕ, false, ◌+◌, ◌≡◌, ◌≢◌, ◌<◌, ◌≤◌, ◌⊎◌, List, Option, Some, None, Ok, length, take, slice_index}
 use Rattle.guards.specs.Schema.{Declarations, object_count, field_count, names_of, guard_of, first_of, nothing}
-use Rattle.declarations.specs.Declares.{Declares, Tests, Named}
-use Rattle.declarations.specs.declared.declared.Declared.{Declared}
+use Rattle.script_declarations.specs.Declares.{Declares, Tests, Named}
+use Rattle.script_declarations.specs.declared.declared.Declared.{Declared}
 use Rattle.heap_model.specs.declared.limits.TheConstants.{LAST_NUMBER}
 use Rattle.heap_model.specs.declared.ids.ObjectId.{ObjectId}
 use Rattle.heap_model.specs.declared.ids.FieldId.{FieldId}
@@ -27,12 +27,12 @@ use Rattle.store_memory.specs.Apply.{Answers}
 use Rattle.durable.specs.Calls.{IsClean, RefusesApply, RefusesLog, RefusesSettle, RefusesTrim}
 use Rattle.store_image.specs.Formatting.{layout_with}
 use Rattle.store_image.specs.KeptHeap.{StandsForCut, StandsForEither}
-use Rattle.store_past.specs.Past.{Past, IsTrimmed, applied, no_past, after_apply, after_log, after_settle, after_trim}
+use Rattle.heap_model.specs.Past.{Past, IsTrimmed, applied, no_past, after_apply, after_log, after_settle, after_trim}
 use Rattle.durable.specs.Steps.{ShowsUpToMeanwhile}
 use Rattle.durable.specs.Store.{Parts, ShowsStep}
 use Rattle.durable.specs.declared.doubt.Doubt.{Doubt}
 use Rattle.durable.specs.declared.doubt.Doubt.TheVariants.{Nothing, Logging, Settling, Trimming}
-use Rattle.store_past.specs.declared.error.StoreError.{StoreError}
+use Rattle.heap_model.specs.declared.store_error.StoreError.{StoreError}
 use Rattle.recover.specs.Reading as reading
 use Rattle.recover.specs.Recovery.{IsTooOld}
 use Rattle.recover.specs.Study.{IsStudyOf}
@@ -57,8 +57,8 @@ use Rattle.script_lines.specs.Orders as order
 use Rattle.script_machine.specs.Refusals.{told_of_declared, told_of_recovery, told_of_store}
 use Rattle.script_machine.specs.States.{Live, Wreck, Tells, begun_at, crash_back}
 use Rattle.script_machine.specs.Reports.{Restores, RefusesDisk}
-use Rattle.plain_monitors.specs.Table.{Table, lanes_of, setting_of, state_of, IsAfter}
-use Rattle.plain_monitors.specs.WaitSets.{wait_set, least_of}
+use Rattle.script_monitors.specs.Table.{Table, lanes_of, setting_of, state_of, IsAfter}
+use Rattle.script_monitors.specs.WaitSets.{wait_set, least_of}
 
 -- The machine declares, runs, or is down; after want of memory it is spent, and refuses each line
 pub data MachineState : Type 0 where

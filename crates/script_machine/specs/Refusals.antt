@@ -1,15 +1,15 @@
 -- How the machine tells of a refusal by the declarations, the monitors, the store or recovery.
 use Rattle.std.specs.Prelude.{Result, Ok, Err, alloc_error}
 use Rattle.std.specs.declared.alloc.AllocError.{AllocError}
-use Rattle.plain_monitors.specs.declared.monitors.MonitorRefusal.{MonitorRefusal}
-use Rattle.plain_monitors.specs.declared.monitors.MonitorRefusal.TheVariants as monitor
-use Rattle.store_past.specs.declared.error.StoreError.{StoreError}
-use Rattle.store_past.specs.declared.error.StoreError.TheVariants as store
+use Rattle.script_monitors.specs.declared.monitors.MonitorRefusal.{MonitorRefusal}
+use Rattle.script_monitors.specs.declared.monitors.MonitorRefusal.TheVariants as monitor
+use Rattle.heap_model.specs.declared.store_error.StoreError.{StoreError}
+use Rattle.heap_model.specs.declared.store_error.StoreError.TheVariants as store
 use Rattle.recover.specs.declared.error.RecoverError.{RecoverError}
 use Rattle.recover.specs.declared.error.RecoverError.TheVariants as image
-use Rattle.declarations.specs.declared.declared.Declared.{Declared}
-use Rattle.declarations.specs.declared.declared.Declared.TheVariants as declared
-use Rattle.declarations.specs.declared.declared.DeclarationRefusal.TheVariants as declining
+use Rattle.script_declarations.specs.declared.declared.Declared.{Declared}
+use Rattle.script_declarations.specs.declared.declared.Declared.TheVariants as declared
+use Rattle.script_declarations.specs.declared.declared.DeclarationRefusal.TheVariants as declining
 use Rattle.script_machine.specs.declared.answer.Answer.{Answer}
 use Rattle.script_machine.specs.declared.answer.Answer.TheVariants.{Silent, Refused}
 use Rattle.script_machine.specs.declared.answer.Refusal.{Refusal}

@@ -7,7 +7,7 @@ use Rattle.block_disk.specs.Memory.{Memory, device_of}
 use Rattle.heap_model.specs.declared.limits.TheConstants.{LAST_NUMBER}
 use Rattle.image.specs.Layout.{IsLayout}
 use Rattle.durable.specs.Begin.{IsSettingOf}
-use Rattle.store_past.specs.Past.{no_past}
+use Rattle.heap_model.specs.Past.{no_past}
 use Rattle.durable.specs.Store.{Parts}
 use Rattle.image.specs.Recovered as image
 use Rattle.recover.specs.declared.report.Report as recover

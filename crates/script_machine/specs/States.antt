@@ -5,9 +5,9 @@ use Rattle.heap_model.specs.Setting.{Setting}
 use Rattle.block_disk.specs.Crash.{crash_bytes, done_at}
 use Rattle.block_disk.specs.Memory.{Memory, device_of}
 use Rattle.block_disk.specs.declared.crash.Fill.{Fill}
-use Rattle.store_past.specs.Past.{Past}
+use Rattle.heap_model.specs.Past.{Past}
 use Rattle.durable.specs.Store.{Parts, HasPast}
-use Rattle.plain_monitors.specs.Table.{Table}
+use Rattle.script_monitors.specs.Table.{Table}
 
 -- the monitors, and the store behind them
 pub record Live : Type 0 where

@@ -10,7 +10,7 @@ use Rattle.heap_model.specs.declared.limits.TheConstants.{LAST_NUMBER}
 use Rattle.heap_model.specs.History.{logged}
 use Rattle.heap_model.specs.Log.{value}
 use Rattle.heap_model.specs.Setting.{Setting}
-use Rattle.plain_monitors.specs.Table.{Table, setting_of}
+use Rattle.script_monitors.specs.Table.{Table, setting_of}
 use Rattle.recover.specs.declared.versions.Versions.{Versions}
 use Rattle.script_machine.specs.declared.answer.Refusal.{Refusal}
 use Rattle.script_machine.specs.declared.answer.Report.{Report}
@@ -20,9 +20,9 @@ use Rattle.script_machine.specs.Reports.{Recovered, RefusesDisk, Restores}
 use Rattle.script_machine.specs.States.{Tells}
 use Rattle.store_image.specs.Consistent.{ShowsPast}
 use Rattle.store_image.specs.KeptHeap.{StandsForCut}
-use Rattle.store_past.specs.Past.{Past, applied, no_past}
-use Rattle.store_past.specs.declared.error.StoreError.{StoreError}
-use Rattle.store_past.specs.declared.error.StoreError.TheVariants.{Fault}
+use Rattle.heap_model.specs.Past.{Past, applied, no_past}
+use Rattle.heap_model.specs.declared.store_error.StoreError.{StoreError}
+use Rattle.heap_model.specs.declared.store_error.StoreError.TheVariants.{Fault}
 
 -- the store keeps the record of the thread's event, if it has one, or refuses it for this reason
 abbrev pub KeepsEvent : Table → (lane : ℕ) → Event → (old new : Parts Memory) → Type 0

@@ -3,10 +3,10 @@ ghost use Rattle.std.specs.Prelude.{◌≡◌, ◌<◌};
 ghost use Rattle.guards.specs.Schema.{field_count};
 ghost use Rattle.heap_model.specs.declared.event.Event.TheVariants.{Store};
 ghost use Rattle.heap_model.specs.History.{logged};
-ghost use Rattle.plain_monitors.specs.Table.{IsStepOf, setting_of};
+ghost use Rattle.script_monitors.specs.Table.{IsStepOf, setting_of};
 
 use heap_model::{Event, FieldId, Record};
-use plain_monitors::Monitors;
+use script_monitors::Monitors;
 
 /// The event's record, if a log keeps one: of first enters and resumes, last exits, waits, and the stores of persistent
 /// fields (Atlas; waits are this project's own).

@@ -3,14 +3,14 @@ ghost use Rattle.std.specs.Prelude.{◌≡◌, false, IfOk, OnOk};
 ghost use Rattle.block_disk.specs.Memory.{device_of};
 ghost use Rattle.image.specs.Layout.{size_of};
 ghost use Rattle.store_image.specs.Formatting.{layout_with};
-ghost use Rattle.store_past.specs.Past.{no_past};
+ghost use Rattle.heap_model.specs.Past.{no_past};
 ghost use Rattle.recover.specs.Recovery.{IsTooOld};
 ghost use Rattle.script_machine.specs.Limits.{IsFormattable};
 ghost use Rattle.script_machine.specs.OfSchema.{IsDiskOf, formatted_device};
 ghost use Rattle.script_machine.specs.Reports.{Reopens};
 ghost use Rattle.script_machine.specs.StoreCalls.{IsUntold, RestoresOrRefuses};
 ghost use Rattle.script_machine.specs.States.{Tells};
-ghost use Rattle.plain_monitors.specs.Table.{setting_in};
+ghost use Rattle.script_monitors.specs.Table.{setting_in};
 
 use crate::answer::{Refusal, Report};
 use crate::refusals::refused_recovery;

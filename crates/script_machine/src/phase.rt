@@ -17,12 +17,12 @@ use crate::opening::{format_store, restore};
 use crate::refusals::answered;
 use crate::running::Running;
 use block_disk::Fill;
-use declarations::Declaring;
 use heap_model::{LAST_NUMBER, Lane};
 use image::Layout;
-use plain_monitors::Monitors;
 use recover::Versions;
+use script_declarations::Declaring;
 use script_lines::{Command, Step};
+use script_monitors::Monitors;
 use std::alloc::{AllocError, Global};
 
 /// The state of the machine.

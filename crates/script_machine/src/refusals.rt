@@ -4,10 +4,10 @@ ghost use Rattle.script_machine.specs.Agreement.{IsForCall, IsForRecord};
 ghost use Rattle.script_machine.specs.Refusals.{told_of_declared, told_of_monitor, told_of_recovery, told_of_store};
 
 use crate::answer::{Answer, Refusal};
-use declarations::{DeclarationRefusal, Declared};
 use durable::StoreError;
-use plain_monitors::MonitorRefusal;
 use recover::RecoverError;
+use script_declarations::{DeclarationRefusal, Declared};
+use script_monitors::MonitorRefusal;
 use std::alloc::AllocError;
 
 impl From<MonitorRefusal> for Refusal {

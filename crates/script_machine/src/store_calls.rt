@@ -2,15 +2,15 @@
 ghost use Rattle.std.specs.Prelude.{◌≡◌, false, true, length, IfOk, IfErr, IsErrOf, OnOk, OnErr};
 ghost use Rattle.block_disk.specs.Device.{HasCause};
 ghost use Rattle.block_disk.specs.Memory.{device_of};
-ghost use Rattle.plain_monitors.specs.Table.{IsStepOf, setting_of};
-ghost use Rattle.store_past.specs.declared.error.StoreError.TheVariants.{Fault};
+ghost use Rattle.script_monitors.specs.Table.{IsStepOf, setting_of};
+ghost use Rattle.heap_model.specs.declared.store_error.StoreError.TheVariants.{Fault};
 ghost use Rattle.script_machine.specs.StoreCalls.{BringsAllHome, HasAcknowledged, HasApplied, KeepsEvent, RefusesEvent, RefusesHomes, RestsUnlessFault, ShowsTold, StandsTold};
 
 use crate::logged::record_of;
 use block_disk::MemDisk;
 use durable::{Home, Store, StoreError};
 use heap_model::{Event, FieldId, Lane};
-use plain_monitors::Monitors;
+use script_monitors::Monitors;
 use std::alloc::{AllocError, Global};
 
 /// Keeps the record of the thread's event, if it has one. A refusal changes nothing.

@@ -1,8 +1,8 @@
 //! What schema files declare, and what they are refused for.
 use crate::tests::Source;
-use declarations::{SchemaFault, SchemaFaultKind, read_schema};
 use guards::Schema;
 use heap_model::{FieldId, ObjectId};
+use script_declarations::{SchemaFault, SchemaFaultKind, read_schema};
 use std::alloc::Global;
 use std::io;
 

@@ -6,7 +6,7 @@ mod plays;
 mod trims;
 
 use script_lines::{ScriptError, ScriptErrorKind};
-use scripts::run_script;
+use script_play::run_script;
 use std::alloc::Global;
 use std::io;
 use std::io::{Read, Write};

@@ -4,7 +4,7 @@ use crate::damage::{Damage, crashed, crashed_bytes};
 use crate::truth::{Truth, stop_between};
 use crate::two_places::{COUNT, Tried, holds, write_some};
 use block_disk::{Disk, MemDisk};
-use sector_disk::{SectorSize, SectorsOf, TwoPlaces};
+use disk_sectors::{SectorSize, SectorsOf, TwoPlaces};
 use std::alloc::Global;
 
 // How many second crashes of these devices, one each, lost a byte; `None` where there was no memory.

@@ -1,7 +1,7 @@
 //! What a crash makes of the sectors that were in flight.
 use crate::chance::Chance;
 use block_disk::{Fill, MemDisk};
-use sector_disk::{MemSectors, SectorSize};
+use disk_sectors::{MemSectors, SectorSize};
 use std::alloc::Global;
 
 /// What becomes of a sector in flight that is neither as it was nor as it was to be.

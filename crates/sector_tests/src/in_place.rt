@@ -4,7 +4,7 @@ use crate::chance::Chance;
 use crate::damage::{Damage, crashed, part, part_mut};
 use crate::truth::{Truth, change, stop_between};
 use block_disk::MemDisk;
-use sector_disk::{MemSectors, SectorSize, Sectors, SectorsOf};
+use disk_sectors::{MemSectors, SectorSize, Sectors, SectorsOf};
 use std::alloc::Global;
 
 const COUNT: usize = 4;

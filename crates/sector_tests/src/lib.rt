@@ -1,4 +1,4 @@
-//! Tests of: sector_disk, sector_file.
+//! Tests of: disk_sectors, disk_sector_file.
 //!
 //! Crashes of disks on a device of sectors, by public calls.
 //!

@@ -1,6 +1,6 @@
 //! A file in memory on sectors, of which a crash takes those that were being written.
 use crate::chance::Chance;
-use file_disk::BackingFile;
+use disk_file::BackingFile;
 use std::cell::Cell;
 use std::io;
 use std::io::ErrorKind;

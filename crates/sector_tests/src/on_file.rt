@@ -3,9 +3,9 @@ use crate::chance::Chance;
 use crate::medium::Medium;
 use crate::truth::{Truth, bytes_of, change};
 use block_disk::Disk;
-use file_disk::BackingFile;
-use sector_disk::SectorSize;
-use sector_file::ImageDisk;
+use disk_file::BackingFile;
+use disk_sector_file::ImageDisk;
+use disk_sectors::SectorSize;
 use std::alloc::Global;
 
 // The bytes of two sectors.

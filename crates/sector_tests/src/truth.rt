@@ -1,6 +1,6 @@
 //! What a disk must hold.
 use crate::chance::Chance;
-use sector_disk::SectorSize;
+use disk_sectors::SectorSize;
 use std::alloc::Global;
 
 /// What was written, and where since the last sync.

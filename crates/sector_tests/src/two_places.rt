@@ -3,7 +3,7 @@ use crate::chance::Chance;
 use crate::damage::{Damage, crashed};
 use crate::truth::{Truth, bytes_of, change, stop_between};
 use block_disk::{Disk, MemDisk};
-use sector_disk::{MemSectors, SectorSize, SectorsOf, TwoPlaces};
+use disk_sectors::{MemSectors, SectorSize, SectorsOf, TwoPlaces};
 use std::alloc::Global;
 
 pub(crate) const COUNT: usize = 4;

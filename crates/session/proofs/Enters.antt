@@ -1,9 +1,9 @@
 -- The cases of an enter.
 use Rattle.std.proofs.Common.{ℕ, ◌+◌, ◌<◌, ◌≤◌, inl, inr, [], Result, Ok, Err, MatchResult, sym, ap, ◌∙◌, arith}
 use Rattle.heap_model.specs.declared.ids.ObjectId.{ObjectId}
-use Rattle.steps.specs.Views.{View}
-use Rattle.steps.specs.declared.grip.Seen.{Seen}
-use Rattle.steps.specs.declared.grip.Seen.TheVariants as seen
+use Rattle.thread_steps.specs.Views.{View}
+use Rattle.thread_steps.specs.declared.grip.Seen.{Seen}
+use Rattle.thread_steps.specs.declared.grip.Seen.TheVariants as seen
 use Rattle.session.specs.declared.error.SessionError.{SessionError}
 use Rattle.session.specs.declared.error.SessionError.TheVariants.{UnknownObject, UnknownField, NotHeld, Behind, SectionFull, TooMany, TooDeep, NoFat, Worn, Held}
 use Rattle.heap_model.specs.declared.limits.TheConstants.{SECTION_RECORDS, LAST_PLACE}

@@ -5,8 +5,8 @@ use Rattle.heap_model.specs.declared.event.Event.TheVariants.{Enter, Look}
 use Rattle.heap_model.specs.declared.event.Sight.TheVariants.{Found}
 use Rattle.heap_model.specs.Own.{own}
 use Rattle.lock_word.specs.declared.lock_word.TheConstants.{FAT_SLOTS}
-use Rattle.steps.specs.Views.{View, Keeps, Fattens, IsHeld, slot_in}
-use Rattle.steps.specs.declared.grip.Grip.{Grip}
+use Rattle.thread_steps.specs.Views.{View, Keeps, Fattens, IsHeld, slot_in}
+use Rattle.thread_steps.specs.declared.grip.Grip.{Grip}
 use Rattle.session.specs.declared.error.SessionError.{SessionError}
 use Rattle.session.specs.Logs.{Rooms, held_count}
 use Rattle.session.specs.Sits.{Finds}

@@ -3,7 +3,7 @@ use Rattle.std.proofs.Common.{ℕ, suc, ◌≡◌, ◌≢◌, ◌+◌, ◌<◌, 
 use Rattle.std.specs.List.{remove}
 use Rattle.std.proofs.lemmas.Bool.Decides.{eqb_tells}
 use Rattle.heap_model.specs.Sections.{without}
-use Rattle.steps.specs.declared.grip.Grip.{Grip}
+use Rattle.thread_steps.specs.declared.grip.Grip.{Grip}
 use Rattle.session.specs.Grips.{grip_in, place_in, with_grip, without_grip, objects_of, is_absent, are_apart}
 
 -- a test on two numbers, split

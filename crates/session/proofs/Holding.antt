@@ -3,9 +3,9 @@ use Rattle.std.proofs.Common.{MatchOption, IfSome, ℕ, ◌≡◌, ◌≢◌, if
 use Rattle.std.proofs.lemmas.Bool.Decides.{eqb_tells}
 use Rattle.heap_model.specs.Sections.{without}
 use Rattle.heap_model.specs.Own.{Hold}
-use Rattle.steps.specs.Views.{View}
-use Rattle.steps.specs.declared.grip.Grip.{Grip}
-use Rattle.steps.specs.Views.{hold, Keeps, KeepsEach, KeepsOthers}
+use Rattle.thread_steps.specs.Views.{View}
+use Rattle.thread_steps.specs.declared.grip.Grip.{Grip}
+use Rattle.thread_steps.specs.Views.{hold, Keeps, KeepsEach, KeepsOthers}
 use Rattle.session.specs.Grips.{grip_in, place_in, with_grip, without_grip, objects_of, are_apart}
 use Rattle.session.specs.Logs.{held_objects, held_count}
 use Rattle.session.specs.Sits.{Holds, Finds, FindsNone}

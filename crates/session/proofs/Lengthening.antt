@@ -9,8 +9,8 @@ use Rattle.heap_model.specs.declared.record.Record.{Record}
 use Rattle.heap_model.specs.Own.{own, own_log, more, less, pause_count}
 use Rattle.heap_model.specs.Sections.{action, holding, open_section}
 use Rattle.session.specs.Logs.{log_in, held_count, section_records, place}
-use Rattle.steps.specs.Views.{View, Lengthens, hold, slot_in}
-use Rattle.steps.specs.declared.grip.Seen.{Seen}
+use Rattle.thread_steps.specs.Views.{View, Lengthens, hold, slot_in}
+use Rattle.thread_steps.specs.declared.grip.Seen.{Seen}
 use Rattle.session.specs.Calls.{Sees}
 use Rattle.session.proofs.GripLists.{by_test}
 

@@ -10,14 +10,14 @@ use Rattle.heap_model.specs.History.{logged}
 use Rattle.heap_model.specs.Sections.{action, holding}
 use Rattle.heap_model.specs.Own.{Own, own, own_after, own_log, with_own}
 use Rattle.lock_word.specs.declared.lock_word.Shape.TheVariants as thin
-use Rattle.steps.specs.Views.{View}
-use Rattle.steps.specs.declared.grip.Grip.{Grip}
-use Rattle.steps.specs.declared.grip.Seen.{Seen}
-use Rattle.steps.specs.declared.grip.Seen.TheVariants as seen
+use Rattle.thread_steps.specs.Views.{View}
+use Rattle.thread_steps.specs.declared.grip.Grip.{Grip}
+use Rattle.thread_steps.specs.declared.grip.Seen.{Seen}
+use Rattle.thread_steps.specs.declared.grip.Seen.TheVariants as seen
 use Rattle.session.specs.declared.error.SessionError.TheVariants.{Held}
 use Rattle.session.specs.declared.error.Still.{Still}
 use Rattle.session.specs.declared.error.Still.TheVariants as still
-use Rattle.steps.specs.Views.{Lengthens, hold, miss_events}
+use Rattle.thread_steps.specs.Views.{Lengthens, hold, miss_events}
 use Rattle.session.specs.Grips.{grip_in}
 use Rattle.session.specs.Sits.{Holds, FindsNone}
 use Rattle.session.specs.Logs.{Rooms, held_count}

@@ -9,9 +9,9 @@ use Rattle.heap_model.specs.Own.{with_own}
 use Rattle.monitor.specs.declared.view.View as raw
 use Rattle.monitor.specs.Views.{lane_of}
 use Rattle.monitor.specs.Seats.{Home, Sitting}
-use Rattle.lane_rings.specs.Following.{Whose, whose}
-use Rattle.steps.specs.Views.{View, IsReady, IsSeatOf, IsSlot, Lengthens, shown, view}
-use Rattle.steps.specs.declared.grip.Grip.{Grip}
+use Rattle.thread_rings.specs.Following.{Whose, whose}
+use Rattle.thread_steps.specs.Views.{View, IsReady, IsSeatOf, IsSlot, Lengthens, shown, view}
+use Rattle.thread_steps.specs.declared.grip.Grip.{Grip}
 use Rattle.session.specs.Logs.{log_in, sent_in}
 use Rattle.session.specs.Sessions.{rooms_of}
 use Rattle.session.specs.declared.session.Session.{Session}

@@ -5,7 +5,7 @@ use Rattle.heap_model.specs.declared.limits.TheConstants.{SECTION_RECORDS, LAST_
 use Rattle.heap_model.specs.declared.record.Record.{Record}
 use Rattle.heap_model.specs.Sections.{Action, action, holding}
 use Rattle.heap_model.specs.Limits.{IsWithinLimits}
-use Rattle.steps.specs.Views.{View}
+use Rattle.thread_steps.specs.Views.{View}
 use Rattle.session.specs.Logs.{log_in, actions_in, held_count, section_records, place}
 use Rattle.session.specs.Past.{BeganBelow}
 

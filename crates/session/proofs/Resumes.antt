@@ -3,13 +3,13 @@ use Rattle.std.proofs.Common.{ℕ, ◌≡◌, ◌<◌, inl, inr, [], ◌∷◌, 
 use Rattle.heap_model.specs.declared.ids.ObjectId.{ObjectId}
 use Rattle.heap_model.specs.declared.event.Event.TheVariants.{Resume, Look}
 use Rattle.heap_model.specs.declared.event.Sight.TheVariants.{Found}
-use Rattle.steps.specs.Views.{View}
-use Rattle.steps.specs.declared.grip.Seen.{Seen}
+use Rattle.thread_steps.specs.Views.{View}
+use Rattle.thread_steps.specs.declared.grip.Seen.{Seen}
 use Rattle.session.specs.declared.session.Session.{Session}
 use Rattle.session.specs.declared.waiting.Waiting.{Waiting}
 use Rattle.session.specs.declared.error.Still.{Still}
 use Rattle.session.specs.declared.error.Still.TheVariants as still
-use Rattle.steps.specs.Views.{Lengthens, IsSlot}
+use Rattle.thread_steps.specs.Views.{Lengthens, IsSlot}
 use Rattle.session.specs.Calls.{AsksToResume, SeesTaken, WaitsOn}
 use Rattle.session.specs.Steps.{MissesResume}
 use Rattle.session.specs.Sessions.{awaited, view_of, view_waiting}

@@ -14,9 +14,9 @@ use Rattle.heap_model.specs.declared.limits.TheConstants.{SECTION_RECORDS, RING_
 use Rattle.session.specs.declared.limits.TheConstants.{MOST_HELD}
 use Rattle.heap_model.specs.Sections as sections
 use Rattle.heap_model.specs.Sections.{Frees, Stores, action, holding, without}
-use Rattle.steps.specs.Views.{View}
-use Rattle.steps.specs.declared.grip.Grip.{Grip}
-use Rattle.steps.specs.Views.{hold, Keeps, KeepsEach, KeepsOthers, Lengthens, SeesHistory, Takes, IsAwake, IsClear}
+use Rattle.thread_steps.specs.Views.{View}
+use Rattle.thread_steps.specs.declared.grip.Grip.{Grip}
+use Rattle.thread_steps.specs.Views.{hold, Keeps, KeepsEach, KeepsOthers, Lengthens, SeesHistory, Takes, IsAwake, IsClear}
 use Rattle.session.specs.Grips.{grip_in, with_grip, without_grip}
 use Rattle.session.specs.Sits.{Holds, IsTold, IsWithin, HasRoom, Sits, Stays}
 use Rattle.session.specs.Calls.{IsFull, IsBehind, IsWaitWorn, LacksRoom, records_of}

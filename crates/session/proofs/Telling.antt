@@ -3,7 +3,7 @@ use Rattle.std.proofs.Common.{ℕ, suc, ◌≡◌, ◌≢◌, ◌+◌, ◌==◌,
 use Rattle.std.proofs.lemmas.List.{reverse-append}
 use Rattle.heap_model.specs.declared.record.Record.{Record}
 use Rattle.heap_model.specs.Sections.{Action, Takes, Frees, Stores, action, ended, open_section, without}
-use Rattle.steps.specs.Views.{View}
+use Rattle.thread_steps.specs.Views.{View}
 use Rattle.session.specs.Logs.{log_in, sent_in, actions_in, held_objects, held_count, section_records, place, sections_ended}
 use Rattle.session.specs.Sits.{IsTold}
 use Rattle.session.proofs.GripLists.{by_test, by_bool}

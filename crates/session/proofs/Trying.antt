@@ -7,14 +7,14 @@ use Rattle.heap_model.specs.declared.event.Event.TheVariants.{Look}
 use Rattle.heap_model.specs.declared.event.Sight.{Sight}
 use Rattle.heap_model.specs.declared.event.Sight.TheVariants.{Found, StillInSet}
 use Rattle.heap_model.specs.Own.{Hold}
-use Rattle.steps.specs.Views.{View}
-use Rattle.steps.specs.declared.grip.Seen.{Seen}
-use Rattle.steps.specs.declared.grip.Seen.TheVariants as seen
+use Rattle.thread_steps.specs.Views.{View}
+use Rattle.thread_steps.specs.declared.grip.Seen.{Seen}
+use Rattle.thread_steps.specs.declared.grip.Seen.TheVariants as seen
 use Rattle.lock_word.specs.declared.lock_word.Shape.{Shape}
 use Rattle.lock_word.specs.declared.lock_word.Shape.TheVariants as thin
 use Rattle.lock_word.specs.declared.fat_word.FatShape.{FatShape}
 use Rattle.lock_word.specs.Spelling.{slot_named}
-use Rattle.steps.specs.Views.{hold, slot_in, Lengthens, AgreesWith, IsOfSlot, IsOwned, IsSlot, IsWhole, Misses, miss_events}
+use Rattle.thread_steps.specs.Views.{hold, slot_in, Lengthens, AgreesWith, IsOfSlot, IsOwned, IsSlot, IsWhole, Misses, miss_events}
 use Rattle.session.specs.Calls.{IsFatSeen, IsNews, SeesAnother, SeesChange, SeesLast, sight_in}
 use Rattle.session.proofs.GripLists.{by_test}
 use Rattle.session.proofs.Lengthening.{after_both, hold_after, thin_back}

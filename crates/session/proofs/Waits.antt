@@ -7,14 +7,14 @@ use Rattle.heap_model.specs.declared.ids.ObjectId.{ObjectId}
 use Rattle.heap_model.specs.declared.event.Event.TheVariants.{Wait}
 use Rattle.heap_model.specs.Own.{Hold}
 use Rattle.monitor.specs.Seats.{Home}
-use Rattle.steps.specs.Views.{View, hold, plan}
-use Rattle.steps.specs.declared.grip.Grip.{Grip}
+use Rattle.thread_steps.specs.Views.{View, hold, plan}
+use Rattle.thread_steps.specs.declared.grip.Grip.{Grip}
 use Rattle.session.specs.declared.parts.Parts.{Parts}
 use Rattle.session.specs.declared.session.Session.{Session}
 use Rattle.session.specs.declared.waiting.Waiting.{Waiting}
 use Rattle.session.specs.declared.error.SessionError.{SessionError}
 use Rattle.session.specs.declared.error.SessionError.TheVariants.{UnknownObject, UnknownField, NotHeld, Behind, SectionFull, TooMany, TooDeep, NoFat, Worn, Held}
-use Rattle.steps.specs.Views.{Lengthens}
+use Rattle.thread_steps.specs.Views.{Lengthens}
 use Rattle.session.specs.Logs.{Rooms, held_count}
 use Rattle.session.specs.Calls.{IsFull, HasRing, IsWaitWorn, LeavesRoom, RefusesWait, BeginsWait}
 use Rattle.session.specs.Steps.{RefusesFat}

@@ -21,11 +21,11 @@ use Rattle.lock_word.specs.declared.lock_word.Shape.TheVariants as thin
 use Rattle.lock_word.specs.declared.lock_word.TheConstants.{FAT_SLOTS}
 use Rattle.lock_word.specs.Spelling.{fat_sight, lane_of_thread, sight_of}
 use Rattle.monitor.specs.Seats.{Home}
-use Rattle.steps.specs.Views.{View, IsHeld, IsLasting, IsWhole, hold, plan}
-use Rattle.steps.specs.Views.{Lengthens, slot_in, miss_events, IsAnother, IsLastingSeen, IsOfSlot}
-use Rattle.steps.specs.declared.limits.TheConstants.{THIN_LOCKS, FAT_LOCKS}
-use Rattle.steps.specs.declared.grip.Seen.{Seen}
-use Rattle.steps.specs.declared.grip.Seen.TheVariants as seen
+use Rattle.thread_steps.specs.Views.{View, IsHeld, IsLasting, IsWhole, hold, plan}
+use Rattle.thread_steps.specs.Views.{Lengthens, slot_in, miss_events, IsAnother, IsLastingSeen, IsOfSlot}
+use Rattle.thread_steps.specs.declared.limits.TheConstants.{THIN_LOCKS, FAT_LOCKS}
+use Rattle.thread_steps.specs.declared.grip.Seen.{Seen}
+use Rattle.thread_steps.specs.declared.grip.Seen.TheVariants as seen
 use Rattle.session.specs.declared.error.SessionError.{SessionError}
 use Rattle.session.specs.declared.error.SessionError.TheVariants.{Behind, SectionFull, TooMany, TooDeep, NoFat, Worn, Held}
 use Rattle.session.specs.declared.error.SessionError.TheVariants as error

@@ -1,6 +1,6 @@
 -- The grips of a thread as a list, the newest first.
 use Rattle.std.specs.Prelude.{ℕ, suc, ◌==◌, if◌then◌else◌, Bool, true, false, List, [], ◌∷◌, Option, Some, None}
-use Rattle.steps.specs.declared.grip.Grip.{Grip}
+use Rattle.thread_steps.specs.declared.grip.Grip.{Grip}
 
 -- the grip on the object
 abbrev pub grip_in : (object : ℕ) → List Grip → Option Grip

@@ -8,9 +8,9 @@ use Rattle.heap_model.specs.declared.ids.ObjectId.{ObjectId}
 use Rattle.heap_model.specs.Own.{Hold}
 use Rattle.lock_word.specs.declared.lock_word.TheConstants.{FAT_SLOTS}
 use Rattle.monitor.specs.Seats.{Home}
-use Rattle.steps.specs.Views.{Fattens, Lengthens, plan}
-use Rattle.steps.specs.declared.grip.Grip.{Grip}
-use Rattle.steps.specs.declared.grip.Seen.{Seen}
+use Rattle.thread_steps.specs.Views.{Fattens, Lengthens, plan}
+use Rattle.thread_steps.specs.declared.grip.Grip.{Grip}
+use Rattle.thread_steps.specs.declared.grip.Seen.{Seen}
 use Rattle.session.specs.declared.error.SessionError.{SessionError}
 use Rattle.session.specs.declared.error.SessionError.TheVariants.{NotHeld, UnknownObject}
 use Rattle.session.specs.declared.error.Still.{Still}

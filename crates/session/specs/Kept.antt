@@ -1,7 +1,7 @@
 -- What a session's parts keep, whether it waits or not.
 use Rattle.rtrb.specs.Ring.{known_free}
-use Rattle.lane_rings.specs.Rings.{sent}
-use Rattle.steps.specs.Views.{view}
+use Rattle.thread_rings.specs.Rings.{sent}
+use Rattle.thread_steps.specs.Views.{view}
 use Rattle.session.specs.declared.parts.Parts.{Parts}
 use Rattle.session.specs.Sits.{HasRoom, Sits, Stays}
 

@@ -4,7 +4,7 @@ use Rattle.heap_model.specs.declared.record.Record.{Record}
 use Rattle.heap_model.specs.Own as by_events
 use Rattle.heap_model.specs.OwnSections as sections
 use Rattle.heap_model.specs.Sections.{Action}
-use Rattle.steps.specs.Views.{View}
+use Rattle.thread_steps.specs.Views.{View}
 
 -- its log, the newest record first
 abbrev pub log_in : View → List Record

@@ -1,11 +1,11 @@
 -- What a contract sees of a session, of one that waits, and of one that has ended.
 use Rattle.std.specs.Prelude.{ℕ, ◌≡◌, ◌+◌, ◌≤◌}
 use Rattle.rtrb.specs.Ring.{SameProducer, known_free, producer_capacity}
-use Rattle.lane_rings.specs.Rings.{Sending}
+use Rattle.thread_rings.specs.Rings.{Sending}
 use Rattle.heap_model.specs.declared.limits.TheConstants.{SECTION_RECORDS}
 use Rattle.heap_model.specs.declared.ids.ObjectId.{ObjectId}
 use Rattle.monitor.specs.Seats.{Home, Sitting}
-use Rattle.steps.specs.Views.{View, view, IsSeatOf}
+use Rattle.thread_steps.specs.Views.{View, view, IsSeatOf}
 use Rattle.session.specs.declared.parts.Parts.{Parts}
 use Rattle.session.specs.declared.session.Session.{Session}
 use Rattle.session.specs.declared.waiting.Waiting.{Waiting}

@@ -4,8 +4,8 @@ use Rattle.heap_model.specs.declared.limits.TheConstants.{SECTION_RECORDS, LEAST
 use Rattle.heap_model.specs.declared.ids.ObjectId.{ObjectId}
 use Rattle.heap_model.specs.declared.record.Record.{Record}
 use Rattle.heap_model.specs.Limits.{IsWithinLimits}
-use Rattle.steps.specs.declared.grip.Grip.{Grip}
-use Rattle.steps.specs.Views.{View, hold, Keeps, IsAwake, IsClear}
+use Rattle.thread_steps.specs.declared.grip.Grip.{Grip}
+use Rattle.thread_steps.specs.Views.{View, hold, Keeps, IsAwake, IsClear}
 use Rattle.session.specs.declared.limits.TheConstants.{MOST_HELD}
 use Rattle.session.specs.Past.{BeganBelow}
 use Rattle.session.specs.Grips.{grip_in, objects_of, are_apart}

@@ -4,7 +4,7 @@ use Rattle.heap_model.specs.declared.limits.TheConstants.{SECTION_RECORDS}
 use Rattle.heap_model.specs.declared.ids.ObjectId.{ObjectId}
 use Rattle.heap_model.specs.Own.{Hold}
 use Rattle.lock_word.specs.declared.lock_word.TheConstants.{FAT_SLOTS}
-use Rattle.steps.specs.Views.{View, Misses}
+use Rattle.thread_steps.specs.Views.{View, Misses}
 use Rattle.session.specs.declared.error.SessionError.{SessionError}
 use Rattle.session.specs.declared.error.SessionError.TheVariants.{Behind, SectionFull, NoFat, Worn}
 use Rattle.session.specs.declared.error.Still.{Still}

@@ -3,7 +3,7 @@ use Rattle.std.specs.Prelude.{ℕ, ◌+◌, ◌<◌, ◌≤◌, ◌⊎◌, [], �
 use Rattle.heap_model.specs.declared.ids.FieldId.{FieldId}
 use Rattle.heap_model.specs.declared.event.Event.TheVariants.{Store}
 use Rattle.monitor.specs.Seats.{Home}
-use Rattle.steps.specs.Views.{View, Lengthens, plan}
+use Rattle.thread_steps.specs.Views.{View, Lengthens, plan}
 use Rattle.session.specs.declared.error.SessionError.{SessionError}
 use Rattle.session.specs.declared.error.SessionError.TheVariants.{NotHeld, SectionFull, UnknownField}
 use Rattle.session.specs.declared.session.Session.{Session}

@@ -12,7 +12,7 @@ use std::thread;
 impl Session {
     ghost use Rattle.std.specs.Prelude.{◌≡◌, ◌<◌, IfOk, MatchResult};
     ghost use Rattle.session.specs.Keeping.{HasNoGrip};
-    ghost use Rattle.steps.specs.Views.{plan, IsHeld};
+    ghost use Rattle.thread_steps.specs.Views.{plan, IsHeld};
     ghost use Rattle.session.specs.Logs.{held_count};
     ghost use Rattle.session.specs.Calls.{IsQuiet, EntersLater, EntersWaiting, IsFatOrFull, IsSettled, LeavesRing, WaitsFor, WaitsToEnter};
     ghost use Rattle.session.specs.Sessions.{SameRing, IsSessionOf, view_of, rooms_of, free_of};
@@ -35,7 +35,7 @@ impl Session {
         // thread has the monitor.
         ensures told { WaitsToEnter shared.now self.old self.new object result }
     {
-        if u64::from(object.0) >= steps::objects(shared) {
+        if u64::from(object.0) >= thread_steps::objects(shared) {
             seldom();
             return Err(SessionError::UnknownObject);
         }
@@ -145,7 +145,7 @@ impl Session {
 }
 
 impl Waiting {
-    ghost use Rattle.steps.specs.Views.{View};
+    ghost use Rattle.thread_steps.specs.Views.{View};
     ghost use Rattle.session.specs.Calls.{OnlyLooks, Resumes};
     ghost use Rattle.session.specs.Sessions.{SameRingResumed, IsSessionOf, IsWaitingOf, view_of, view_waiting, awaited};
 

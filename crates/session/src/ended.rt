@@ -2,15 +2,15 @@
 
 ghost use Rattle.std.specs.Prelude.{◌≡◌, ◌+◌};
 ghost use Rattle.heap_model.specs.Limits.{IsWithinLimits};
-ghost use Rattle.lane_rings.specs.Rings.{sent};
-ghost use Rattle.steps.specs.Views.{view};
+ghost use Rattle.thread_rings.specs.Rings.{sent};
+ghost use Rattle.thread_steps.specs.Views.{view};
 ghost use Rattle.session.specs.Logs.{sent_in, actions_in, held_count};
 ghost use Rattle.session.specs.Past.{BeganBelow, IsWithinLimits-prop, BeganBelow-prop};
 
 use crate::parts::Parts;
 use crate::session::Session;
-use lane_rings::Sender;
 use monitor::Seat;
+use thread_rings::Sender;
 
 /// A session that has ended: its seat, and its end of the ring, in which records may still wait for the helper.
 #[derive(Drop)]

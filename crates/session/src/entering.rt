@@ -8,13 +8,13 @@ use crate::session::Session;
 use crate::sights::{first_grip, free_at, shown};
 use heap_model::{LAST_PLACE, ObjectId, Record, SECTION_RECORDS};
 use monitor::Shared;
-use steps::{FAT_LOCKS, Grip, THIN_LOCKS};
+use thread_steps::{FAT_LOCKS, Grip, THIN_LOCKS};
 
 impl Session {
     ghost use Rattle.std.specs.Prelude.{◌≡◌, ◌+◌, ◌<◌, ◌≤◌, length, [], ◌∷◌, None, IfErr, MatchResult};
     ghost use Rattle.heap_model.specs.declared.event.Event.TheVariants as event;
     ghost use Rattle.heap_model.specs.declared.limits.TheConstants.{SECTION_RECORDS};
-    ghost use Rattle.steps.specs.Views.{plan, Lengthens, room_of};
+    ghost use Rattle.thread_steps.specs.Views.{plan, Lengthens, room_of};
     ghost use Rattle.session.specs.declared.limits.TheConstants.{MOST_HELD};
     ghost use Rattle.session.specs.Kept.{HasRoomIn};
     ghost use Rattle.session.specs.Logs.{held_count};
@@ -39,7 +39,7 @@ impl Session {
         // An enter tells of the monitor and the section just what its answer says.
         ensures told { Enters shared.now self.old self.new object result }
     {
-        if u64::from(object.0) >= steps::objects(shared) {
+        if u64::from(object.0) >= thread_steps::objects(shared) {
             seldom();
             return Err(SessionError::UnknownObject);
         }
@@ -81,7 +81,7 @@ impl Session {
         ensures ring { SameRing self.old self.new }
         ensures told { Lengthens (view_of self.old) (view_of self.new) (event.NestedEnter grip.object ∷ []) }
     {
-        let more = steps::nest(shared, &mut self.parts.seat, grip);
+        let more = thread_steps::nest(shared, &mut self.parts.seat, grip);
         put(&mut self.parts.held, more);
     }
 
@@ -97,7 +97,7 @@ impl Session {
         ensures numbers { SameNumbers self.old.parts self.new.parts }
         ensures made { MakesFat self.new grip result }
     {
-        let Some(fat) = steps::inflate(shared, &mut self.parts.seat, grip) else {
+        let Some(fat) = thread_steps::inflate(shared, &mut self.parts.seat, grip) else {
             return None;
         };
         put(&mut self.parts.held, fat);
@@ -185,17 +185,17 @@ impl Session {
         ensures free { MatchResult result (λ _. free_of self.old ≤ free_of self.new + 1) (λ _. free_of self.old ≤ free_of self.new) }
         ensures lasting { IfErr result (IsLastingHeld (view_of self.new) object) }
     {
-        let found = steps::look(shared, &mut self.parts.seat, object);
+        let found = thread_steps::look(shared, &mut self.parts.seat, object);
         let Some(free) = free_at(&found) else {
             seldom();
             return Err(SessionError::Held(shown(&found)));
         };
-        if free.number >= steps::last(shared) {
+        if free.number >= thread_steps::last(shared) {
             seldom();
             return Err(SessionError::Worn);
         }
         // The grip is made anew from what is known here, so that nothing of the answer but its kind is looked at.
-        match steps::try_take(shared, &mut self.parts.seat, object, free.slot, free.number) {
+        match thread_steps::try_take(shared, &mut self.parts.seat, object, free.slot, free.number) {
             Ok(_grip) => {
                 put_first(&mut self.parts.held, first_grip(object, free));
                 self.parts.records += 1;

@@ -1,8 +1,8 @@
 //! Why a session refuses a call.
 
 use std::hint;
-use steps::Seen;
 use thiserror::Error;
+use thread_steps::Seen;
 
 /// Why a call is refused. The reasons are tried in this order, as far as a call has them. A refused call leaves what is held,
 /// what was sent and the shared words as they were, but for two: a monitor may have become fat; and the count of fat slots has risen

@@ -1,7 +1,7 @@
 //! Loads and stores of a session.
 
 ghost use Rattle.std.specs.Prelude.{◌≡◌, ◌<◌};
-ghost use Rattle.steps.specs.Views.{plan};
+ghost use Rattle.thread_steps.specs.Views.{plan};
 ghost use Rattle.session.specs.Calls as stores;
 
 use crate::error::{SessionError, seldom};
@@ -13,7 +13,7 @@ impl Session {
     ghost use Rattle.std.specs.Prelude.{◌≡◌, ◌+◌, ◌<◌, ◌≤◌, length, [], ◌∷◌, true, false};
     ghost use Rattle.heap_model.specs.declared.event.Event.TheVariants as event;
     ghost use Rattle.heap_model.specs.declared.limits.TheConstants.{SECTION_RECORDS};
-    ghost use Rattle.steps.specs.Views.{plan, IsHeld, Lengthens};
+    ghost use Rattle.thread_steps.specs.Views.{plan, IsHeld, Lengthens};
     ghost use Rattle.session.specs.Calls.{Loads, StoresAs, records_of};
     ghost use Rattle.session.specs.Sessions.{SameRing, IsSessionOf, view_of};
 
@@ -29,16 +29,16 @@ impl Session {
         // A load tells the event of its value. A refused load tells nothing.
         ensures told { Loads shared.now self.old self.new field result }
     {
-        if u64::from(field.0) >= steps::fields(shared) {
+        if u64::from(field.0) >= thread_steps::fields(shared) {
             seldom();
             return Err(SessionError::UnknownField);
         }
-        let guard = steps::guard(shared, field);
+        let guard = thread_steps::guard(shared, field);
         let Some(_grip) = self.grip_on(guard) else {
             seldom();
             return Err(SessionError::NotHeld);
         };
-        let value = steps::read_field(shared, &mut self.parts.seat, field);
+        let value = thread_steps::read_field(shared, &mut self.parts.seat, field);
         self.parts.seat.stands();
         monitor::load_law();
         Ok(value)
@@ -57,15 +57,15 @@ impl Session {
         // A store tells the value that it found and the one that it left; a refused store tells nothing.
         ensures told { StoresAs shared.now self.old self.new field value result }
     {
-        if u64::from(field.0) >= steps::fields(shared) {
+        if u64::from(field.0) >= thread_steps::fields(shared) {
             seldom();
             return Err(SessionError::UnknownField);
         }
-        let Some(_grip) = self.grip_on(steps::guard(shared, field)) else {
+        let Some(_grip) = self.grip_on(thread_steps::guard(shared, field)) else {
             seldom();
             return Err(SessionError::NotHeld);
         };
-        if !steps::is_logged(shared, field) {
+        if !thread_steps::is_logged(shared, field) {
             self.write_alone(shared, field, value);
             return Ok(());
         }
@@ -90,7 +90,7 @@ impl Session {
         ensures held { self.new.parts.held ≡ self.old.parts.held }
         ensures records { self.new.parts.records ≡ self.old.parts.records + records_of (plan shared.now) field }
     {
-        if steps::is_logged(shared, field) {
+        if thread_steps::is_logged(shared, field) {
             self.write(shared, field, value)
         } else {
             self.write_alone(shared, field, value)
@@ -112,7 +112,7 @@ impl Session {
         ensures held { self.new.parts.held ≡ self.old.parts.held }
         ensures records { self.new.parts.records ≡ self.old.parts.records + 1 }
     {
-        let before = steps::write_field(shared, &mut self.parts.seat, field, value);
+        let before = thread_steps::write_field(shared, &mut self.parts.seat, field, value);
         self.parts.records += 1;
         self.parts.place += 1;
         self.parts.ring.push(Record::Put {
@@ -136,7 +136,7 @@ impl Session {
         ensures held { self.new.parts.held ≡ self.old.parts.held }
         ensures records { self.new.parts.records ≡ self.old.parts.records }
     {
-        steps::write_field(shared, &mut self.parts.seat, field, value)
+        thread_steps::write_field(shared, &mut self.parts.seat, field, value)
     }
 }
 
@@ -145,5 +145,5 @@ pub(crate) fn records_of(shared: &Shared, field: FieldId) -> u64
     requires { field.0 < (plan shared.now).fields }
     ensures { result ≡ stores.records_of (plan shared.now) field }
 {
-    u64::from(steps::is_logged(shared, field))
+    u64::from(thread_steps::is_logged(shared, field))
 }

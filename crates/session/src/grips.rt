@@ -8,7 +8,7 @@ use crate::limits::MOST_HELD;
 use crate::session::Session;
 use arrayvec::ArrayVec;
 use heap_model::ObjectId;
-use steps::Grip;
+use thread_steps::Grip;
 
 // The place of the grip on the object, or the length.
 #[inline(always)]

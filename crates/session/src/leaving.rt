@@ -5,12 +5,12 @@ use crate::grips::{after_release, like, put, take_at};
 use crate::session::Session;
 use heap_model::{ObjectId, Record};
 use monitor::Shared;
-use steps::Grip;
+use thread_steps::Grip;
 
 impl Session {
     ghost use Rattle.std.specs.Prelude.{◌≡◌, ◌<◌, [], ◌∷◌};
     ghost use Rattle.heap_model.specs.declared.event.Event.TheVariants as event;
-    ghost use Rattle.steps.specs.Views.{Lengthens};
+    ghost use Rattle.thread_steps.specs.Views.{Lengthens};
     ghost use Rattle.session.specs.Grips.{place_in};
     ghost use Rattle.session.specs.Keeping.{HasGrip};
     ghost use Rattle.session.specs.Calls.{Exits};
@@ -27,7 +27,7 @@ impl Session {
         // An exit tells what it leaves of the monitor, and nothing else.
         ensures told { Exits shared.now self.old self.new object result }
     {
-        if u64::from(object.0) >= steps::objects(shared) {
+        if u64::from(object.0) >= thread_steps::objects(shared) {
             seldom();
             return Err(SessionError::UnknownObject);
         }
@@ -53,7 +53,7 @@ impl Session {
         ensures ring { SameRing self.old self.new }
         ensures told { Lengthens (view_of self.old) (view_of self.new) (event.NestedExit grip.object ∷ []) }
     {
-        let less = steps::unnest(shared, &mut self.parts.seat, grip);
+        let less = thread_steps::unnest(shared, &mut self.parts.seat, grip);
         put(&mut self.parts.held, less);
     }
 
@@ -68,7 +68,7 @@ impl Session {
         ensures ring { SameRing self.old self.new }
         ensures told { Lengthens (view_of self.old) (view_of self.new) (event.Exit grip.object grip.number ∷ []) }
     {
-        steps::release(shared, &mut self.parts.seat, grip);
+        thread_steps::release(shared, &mut self.parts.seat, grip);
         take_at(&mut self.parts.held, grip.object, place);
         let (records, sections) = after_release(
             self.parts.held.len(),

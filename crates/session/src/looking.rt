@@ -12,8 +12,8 @@ impl Session {
     ghost use Rattle.session.specs.Sessions.{SameRing, HasRoomLeft, IsSessionOf, view_of, seat_of, ring_of};
     ghost use Rattle.session.specs.Logs.{sent_in, held_count, sections_ended};
     ghost use Rattle.monitor.specs.Views.{Stands};
-    ghost use Rattle.steps.specs.Views.{SeesHistory};
-    ghost use Rattle.lane_rings.specs.Rings.{sent};
+    ghost use Rattle.thread_steps.specs.Views.{SeesHistory};
+    ghost use Rattle.thread_rings.specs.Rings.{sent};
 
     /// How many sections have ended since the session was opened.
     pub fn sections(&self) -> u64
@@ -46,7 +46,7 @@ impl Session {
         // The history that is seen is legal, has just what the session was told as its lane's part, and goes on from the one that it saw before.
         ensures told { SeesHistory (view_of self.old) (view_of self.new) }
     {
-        steps::see(shared, &mut self.parts.seat);
+        thread_steps::see(shared, &mut self.parts.seat);
     }
 
     /// What the session was told stands in one legal history (JLS 17.1, 17.2), and what it has sent is the log of its lane's part
@@ -77,23 +77,23 @@ impl Session {
         // A look tells the words of the monitor at one moment of the history.
         ensures told { Looks shared.now self.old self.new object result }
     {
-        if u64::from(object.0) >= steps::objects(shared) {
+        if u64::from(object.0) >= thread_steps::objects(shared) {
             return Err(SessionError::UnknownObject);
         }
-        let found = steps::look(shared, &mut self.parts.seat, object);
+        let found = thread_steps::look(shared, &mut self.parts.seat, object);
         Ok((found.lock, found.fat))
     }
 
     /// How many sections of the lane were acknowledged at the helper's last publication, counted from the session's first; 0
     /// before the first. It never falls. One load.
     ///
-    /// Whatever a crash leaves from the reading on, recovery keeps at least so many sections of the lane (`running_life::stable_law`).
+    /// Whatever a crash leaves from the reading on, recovery keeps at least so many sections of the lane (`law_running::stable_law`).
     pub fn stable(&mut self, shared: &Shared) -> u64
         requires seat { IsSessionOf shared.now self.old }
         ensures seat { IsSessionOf shared.now self.new }
         ensures ring { SameRing self.old self.new }
         ensures told { ReadsStable self.old self.new result }
     {
-        steps::read_stable(shared, &mut self.parts.seat)
+        thread_steps::read_stable(shared, &mut self.parts.seat)
     }
 }

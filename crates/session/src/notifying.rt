@@ -25,13 +25,13 @@ impl Session {
         // A notify tells which one lane left the wait set, if one did.
         ensures told { Notifies shared.now self.old self.new object result }
     {
-        if u64::from(object.0) >= steps::objects(shared) {
+        if u64::from(object.0) >= thread_steps::objects(shared) {
             return Err(SessionError::UnknownObject);
         }
         let Some(grip) = self.grip_on(object) else {
             return Err(SessionError::NotHeld);
         };
-        Ok(steps::notify_one(shared, &mut self.parts.seat, grip))
+        Ok(thread_steps::notify_one(shared, &mut self.parts.seat, grip))
     }
 
     /// Takes all lanes out of the monitor's wait set, and answers them (JLS 17.2.2). One swap.
@@ -48,12 +48,12 @@ impl Session {
         // A notify of all tells which lanes left the wait set: all that were in it.
         ensures told { NotifiesAll shared.now self.old self.new object result }
     {
-        if u64::from(object.0) >= steps::objects(shared) {
+        if u64::from(object.0) >= thread_steps::objects(shared) {
             return Err(SessionError::UnknownObject);
         }
         let Some(grip) = self.grip_on(object) else {
             return Err(SessionError::NotHeld);
         };
-        Ok(steps::notify_all(shared, &mut self.parts.seat, grip))
+        Ok(thread_steps::notify_all(shared, &mut self.parts.seat, grip))
     }
 }

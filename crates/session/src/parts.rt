@@ -2,9 +2,9 @@
 
 use crate::limits::MOST_HELD;
 use arrayvec::ArrayVec;
-use lane_rings::Sender;
 use monitor::Seat;
-use steps::Grip;
+use thread_rings::Sender;
+use thread_steps::Grip;
 
 /// The seat of a session's lane, the monitors that it holds, its end of the ring, and its numbers.
 #[derive(Drop)]

@@ -10,7 +10,7 @@ use crate::session::Session;
 use crate::waiting::Waiting;
 use heap_model::{LAST_PLACE, ObjectId, Record, SECTION_RECORDS};
 use monitor::Shared;
-use steps::Grip;
+use thread_steps::Grip;
 
 // Whether a wait can't be begun: its release would give the last number, or the next section would begin at the last place.
 fn is_wait_worn(held: usize, place: u64, number: u64, last: u64) -> bool
@@ -29,7 +29,7 @@ fn is_wait_worn(held: usize, place: u64, number: u64, last: u64) -> bool
 impl Session {
     ghost use Rattle.std.specs.Prelude.{◌≡◌, ◌+◌, ◌<◌, length, [], ◌∷◌, MatchResult};
     ghost use Rattle.heap_model.specs.declared.event.Event.TheVariants as event;
-    ghost use Rattle.steps.specs.Views.{KeepsEach, Lengthens};
+    ghost use Rattle.thread_steps.specs.Views.{KeepsEach, Lengthens};
     ghost use Rattle.session.specs.Calls.{AsksToWait, IsQuiet, IsWaitWorn};
     ghost use Rattle.session.specs.Sessions.{SameRing, SameRingWaiting, IsSessionOf, IsWaitingOf, view_of, view_waiting, awaited, free_of, free_waiting};
     ghost use Rattle.session.specs.Keeping.{AsksForGrip, FindsFat, FindsRoom, HasGrip, HasRoomToWait, LooksAtRing, MayWait, hold_of};
@@ -74,7 +74,7 @@ impl Session {
         ensures quiet { IsQuiet (view_of self.old) (view_of self.new) }
         ensures asked { AsksForGrip shared.now self.old self.new object result }
     {
-        if u64::from(object.0) >= steps::objects(shared) {
+        if u64::from(object.0) >= thread_steps::objects(shared) {
             return Err(SessionError::UnknownObject);
         }
         let Some(grip) = self.grip_on(object) else {
@@ -136,7 +136,7 @@ impl Session {
             self.parts.held.len(),
             self.parts.place,
             grip.number,
-            steps::last(shared),
+            thread_steps::last(shared),
         ) {
             return Err(self.why_worn(shared, grip));
         }
@@ -163,7 +163,7 @@ impl Session {
         if let Some(_slot) = grip.slot {
             return SessionError::Worn;
         }
-        if steps::has_slot(shared, &mut self.parts.seat) {
+        if thread_steps::has_slot(shared, &mut self.parts.seat) {
             return SessionError::Worn;
         }
         SessionError::NoFat
@@ -182,7 +182,7 @@ impl Session {
         let Session { parts } = self;
         let mut parts = parts;
         let slot = grip.slot.unwrap();
-        steps::join_wait(shared, &mut parts.seat, grip);
+        thread_steps::join_wait(shared, &mut parts.seat, grip);
         take_out(&mut parts.held, grip.object);
         let (records, sections) = after_release(parts.held.len(), parts.records, parts.sections);
         parts.records = records;

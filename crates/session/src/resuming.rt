@@ -6,17 +6,17 @@ use crate::sights::{free_at, shown};
 use crate::waiting::Waiting;
 use heap_model::Record;
 use monitor::Shared;
-use steps::Seen;
+use thread_steps::Seen;
 
 impl Waiting {
     ghost use Rattle.std.specs.Prelude.{◌≡◌, ◌<◌, true, IfErr, MatchResult};
-    ghost use Rattle.steps.specs.Views.{plan};
+    ghost use Rattle.thread_steps.specs.Views.{plan};
     ghost use Rattle.session.specs.Calls.{AsksToResume, IsFatSeen};
     ghost use Rattle.session.specs.Keeping.{LooksAgain, Retakes, TellsOfSet};
     ghost use Rattle.session.specs.Sessions.{SameRingResumed, SameRingStill, IsSessionOf, IsWaitingOf, view_waiting, seat_waiting, ring_waiting, awaited};
     ghost use Rattle.session.specs.Logs.{sent_in};
     ghost use Rattle.monitor.specs.Views.{Stands};
-    ghost use Rattle.lane_rings.specs.Rings.{sent};
+    ghost use Rattle.thread_rings.specs.Rings.{sent};
 
     /// What the thread was told is its lane's part of one legal history, and what it has sent is the log of that part
     /// ([`Session::stands`] says the same of one that doesn't wait). This does nothing at run time.
@@ -60,7 +60,7 @@ impl Waiting {
         if self.removed {
             return false;
         }
-        if steps::poll_wait(shared, &mut self.parts.seat, self.object) {
+        if thread_steps::poll_wait(shared, &mut self.parts.seat, self.object) {
             return true;
         }
         self.removed = true;
@@ -78,11 +78,11 @@ impl Waiting {
         ensures told { LooksAgain self.old self.new (plan shared.now).last result }
         ensures fat { IfErr result IsFatSeen }
     {
-        let found = steps::look(shared, &mut self.parts.seat, self.object);
+        let found = thread_steps::look(shared, &mut self.parts.seat, self.object);
         let Some(free) = free_at(&found) else {
             return Err(shown(&found));
         };
-        if free.number >= steps::last(shared) {
+        if free.number >= thread_steps::last(shared) {
             return Err(shown(&found));
         }
         Ok(free.number)
@@ -106,7 +106,7 @@ impl Waiting {
             removed,
         } = self;
         let mut parts = parts;
-        match steps::try_retake(shared, &mut parts.seat, object, count, slot, number) {
+        match thread_steps::try_retake(shared, &mut parts.seat, object, count, slot, number) {
             Ok(grip) => {
                 parts.held.insert(0, grip);
                 parts.records += 1;

@@ -3,11 +3,11 @@
 ghost use Rattle.std.specs.Prelude.{◌≡◌, ◌+◌, ◌<◌, ◌≤◌, ◌^◌, ◌↔◌, [], length, IsTrue, MatchBool};
 ghost use Rattle.std.specs.Bool.{OnFalse};
 ghost use Rattle.rtrb.specs.Ring.{known_free, producer_capacity};
-ghost use Rattle.lane_rings.specs.Rings.{SenderLooked, sent};
-ghost use Rattle.steps.specs.Views.{view, IsSeatOf, KeepsEach, Lengthens};
+ghost use Rattle.thread_rings.specs.Rings.{SenderLooked, sent};
+ghost use Rattle.thread_steps.specs.Views.{view, IsSeatOf, KeepsEach, Lengthens};
 
-use lane_rings::Sender;
 use monitor::{Seat, Shared};
+use thread_rings::Sender;
 
 /// Whether so many slots of the ring are known to be free.
 #[inline(always)]
@@ -58,6 +58,6 @@ pub fn lane_has_room(
     if is_lane_wide(*trimmed, place, capacity, needed) {
         return true;
     }
-    *trimmed = steps::read_trimmed(shared, seat);
+    *trimmed = thread_steps::read_trimmed(shared, seat);
     is_lane_wide(*trimmed, place, capacity, needed)
 }

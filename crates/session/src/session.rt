@@ -3,8 +3,8 @@
 ghost use Rattle.std.specs.Prelude.{◌≡◌, ◌≤◌, Some};
 ghost use Rattle.rtrb.specs.Ring.{producer_capacity};
 ghost use Rattle.heap_model.specs.declared.limits.TheConstants.{RING_RECORDS};
-ghost use Rattle.lane_rings.specs.Following.{whose};
-ghost use Rattle.lane_rings.specs.Rings.{whose_ring};
+ghost use Rattle.thread_rings.specs.Following.{whose};
+ghost use Rattle.thread_rings.specs.Rings.{whose_ring};
 ghost use Rattle.session.specs.Kept.{SitsIn};
 ghost use Rattle.session.specs.Past.{kept_props};
 

@@ -3,14 +3,14 @@
 ghost use Rattle.std.specs.Prelude.{◌≡◌, MatchOption, None};
 ghost use Rattle.heap_model.specs.declared.event.Sight.TheVariants.{Found};
 ghost use Rattle.lock_word.specs.Spelling.{sight_of, slot_named};
-ghost use Rattle.steps.specs.Views.{IsPaired, IsOwned};
-ghost use Rattle.steps.specs.Views.{View, slot_in, IsLasting, IsLastingSeen, IsOfSlot, IsWhole};
+ghost use Rattle.thread_steps.specs.Views.{IsPaired, IsOwned};
+ghost use Rattle.thread_steps.specs.Views.{View, slot_in, IsLasting, IsLastingSeen, IsOfSlot, IsWhole};
 ghost use Rattle.heap_model.specs.declared.ids.ObjectId.{ObjectId};
 ghost use Rattle.session.specs.Calls.{sight_in};
 
 use heap_model::ObjectId;
 use lock_word::{FatShape, Shape};
-use steps::{Grip, Seen, Sighted};
+use thread_steps::{Grip, Seen, Sighted};
 
 /// A monitor that nobody owns: its release number, and its fat slot.
 #[derive(Clone, Copy, Debug, PartialEq, Eq)]

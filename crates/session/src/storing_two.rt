@@ -30,14 +30,14 @@ impl Session {
         // Two stores are both told, in order, or neither is.
         ensures told { StoresBoth shared.now self.old self.new first second one two result }
     {
-        let fields = steps::fields(shared);
+        let fields = thread_steps::fields(shared);
         if u64::from(first.0) >= fields || u64::from(second.0) >= fields {
             return Err(SessionError::UnknownField);
         }
-        let Some(_grip) = self.grip_on(steps::guard(shared, first)) else {
+        let Some(_grip) = self.grip_on(thread_steps::guard(shared, first)) else {
             return Err(SessionError::NotHeld);
         };
-        let Some(_other) = self.grip_on(steps::guard(shared, second)) else {
+        let Some(_other) = self.grip_on(thread_steps::guard(shared, second)) else {
             return Err(SessionError::NotHeld);
         };
         let records = records_of(shared, first) + records_of(shared, second);

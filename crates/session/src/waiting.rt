@@ -4,13 +4,13 @@ ghost use Rattle.std.specs.Prelude.{◌≡◌, ◌+◌, ◌<◌, ◌≤◌, Some
 ghost use Rattle.rtrb.specs.Ring.{producer_capacity};
 ghost use Rattle.heap_model.specs.declared.limits.TheConstants.{SECTION_RECORDS, RING_RECORDS};
 ghost use Rattle.session.specs.declared.limits.TheConstants.{MOST_HELD};
-ghost use Rattle.steps.specs.declared.limits.TheConstants.{FAT_LOCKS};
-ghost use Rattle.lane_rings.specs.Following.{whose};
-ghost use Rattle.lane_rings.specs.Rings.{whose_ring};
+ghost use Rattle.thread_steps.specs.declared.limits.TheConstants.{FAT_LOCKS};
+ghost use Rattle.thread_rings.specs.Following.{whose};
+ghost use Rattle.thread_rings.specs.Rings.{whose_ring};
 ghost use Rattle.session.specs.Grips.{grip_in};
 ghost use Rattle.session.specs.Kept.{HasRoomIn, StaysIn};
 ghost use Rattle.session.specs.Past.{kept_props};
-ghost use Rattle.steps.specs.Views.{view, IsPaused, IsClear, IsRemoved, IsSlot};
+ghost use Rattle.thread_steps.specs.Views.{view, IsPaused, IsClear, IsRemoved, IsSlot};
 
 use crate::parts::Parts;
 use heap_model::ObjectId;

@@ -5,10 +5,10 @@ ghost use Rattle.monitor.specs.Seats.{IsSeatOf, fresh_views};
 ghost use Rattle.session.specs.Sessions.{IsSessionOf};
 
 use guards::{Schema, SchemaBuilder};
-use lane_rings::{Receiver, RingRecords};
 use monitor::{Seat, Shared};
 use session::{Session, open_sessions};
 use std::alloc::Global;
+use thread_rings::{Receiver, RingRecords};
 
 /// A bound on release numbers that no test comes near.
 pub const LAST: u64 = 1_000_000;

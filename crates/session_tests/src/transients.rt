@@ -7,10 +7,10 @@ use crate::calls::{Call, Row, follow, make, value_in};
 use crate::heap::{LAST, built, open_heap, take_last, take_two};
 use guards::{Schema, SchemaBuilder};
 use heap_model::{FieldId, ObjectId, Record};
-use lane_rings::Receiver;
 use monitor::Shared;
 use session::{Session, SessionError};
 use std::alloc::Global;
+use thread_rings::Receiver;
 
 const OBJECT: ObjectId = ObjectId(0);
 

@@ -6,12 +6,12 @@ ghost use Rattle.session.specs.Sessions.{IsSessionOf};
 use crate::calls::value_in;
 use crate::heap::{LAST, declare, open_heap, take_two};
 use heap_model::{FieldId, ObjectId};
-use lane_rings::Receiver;
 use monitor::Shared;
 use session::Session;
 use std::alloc::Global;
 use std::sync::Wait;
 use std::thread::{Threads, join};
+use thread_rings::Receiver;
 
 const OBJECT: ObjectId = ObjectId(0);
 

@@ -10,7 +10,7 @@ use lock_word::FatWord;
 use monitor::Shared;
 use session::{Session, SessionError, Still, Waiting};
 use std::alloc::Global;
-use steps::Seen;
+use thread_steps::Seen;
 
 const OBJECT: ObjectId = ObjectId(0);
 

@@ -2,7 +2,7 @@
 
 ghost use Rattle.std.specs.Prelude.{◌≡◌, ◌<◌, ◌≤◌, All};
 ghost use Rattle.monitor.specs.Seats.{IsHelperOf};
-ghost use Rattle.steps.specs.Views.{plan};
+ghost use Rattle.thread_steps.specs.Views.{plan};
 ghost use Rattle.one_monitor.specs.Idle.{IsIdle};
 ghost use Rattle.one_monitor.specs.Race.{IsRacer};
 

@@ -6,7 +6,7 @@ use Rattle.heap_model.specs.Setting.{Setting}
 use Rattle.heap_model.specs.Log.{value}
 use Rattle.heap_model.specs.KeptHeap.{kept_value}
 use Rattle.heap_model.specs.Cuts.{counts_of}
-use Rattle.cut_laws.proofs.Next.{legal_before}
+use Rattle.law_cuts.proofs.Next.{legal_before}
 use Rattle.block_disk.specs.Device.{Device, synced}
 use Rattle.block_disk.specs.Images.{Always, ImageBut, LeavesOnly}
 use Rattle.block_disk.proofs.Images.{after_sync, and_then, always_now, image_now, now_too, weaker, leaves_synced, besides_none}
@@ -21,7 +21,7 @@ use Rattle.image.proofs.Commits.{steady_stays}
 use Rattle.undo_log.specs.Dropped.{IsDropped}
 use Rattle.undo_log.specs.StandsFor.{row_of}
 use Rattle.undo_log.proofs.Back.{dropped_or_same}
-use Rattle.store_past.specs.Past.{Past, IsPast, after_settle}
+use Rattle.heap_model.specs.Past.{Past, IsPast, after_settle}
 use Rattle.store_image.specs.Consistent.{TellsCut, HasParts, ShowsPast, ShowsEither, IsConsistent}
 use Rattle.store_image.specs.KeptHeap.{StandsForEither}
 use Rattle.store_image.specs.Steps.{MaySettle}

@@ -15,7 +15,7 @@ use Rattle.image.specs.declared.slot.Slot.{Slot}
 use Rattle.image.specs.declared.slot.Slot.TheVariants.{A, B}
 use Rattle.image.proofs.Commits.{steady_before}
 use Rattle.image.proofs.Places.{cell_survives}
-use Rattle.store_past.specs.Past.{Past}
+use Rattle.heap_model.specs.Past.{Past}
 use Rattle.store_image.specs.Consistent.{TellsCut, HasParts, ShowsPast}
 use Rattle.store_image.proofs.Parts.{Spared, parts_survive}
 

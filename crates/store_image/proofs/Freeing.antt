@@ -10,7 +10,7 @@ use Rattle.heap_model.specs.Setting.{Setting}
 use Rattle.heap_model.specs.Log.{lane, value}
 use Rattle.heap_model.specs.Sections.{ended, undo_action}
 use Rattle.heap_model.specs.Base.{records_since, records_until}
-use Rattle.history_laws.proofs.Reorder.{split_lane}
+use Rattle.law_histories.proofs.Reorder.{split_lane}
 use Rattle.block_disk.specs.Device.{Device, SameOutside}
 use Rattle.block_disk.specs.Images.{Always, LeavesOnly}
 use Rattle.block_disk.proofs.Images.{image_now, now_too, weaker}
@@ -25,7 +25,7 @@ use Rattle.image.proofs.Places.{cell_survives}
 use Rattle.undo_log.specs.Area.{HasRecords}
 use Rattle.undo_log.specs.Dropped.{undo_logs, records_in}
 use Rattle.undo_log.specs.StandsFor.{row_of}
-use Rattle.store_past.specs.Past.{Past, IsPast, IsTrimmed, after_trim}
+use Rattle.heap_model.specs.Past.{Past, IsPast, IsTrimmed, after_trim}
 use Rattle.store_image.specs.Consistent.{TellsCut, HasParts, ShowsEither, IsConsistent}
 use Rattle.store_image.specs.KeptHeap.{StandsForCut}
 use Rattle.store_image.specs.declared.committed.Committed.{Committed}

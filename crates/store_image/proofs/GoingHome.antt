@@ -17,7 +17,7 @@ use Rattle.image.specs.declared.layout.Layout.{Layout}
 use Rattle.image.proofs.Commits.{shows_survives, steady_stays}
 use Rattle.image.proofs.Places.{places, cell_survives}
 use Rattle.undo_log.specs.Dropped.{IsDropped}
-use Rattle.store_past.specs.Past.{Past, after_home}
+use Rattle.heap_model.specs.Past.{Past, after_home}
 use Rattle.store_image.specs.Consistent.{HasParts, ShowsPast, IsConsistent}
 use Rattle.store_image.specs.KeptHeap.{StandsForCut}
 use Rattle.store_image.specs.Sequences.{ShowsUpTo}

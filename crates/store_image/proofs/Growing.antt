@@ -13,16 +13,16 @@ use Rattle.heap_model.specs.Sections.{actions, ended, undo_action}
 use Rattle.heap_model.specs.Cuts.{IsWhole}
 use Rattle.heap_model.specs.KeptHeap.{kept_value}
 use Rattle.heap_model.specs.Base.{records_since}
-use Rattle.cut_laws.proofs.Stores.{HasStore, has_more, has_less, ended_rises}
-use Rattle.history_laws.proofs.Order.{kept_is_last, last_elsewhere, last_once}
-use Rattle.cut_laws.proofs.Next.{legal_before}
-use Rattle.cut_laws.proofs.Lanes.{ended_in_lane, ended_grown, lane_append}
+use Rattle.law_cuts.proofs.Stores.{HasStore, has_more, has_less, ended_rises}
+use Rattle.law_histories.proofs.Order.{kept_is_last, last_elsewhere, last_once}
+use Rattle.law_cuts.proofs.Next.{legal_before}
+use Rattle.law_cuts.proofs.Lanes.{ended_in_lane, ended_grown, lane_append}
 use Rattle.image.specs.declared.layout.Layout.{Layout}
 use Rattle.undo_log.specs.Area.{HasRecords}
 use Rattle.undo_log.specs.Dropped.{undo_logs, records_in, IsDropped}
 use Rattle.undo_log.specs.OldValues.{OldValue, HasOld}
 use Rattle.undo_log.proofs.Back.{old_older, stands_here}
-use Rattle.store_past.specs.Past.{has_store}
+use Rattle.heap_model.specs.Past.{has_store}
 use Rattle.store_image.proofs.Places.{ended_undo, past_sections}
 
 -- the stores that were there are there

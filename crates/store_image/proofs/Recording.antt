@@ -6,7 +6,7 @@ use Rattle.heap_model.specs.declared.record.UndoRecord.{UndoRecord}
 use Rattle.heap_model.specs.Setting.{Setting}
 use Rattle.heap_model.specs.Log.{lane, value}
 use Rattle.heap_model.specs.Base.{records_since}
-use Rattle.cut_laws.proofs.Stays.{cut_stays}
+use Rattle.law_cuts.proofs.Stays.{cut_stays}
 use Rattle.block_disk.specs.Device.{Range, Device, SameOutside, synced}
 use Rattle.block_disk.specs.Images.{Always, ImageBut, IsApart, LeavesOnly}
 use Rattle.block_disk.proofs.Images.{after_sync, always_now, and_then, besides_none, besides_survives, image_now, leaves_synced, now_too, weaker}
@@ -24,7 +24,7 @@ use Rattle.image.proofs.Places.{cell_survives}
 use Rattle.undo_log.specs.Area.{HasRecords}
 use Rattle.undo_log.specs.Dropped.{undo_logs, records_in, IsDropped}
 use Rattle.undo_log.specs.StandsFor.{row_of, StandsFor}
-use Rattle.store_past.specs.Past.{Past, IsPast, after_log, has_store}
+use Rattle.heap_model.specs.Past.{Past, IsPast, after_log, has_store}
 use Rattle.store_image.specs.Consistent.{TellsCut, HasParts, ShowsPast, ShowsEither, IsConsistent}
 use Rattle.store_image.specs.NewRecords.{HasFresh, fresh_count, fresh_ranges}
 use Rattle.store_image.specs.KeptHeap.{StandsForCut, kept_heap}

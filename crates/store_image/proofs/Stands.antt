@@ -9,8 +9,8 @@ use Rattle.heap_model.specs.Setting.{Setting}
 use Rattle.heap_model.specs.Log.{lane}
 use Rattle.heap_model.specs.KeptHeap.{kept_value}
 use Rattle.heap_model.specs.Base.{records_since}
-use Rattle.cut_laws.proofs.Lanes.{lane_append}
-use Rattle.cut_laws.proofs.Next.{legal_before}
+use Rattle.law_cuts.proofs.Lanes.{lane_append}
+use Rattle.law_cuts.proofs.Next.{legal_before}
 use Rattle.undo_log.proofs.Back.{length_undo}
 use Rattle.block_disk.specs.Device.{Device}
 use Rattle.block_disk.specs.Images.{Always}
@@ -20,7 +20,7 @@ use Rattle.undo_log.specs.Area.{HasRecords}
 use Rattle.undo_log.specs.Dropped.{undo_logs}
 use Rattle.undo_log.specs.StandsFor.{HasLive, ShowsCut}
 use Rattle.undo_log.proofs.ImageStands.{image_stands}
-use Rattle.store_past.specs.Past.{Past, IsPast}
+use Rattle.heap_model.specs.Past.{Past, IsPast}
 use Rattle.store_image.specs.Consistent.{ShowsPast, IsConsistent}
 use Rattle.store_image.specs.declared.committed.Committed.{Committed}
 use Rattle.store_image.specs.KeptHeap.{values_below, kept_heap, StandsForCut}

@@ -22,7 +22,7 @@ use Rattle.image.specs.declared.slot.Slot.{Slot}
 use Rattle.undo_log.specs.Area.{HasRecords}
 use Rattle.undo_log.specs.Dropped.{undo_logs, records_in, IsDropped}
 use Rattle.undo_log.specs.StandsFor.{AreRowsOf, row_of}
-use Rattle.store_past.specs.Past.{Past, IsPast, applied}
+use Rattle.heap_model.specs.Past.{Past, IsPast, applied}
 use Rattle.store_image.specs.declared.committed.Committed.{Committed}
 
 -- The rows of a control tell of this log, of what of it was trimmed, and of what is acknowledged. A place counts a lane's records: `start` is behind the trimmed sections, `settled`

@@ -7,7 +7,7 @@ use Rattle.block_disk.specs.Device.{Device}
 use Rattle.block_disk.specs.Images.{Always}
 use Rattle.image.specs.declared.layout.Layout.{Layout}
 use Rattle.undo_log.specs.Dropped.{undo_logs}
-use Rattle.store_past.specs.Past.{Past, IsPast}
+use Rattle.heap_model.specs.Past.{Past, IsPast}
 use Rattle.store_image.specs.Consistent.{ShowsPast, IsConsistent}
 use Rattle.store_image.specs.KeptHeap.{kept_heap, StandsForCut}
 use Rattle.store_image.specs.declared.committed.Committed.{Committed}

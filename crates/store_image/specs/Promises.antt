@@ -17,9 +17,9 @@ use Rattle.store_image.specs.KeptHeap.{StandsForCut, StandsForEither}
 use Rattle.store_image.specs.Sequences.{ShowsUpTo}
 use Rattle.store_image.specs.Steps.{MayGoHome, MayLog, MaySettle}
 use Rattle.store_image.specs.declared.committed.Committed.{Committed}
-use Rattle.store_past.specs.Past.{Past, after_home, after_log, after_settle, after_trim}
-use Rattle.store_past.specs.declared.error.StoreError.{StoreError}
-use Rattle.store_past.specs.declared.error.StoreError.TheVariants.{Worn}
+use Rattle.heap_model.specs.Past.{Past, after_home, after_log, after_settle, after_trim}
+use Rattle.heap_model.specs.declared.store_error.StoreError.{StoreError}
+use Rattle.heap_model.specs.declared.store_error.StoreError.TheVariants.{Worn}
 
 -- the control that counts
 abbrev pub control_in : Committed → Control

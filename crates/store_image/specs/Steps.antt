@@ -13,7 +13,7 @@ use Rattle.image.specs.Layout.{cell_at, size_of}
 use Rattle.image.specs.declared.layout.Layout.{Layout}
 use Rattle.undo_log.specs.StandsFor.{row_of}
 use Rattle.store_image.specs.NewRecords.{FitsLane}
-use Rattle.store_past.specs.Past.{Past}
+use Rattle.heap_model.specs.Past.{Past}
 use Rattle.store_image.specs.Consistent.{IsConsistent}
 use Rattle.store_image.specs.declared.committed.Committed.{Committed}
 

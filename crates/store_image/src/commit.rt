@@ -9,12 +9,12 @@ ghost use Rattle.image.specs.Slots.{other, slot_range};
 ghost use Rattle.store_image.specs.Promises.{IsSteadyAt, committed_next, committed_turned, control_in};
 ghost use Rattle.store_image.specs.Sequences.{ShowsUpTo};
 ghost use Rattle.store_image.specs.Steps.{step_ranges};
-ghost use Rattle.store_past.specs.declared.error.StoreError.TheVariants.{Fault};
+ghost use Rattle.heap_model.specs.declared.store_error.StoreError.TheVariants.{Fault};
 
 use crate::committed::Committed;
 use block_disk::Disk;
+use heap_model::StoreError;
 use image::{LaneRow, Layout, commit_by_turning, commit_control};
-use store_past::StoreError;
 
 /// How what was written and the control that counts it become durable, one before the other.
 #[derive(Clone, Copy, Debug, PartialEq, Eq)]

@@ -4,19 +4,18 @@ ghost use Rattle.block_disk.specs.Images.{LeavesOnly};
 ghost use Rattle.block_disk.specs.Since.{HasCauseSince, LeavesBut};
 ghost use Rattle.heap_model.specs.Setting.{Setting};
 ghost use Rattle.store_image.specs.Promises.{SettleAndTrimShows, SettleKeeps, SettleLeaves, SettlesAndTrims};
-ghost use Rattle.store_past.specs.Past.{Past};
+ghost use Rattle.heap_model.specs.Past.{Past};
 ghost use Rattle.store_image.specs.Steps.{MaySettle, step_ranges};
 ghost use Rattle.store_image.specs.Sequences.{ShowsUpTo};
-ghost use Rattle.store_past.specs.declared.error.StoreError.TheVariants.{Fault, Worn};
+ghost use Rattle.heap_model.specs.declared.store_error.StoreError.TheVariants.{Fault, Worn};
 
 use crate::commit::commit_written;
 use crate::committed::Committed;
 use crate::settling::settled_rows;
 use crate::trimming::trimmed_rows;
 use block_disk::Disk;
-use heap_model::Cut;
+use heap_model::{Cut, StoreError};
 use image::Layout;
-use store_past::StoreError;
 
 /// Makes the home cells durable, and then the control that acknowledges this cut and starts each lane behind it: what
 /// [`settle`](crate::settle) and then [`trim`](crate::trim) do. `places` has, by lane, the place behind the cut's last section.

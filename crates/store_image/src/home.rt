@@ -4,12 +4,11 @@ ghost use Rattle.block_disk.specs.Since.{HasCauseSince, LeavesBut};
 ghost use Rattle.image.specs.Cells.{cell_range};
 ghost use Rattle.image.specs.Layout.{size_of};
 ghost use Rattle.store_image.specs.Promises.{GoesHome, HomeKeeps, HomeLeaves, HomeShows, HomeShowsUpTo};
-ghost use Rattle.store_past.specs.declared.error.StoreError.TheVariants.{Fault};
+ghost use Rattle.heap_model.specs.declared.store_error.StoreError.TheVariants.{Fault};
 
 use block_disk::Disk;
-use heap_model::FieldId;
+use heap_model::{FieldId, StoreError};
 use image::{Layout, put_cell};
-use store_past::StoreError;
 
 /// What a home step did.
 #[derive(Clone, Copy, Debug, PartialEq, Eq)]

@@ -10,18 +10,17 @@ ghost use Rattle.undo_log.specs.Area.{HasRecords, record_ranges, record_writes};
 ghost use Rattle.undo_log.specs.StandsFor.{row_of};
 ghost use Rattle.store_image.specs.NewRecords.{FitsLane, HasFresh, fresh_count, fresh_ranges};
 ghost use Rattle.store_image.specs.Promises.{LogKeeps, LogLeaves, LogShows, Logs, LogsCount, LogsNone, LogsWorn};
-ghost use Rattle.store_past.specs.Past.{Past};
+ghost use Rattle.heap_model.specs.Past.{Past};
 ghost use Rattle.store_image.specs.Steps.{MayLog, step_ranges};
 ghost use Rattle.store_image.specs.Sequences.{ShowsUpTo};
-ghost use Rattle.store_past.specs.declared.error.StoreError.TheVariants.{Fault, Worn};
+ghost use Rattle.heap_model.specs.declared.store_error.StoreError.TheVariants.{Fault, Worn};
 
 use crate::commit::{Syncs, commit, commit_written};
 use crate::committed::Committed;
 use crate::sync::sync;
 use block_disk::Disk;
-use heap_model::{Lane, UndoRecord};
+use heap_model::{Lane, NewRecords, StoreError, UndoRecord};
 use image::{LaneRow, Layout};
-use store_past::{NewRecords, StoreError};
 use undo_log::append;
 
 /// Makes the lanes' new records durable, and then the control that counts them. Answers how many there were. It takes a

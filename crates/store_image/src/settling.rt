@@ -5,18 +5,17 @@ ghost use Rattle.block_disk.specs.Since.{HasCauseSince, LeavesBut};
 ghost use Rattle.heap_model.specs.Setting.{Setting};
 ghost use Rattle.undo_log.specs.StandsFor.{row_of};
 ghost use Rattle.store_image.specs.Promises.{SettleKeeps, SettleLeaves, SettleShows, Settles};
-ghost use Rattle.store_past.specs.Past.{Past};
+ghost use Rattle.heap_model.specs.Past.{Past};
 ghost use Rattle.store_image.specs.Steps.{MaySettle, step_ranges};
 ghost use Rattle.store_image.specs.Sequences.{ShowsUpTo};
-ghost use Rattle.store_past.specs.declared.error.StoreError.TheVariants.{Fault, Worn};
+ghost use Rattle.heap_model.specs.declared.store_error.StoreError.TheVariants.{Fault, Worn};
 
 use crate::commit::commit;
 use crate::committed::Committed;
 use crate::sync::sync;
 use block_disk::Disk;
-use heap_model::Cut;
+use heap_model::{Cut, StoreError};
 use image::{LaneRow, Layout};
-use store_past::StoreError;
 
 /// Makes the home cells durable, and then the control that acknowledges this cut; `places` has, by lane, the place behind
 /// its last section. It takes a sync and the calls of a commit.

@@ -2,10 +2,10 @@
 ghost use Rattle.std.specs.Prelude.{◌≡◌, [], IfErr, OnOk};
 ghost use Rattle.block_disk.specs.Device.{synced};
 ghost use Rattle.block_disk.specs.Since.{HasCauseSince, LeavesBut};
-ghost use Rattle.store_past.specs.declared.error.StoreError.TheVariants.{Fault};
+ghost use Rattle.heap_model.specs.declared.store_error.StoreError.TheVariants.{Fault};
 
 use block_disk::{Disk, make_durable};
-use store_past::StoreError;
+use heap_model::StoreError;
 
 /// Makes what was written durable. `Fault` fixes nothing.
 pub fn sync<D: Disk>(disk: &mut D) -> Result<(), StoreError>

@@ -8,16 +8,16 @@ ghost use Rattle.image.specs.declared.layout.Layout.{Layout as Shape};
 ghost use Rattle.undo_log.specs.StandsFor.{row_of};
 ghost use Rattle.store_image.specs.Consistent.{IsConsistent};
 ghost use Rattle.store_image.specs.Promises.{TrimKeeps, TrimLeaves, TrimShows, Trims};
-ghost use Rattle.store_past.specs.Past.{Past, IsTrimmed};
+ghost use Rattle.heap_model.specs.Past.{Past, IsTrimmed};
 ghost use Rattle.store_image.specs.Sequences.{ShowsUpTo};
 ghost use Rattle.store_image.specs.Steps.{step_ranges};
-ghost use Rattle.store_past.specs.declared.error.StoreError.TheVariants.{Fault, Worn};
+ghost use Rattle.heap_model.specs.declared.store_error.StoreError.TheVariants.{Fault, Worn};
 
 use crate::commit::commit;
 use crate::committed::Committed;
 use block_disk::Disk;
+use heap_model::StoreError;
 use image::{LaneRow, Layout};
-use store_past::StoreError;
 
 /// Whether all that is acknowledged was trimmed: then a trim has nothing to move.
 pub fn is_trimmed(committed: &Committed) -> bool

@@ -11,7 +11,7 @@ use Rattle.heap_model.specs.Sections.{Action, action, actions, holding}
 use Rattle.store_memory.specs.declared.states.MonitorState.{MonitorState}
 use Rattle.store_memory.specs.declared.states.FieldState.{FieldState}
 use Rattle.store_memory.specs.declared.states.LaneState.{LaneState}
-use Rattle.store_past.specs.Past.{Past, applied, no_past}
+use Rattle.heap_model.specs.Past.{Past, applied, no_past}
 use Rattle.store_memory.specs.Dirty.{is_dirty_in}
 use Rattle.store_memory.specs.Fresh.{IsOfLanes}
 use Rattle.store_memory.specs.Memory.{Memory, new_monitor, new_lane, monitor_in, field_in, lane_in, guard_in, value_in, is_logged_in}

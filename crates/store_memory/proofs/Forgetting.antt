@@ -9,9 +9,9 @@ use Rattle.heap_model.specs.Log.{lane}
 use Rattle.heap_model.specs.Sections.{Action, action, actions, ended}
 use Rattle.heap_model.specs.Cuts.{counts_of, IsClosed, IsStable}
 use Rattle.heap_model.specs.Base.{since}
-use Rattle.cut_laws.proofs.Trimmed.{since_counts, trim_stable}
+use Rattle.law_cuts.proofs.Trimmed.{since_counts, trim_stable}
 use Rattle.dependence.specs.Trace.{Trace, base_of, beyond, in_all}
-use Rattle.store_past.specs.Past.{Past, applied, after_trim}
+use Rattle.heap_model.specs.Past.{Past, applied, after_trim}
 use Rattle.store_memory.specs.declared.states.LaneState.{LaneState}
 use Rattle.store_memory.specs.Limits.{IsWithin}
 use Rattle.store_memory.specs.Memory.{Memory, lane_in}

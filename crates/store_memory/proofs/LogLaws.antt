@@ -8,7 +8,7 @@ use Rattle.heap_model.specs.declared.record.LaneRecord.{LaneRecord}
 use Rattle.heap_model.specs.Setting.{Setting}
 use Rattle.heap_model.specs.Log.{value, log_from}
 use Rattle.store_memory.specs.declared.states.FieldState.{FieldState}
-use Rattle.store_past.specs.Past.{Past, has_store, after_log, after_home}
+use Rattle.heap_model.specs.Past.{Past, has_store, after_log, after_home}
 use Rattle.store_memory.specs.Dirty.{DirtySet, is_dirty_in}
 use Rattle.store_memory.specs.Memory.{Memory, new_field, field_in, value_in, guard_in, is_logged_in}
 use Rattle.store_memory.specs.Remembers.{Remembers}

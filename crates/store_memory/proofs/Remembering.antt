@@ -13,7 +13,7 @@ use Rattle.heap_model.specs.Sections.{Action, action, actions, holding}
 use Rattle.store_memory.specs.declared.states.MonitorState.{MonitorState}
 use Rattle.store_memory.specs.declared.states.FieldState.{FieldState}
 use Rattle.store_memory.specs.declared.states.LaneState.{LaneState}
-use Rattle.store_past.specs.Past.{Past, applied, after_apply}
+use Rattle.heap_model.specs.Past.{Past, applied, after_apply}
 use Rattle.store_memory.specs.Memory.{Memory, new_monitor, new_field, new_lane, monitor_in, field_in, lane_in, holder_in, number_in, value_in, object_number, held_after, awaited_after, lane_after, monitors_after, fields_after, KeepsLayout}
 use Rattle.store_memory.specs.Remembers.{open_section, RemembersLane}
 use Rattle.store_memory.specs.Verdict.{IsNamed}

@@ -8,8 +8,8 @@ use Rattle.heap_model.specs.Record.{undo_of}
 use Rattle.heap_model.specs.Log.{lane}
 use Rattle.heap_model.specs.Sections.{Action, Takes, Frees, Stores, action, actions, undo_action, without, holding, ended}
 use Rattle.heap_model.specs.Base.{since}
-use Rattle.cut_laws.proofs.Lanes.{ended_in_lane}
-use Rattle.cut_laws.proofs.Stores.{ended_rises}
+use Rattle.law_cuts.proofs.Lanes.{ended_in_lane}
+use Rattle.law_cuts.proofs.Stores.{ended_rises}
 use Rattle.store_memory.specs.Sections.{place_behind, start_in}
 
 pub action_undo : (r : Record) → undo_action (undo_of r) ≡ action r

@@ -15,11 +15,11 @@ use Rattle.heap_model.specs.Log.{lane, IsLegal, IsRecordOf, log_from}
 use Rattle.heap_model.specs.Sections.{Action, action, actions, ended, Section, DependsOn, Earlier, Took}
 use Rattle.heap_model.specs.Cuts.{Counts, IsWhole, IsClosed, IsStable}
 use Rattle.heap_model.specs.Base.{since}
-use Rattle.cut_laws.proofs.Lanes.{lane_append, ended_in_lane}
-use Rattle.cut_laws.proofs.Stays.{cut_stays}
-use Rattle.cut_laws.proofs.Stores.{ended_rises}
-use Rattle.cut_laws.proofs.Next.{legal_before}
-use Rattle.cut_laws.proofs.Trimmed.{since_counts, trim_stable}
+use Rattle.law_cuts.proofs.Lanes.{lane_append, ended_in_lane}
+use Rattle.law_cuts.proofs.Stays.{cut_stays}
+use Rattle.law_cuts.proofs.Stores.{ended_rises}
+use Rattle.law_cuts.proofs.Next.{legal_before}
+use Rattle.law_cuts.proofs.Trimmed.{since_counts, trim_stable}
 use Rattle.dependence.specs.Trace.{Trace, base_of, sections_of, IsStableOf}
 use Rattle.dependence.specs.Next.{IsNext, IsObjectBelow}
 use Rattle.dependence.proofs.Legal.{allowed_next}

@@ -5,9 +5,9 @@ use Rattle.heap_model.specs.declared.record.Record.TheVariants.{Acq, Rel, WaitRe
 use Rattle.heap_model.specs.Setting.{Setting}
 use Rattle.heap_model.specs.Log.{lane, awaited, IsAllowed, MayFollow, IsRecordOf}
 use Rattle.heap_model.specs.Sections.{action, actions, holding}
-use Rattle.store_past.specs.declared.error.StoreError.{StoreError}
-use Rattle.store_past.specs.declared.error.StoreError.TheVariants.{BadLane, BadId, Worn, NotNext, TooLong, LogFull}
-use Rattle.store_past.specs.Past.{Past, applied}
+use Rattle.heap_model.specs.declared.store_error.StoreError.{StoreError}
+use Rattle.heap_model.specs.declared.store_error.StoreError.TheVariants.{BadLane, BadId, Worn, NotNext, TooLong, LogFull}
+use Rattle.heap_model.specs.Past.{Past, applied}
 use Rattle.store_memory.specs.Memory.{Memory, lane_in}
 use Rattle.store_memory.specs.Remembers.{held_of, section_of, place_of}
 

@@ -1,7 +1,7 @@
 -- With what a memory begins (this project's own).
 use Rattle.std.specs.Prelude.{ℕ, ◌≡◌, ◌<◌, true, false, List, length}
 use Rattle.heap_model.specs.Setting.{Setting}
-use Rattle.store_past.specs.Past.{Past}
+use Rattle.heap_model.specs.Past.{Past}
 use Rattle.store_memory.specs.declared.states.FieldState.{FieldState}
 use Rattle.store_memory.specs.Memory.{value_in, guard_in, is_logged_in}
 

@@ -4,7 +4,7 @@ use Rattle.heap_model.specs.Setting.{Setting}
 use Rattle.heap_model.specs.Log.{lane, holder, number, value, awaited, IsLegal, log_from}
 use Rattle.heap_model.specs.Sections.{Action, actions, holding}
 use Rattle.store_memory.specs.declared.states.LaneState.{LaneState}
-use Rattle.store_past.specs.Past.{Past, applied}
+use Rattle.heap_model.specs.Past.{Past, applied}
 use Rattle.store_memory.specs.Dirty.{is_dirty_in}
 use Rattle.store_memory.specs.Fresh.{IsOfLanes}
 use Rattle.store_memory.specs.Memory.{Memory, field_in, lane_in, holder_in, number_in, value_in, guard_in, is_logged_in, object_number}

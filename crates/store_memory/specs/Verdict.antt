@@ -3,8 +3,8 @@ use Rattle.std.specs.Prelude.{ℕ, ◌≡◌, ◌+◌, ◌<◌, ◌≤◌, ◌^�
 use Rattle.heap_model.specs.declared.record.Record.{Record}
 use Rattle.heap_model.specs.declared.record.Record.TheVariants.{Acq, Rel, WaitRel, Put}
 use Rattle.heap_model.specs.Log.{MayFollow}
-use Rattle.store_past.specs.declared.error.StoreError.{StoreError}
-use Rattle.store_past.specs.declared.error.StoreError.TheVariants.{BadLane, BadId, Worn, NotNext, TooLong, LogFull}
+use Rattle.heap_model.specs.declared.store_error.StoreError.{StoreError}
+use Rattle.heap_model.specs.declared.store_error.StoreError.TheVariants.{BadLane, BadId, Worn, NotNext, TooLong, LogFull}
 use Rattle.store_memory.specs.declared.states.MonitorState.{MonitorState}
 use Rattle.store_memory.specs.declared.states.FieldState.{FieldState}
 use Rattle.store_memory.specs.declared.states.LaneState.{LaneState}

@@ -2,7 +2,7 @@
 use Rattle.std.specs.Prelude.{ℕ, ◌≡◌, ◌<◌, length}
 use Rattle.heap_model.specs.Setting.{Setting}
 use Rattle.store_memory.specs.declared.applied.Applied.TheInside.{Inside}
-use Rattle.store_past.specs.Past.{Past}
+use Rattle.heap_model.specs.Past.{Past}
 use Rattle.store_memory.specs.Memory.{Memory, lane_in}
 use Rattle.store_memory.specs.Remembers.{Remembers}
 use Rattle.heap_model.specs.Log.{log_from}

@@ -4,7 +4,7 @@ ghost use Rattle.std.specs.Prelude.{◌≡◌, ◌+◌, ◌^◌, ◌<◌, ◌≤
 ghost use Rattle.heap_model.specs.Setting.{Setting};
 ghost use Rattle.heap_model.specs.declared.record.Record.TheVariants.{Acq, Rel, WaitRel, Put};
 ghost use Rattle.heap_model.specs.Log.{value as value_of, log_from};
-ghost use Rattle.store_past.specs.Past.{Past, applied, no_past, after_apply, after_log, after_home, after_trim};
+ghost use Rattle.heap_model.specs.Past.{Past, applied, no_past, after_apply, after_log, after_home, after_trim};
 ghost use Rattle.store_memory.specs.Memory.{field_in, lane_in, guard_in, value_in, KeepsLayout};
 ghost use Rattle.store_memory.specs.Remembers.{Remembers, place_of, held_of};
 ghost use Rattle.store_memory.specs.Apply.{Answers};
@@ -20,10 +20,9 @@ use crate::fresh::FreshRecords;
 use crate::logged::log_all;
 use crate::note::{note_lane, note_monitor, note_starts, note_store};
 use crate::states::{FREE, FieldState, IDLE, LaneState, MonitorState};
-use heap_model::{FieldId, Lane, LaneRecord, ObjectId, Record, UndoRecord};
+use heap_model::{FieldId, Lane, LaneRecord, NewRecords, ObjectId, Record, StoreError, UndoRecord};
 use std::alloc::{AllocError, Global};
 use std::marker::Model;
-use store_past::{NewRecords, StoreError};
 
 /// What a store remembers of the records that were applied to it: who holds each monitor and its number,
 /// each field's value, each lane's open section, the records that are not yet logged, and the fields that

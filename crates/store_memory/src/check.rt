@@ -9,8 +9,7 @@ ghost use Rattle.store_memory.specs.Limits.{FitsWord};
 ghost use Rattle.store_memory.specs.Verdict.{IsNamed, Allows, IsWornIn, IsNextIn, IsTooLongIn, IsFullIn, Judges, JudgesNamed};
 
 use crate::states::{FieldState, LaneState, MonitorState};
-use heap_model::{FieldId, LAST_PLACE, Lane, ObjectId, Record, SECTION_RECORDS};
-use store_past::StoreError;
+use heap_model::{FieldId, LAST_PLACE, Lane, ObjectId, Record, SECTION_RECORDS, StoreError};
 
 /// The object's monitor.
 #[inline(always)]

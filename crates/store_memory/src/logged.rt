@@ -2,7 +2,7 @@
 
 ghost use Rattle.std.specs.Prelude.{◌≡◌, ◌<◌, ◌∷◌, [], ℕ, true, if◌then◌else◌, length};
 ghost use Rattle.heap_model.specs.Log.{value as value_of, log_from};
-ghost use Rattle.store_past.specs.Past.{has_store};
+ghost use Rattle.heap_model.specs.Past.{has_store};
 ghost use Rattle.store_memory.specs.Memory.{field_in, value_in, guard_in, is_logged_in};
 ghost use Rattle.store_memory.specs.Dirty.{is_dirty_in};
 

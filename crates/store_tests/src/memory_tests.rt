@@ -2,10 +2,9 @@
 
 ghost use Rattle.std.specs.Prelude.{◌≡◌, true, false};
 
-use heap_model::{FieldId, Lane, LaneRecord, ObjectId, Record};
+use heap_model::{FieldId, Lane, LaneRecord, ObjectId, Record, StoreError};
 use std::alloc::Global;
 use store_memory::{Applied, FieldState};
-use store_past::StoreError;
 
 fn acq(object: u32, number: u64) -> Record {
     Record::Acq {

@@ -3,17 +3,17 @@ use Rattle.std.proofs.Common.{ℕ, ◌≡◌, ◌≢◌, ◌+◌, ◌-◌, ◌*�
 use Rattle.std.proofs.lemmas.Bool.{cases_eq}
 use Rattle.std.proofs.lemmas.Bool.Decides.{eqb_tells}
 use Rattle.std.proofs.lemmas.List.{append-nil, append_assoc, length-append}
-use Rattle.lane_rings.specs.Rings.{Receiving}
-use Rattle.lane_rings.specs.declared.ring_records.TheConstants.{MOST_RING_RECORDS}
+use Rattle.thread_rings.specs.Rings.{Receiving}
+use Rattle.thread_rings.specs.declared.ring_records.TheConstants.{MOST_RING_RECORDS}
 use Rattle.heap_model.specs.declared.record.Record.{Record}
 use Rattle.heap_model.specs.Setting.{Setting}
 use Rattle.block_disk.specs.Device.{Device}
-use Rattle.store_past.specs.Past.{Past, applied, after_apply}
-use Rattle.round_store.specs.Steps.{RefusesApply}
-use Rattle.round_store.specs.Store as stores
-use Rattle.round_store.specs.Store.{HasPast}
-use Rattle.store_past.specs.declared.error.StoreError.{StoreError}
-use Rattle.store_past.specs.declared.error.StoreError.TheVariants.{Failed}
+use Rattle.heap_model.specs.Past.{Past, applied, after_apply}
+use Rattle.store_rounds.specs.Steps.{RefusesApply}
+use Rattle.store_rounds.specs.Store as stores
+use Rattle.store_rounds.specs.Store.{HasPast}
+use Rattle.heap_model.specs.declared.store_error.StoreError.{StoreError}
+use Rattle.heap_model.specs.declared.store_error.StoreError.TheVariants.{Failed}
 use Rattle.trim_helper.specs.Rings.{received_of, known_of, held_back, waiting_in, stream}
 use Rattle.trim_helper.specs.Moves.{Moves, most_room, known_sum, held_sum}
 use Rattle.trim_helper.specs.Taken.{Taking, HasTaken, Advances, AllStuck, IsLaneStuck, IsStuckAt, applied_more}

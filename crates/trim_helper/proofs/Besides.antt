@@ -1,12 +1,12 @@
 -- What a helper serves it serves once its device has met its other end.
 use Rattle.std.proofs.Common.{◌≡◌, ◌≤◌, ◌++◌, List, Option, sym, ap, ◌∙◌, subst, arith}
-use Rattle.lane_rings.specs.Rings.{Receiving}
+use Rattle.thread_rings.specs.Rings.{Receiving}
 use Rattle.heap_model.specs.declared.record.Record.{Record}
 use Rattle.heap_model.specs.Setting.{Setting}
 use Rattle.block_disk.specs.Device.{Device}
-use Rattle.round_store.specs.Store.{Known, HasPast}
+use Rattle.store_rounds.specs.Store.{Known, HasPast}
 use Rattle.monitor.specs.Seats.{Helping}
-use Rattle.store_past.specs.Past.{Past, applied}
+use Rattle.heap_model.specs.Past.{Past, applied}
 use Rattle.trim_helper.specs.Counts.{WasCount}
 use Rattle.trim_helper.specs.Helping.{count_published, place_published}
 use Rattle.trim_helper.specs.Meets.{SameHelper}

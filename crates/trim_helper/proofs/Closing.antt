@@ -1,32 +1,32 @@
 -- Both ends have met, and all that was sent is applied, logged, at home and acknowledged.
 use Rattle.std.proofs.Common.{ℕ, zero, suc, ◌≡◌, ◌<◌, ◌≤◌, if◌then◌else◌, true, false, List, [], ◌∷◌, ◌++◌, map, length, reverse, Option, refl, sym, ap, ◌∙◌, subst, inl, inr, arith}
 use Rattle.std.proofs.lemmas.Bool.{cases_lt}
-use Rattle.lane_rings.specs.Rings.{Receiving}
+use Rattle.thread_rings.specs.Rings.{Receiving}
 use Rattle.heap_model.specs.declared.record.Record.{Record}
 use Rattle.heap_model.specs.declared.event.Event.{Event}
 use Rattle.heap_model.specs.Setting.{Setting}
 use Rattle.heap_model.specs.History.{state_after, log_of}
 use Rattle.heap_model.specs.Own.{own_log}
 use Rattle.heap_model.specs.Log.{lane, IsLegal}
-use Rattle.cut_laws.specs.Laws.{OneStableLaw, UnloggedLaw}
-use Rattle.history_laws.specs.Laws.{LogLaw, OwnLogLaw, NextLaw, OrderLaw}
-use Rattle.history_laws.specs.SectionLaws.{AllKeptLaw}
+use Rattle.law_cuts.specs.Laws.{OneStableLaw, UnloggedLaw}
+use Rattle.law_histories.specs.Laws.{LogLaw, OwnLogLaw, NextLaw, OrderLaw}
+use Rattle.law_histories.specs.SectionLaws.{AllKeptLaw}
 use Rattle.heap_model.specs.Sections.{Action, action, actions, holding, ended}
 use Rattle.heap_model.specs.Cuts.{IsStable, all_ended}
 use Rattle.heap_model.specs.KeptHeap.{kept_value}
-use Rattle.cut_laws.proofs.Lanes.{lane_actions}
-use Rattle.history_laws.proofs.Logged.{value_log}
+use Rattle.law_cuts.proofs.Lanes.{lane_actions}
+use Rattle.law_histories.proofs.Logged.{value_log}
 use Rattle.block_disk.specs.Device.{Device}
 use Rattle.block_disk.specs.Images.{Always}
 use Rattle.block_disk.proofs.Images.{always_weaker}
 use Rattle.undo_log.specs.StandsFor.{StandsFor}
 use Rattle.store_image.specs.KeptHeap.{StandsForCut, values_below}
-use Rattle.store_past.specs.Past.{Past, applied}
-use Rattle.round_store.specs.Runs.{HasRun}
-use Rattle.round_store.specs.Stops.{ShowsCut}
-use Rattle.round_store.specs.Store as stores
-use Rattle.round_store.specs.Store.{Known, HasPast}
-use Rattle.round_store.proofs.Shown.{rests}
+use Rattle.heap_model.specs.Past.{Past, applied}
+use Rattle.store_rounds.specs.Runs.{HasRun}
+use Rattle.store_rounds.specs.Stops.{ShowsCut}
+use Rattle.store_rounds.specs.Store as stores
+use Rattle.store_rounds.specs.Store.{Known, HasPast}
+use Rattle.store_rounds.proofs.Shown.{rests}
 use Rattle.store_image.proofs.Stands.{same_heap}
 use Rattle.trim_helper.specs.Rings.{received_of, known_of, stream}
 use Rattle.trim_helper.specs.Limits.{KeepsLimits}

@@ -2,10 +2,10 @@
 use Rattle.std.proofs.Common.{ℕ, ◌≡◌, ◌+◌, ◌≤◌, true, List, ◌∙◌, sym, subst, ⊎_elim, arith}
 use Rattle.block_disk.specs.Device.{Device, HasFailed}
 use Rattle.heap_model.specs.Setting.{Setting}
-use Rattle.round_store.specs.Store.{Known, HasPast}
-use Rattle.store_past.specs.Past.{Past}
-use Rattle.store_past.specs.declared.error.StoreError.{StoreError}
-use Rattle.store_past.specs.declared.error.StoreError.TheVariants.{Failed, Worn, Fault}
+use Rattle.store_rounds.specs.Store.{Known, HasPast}
+use Rattle.heap_model.specs.Past.{Past}
+use Rattle.heap_model.specs.declared.store_error.StoreError.{StoreError}
+use Rattle.heap_model.specs.declared.store_error.StoreError.TheVariants.{Failed, Worn, Fault}
 use Rattle.trim_helper.specs.declared.close_error.CloseError.{CloseError}
 use Rattle.trim_helper.specs.declared.close_error.CloseError.TheVariants as close
 use Rattle.trim_helper.specs.declared.ended.Ended.{Ended}

@@ -6,17 +6,17 @@ use Rattle.heap_model.specs.Log.{IsLegal, lane}
 use Rattle.heap_model.specs.Setting.{Setting}
 use Rattle.heap_model.specs.Sections.{actions}
 use Rattle.heap_model.specs.Cuts.{IsStable}
-use Rattle.cut_laws.proofs.Stays.{cut_stays}
+use Rattle.law_cuts.proofs.Stays.{cut_stays}
 use Rattle.block_disk.specs.Device.{Device}
-use Rattle.round_store.specs.Store as stores
-use Rattle.history_laws.proofs.Own.{by_test}
+use Rattle.store_rounds.specs.Store as stores
+use Rattle.law_histories.proofs.Own.{by_test}
 use Rattle.monitor.specs.declared.view.Note.{Note}
 use Rattle.monitor.specs.declared.view.Post.TheVariants.{Stable, Trimmed}
 use Rattle.monitor.specs.declared.view.View.{View}
 use Rattle.monitor.specs.Posts.{ArePublished, Publication, WasPublished, knowing_post}
 use Rattle.monitor.specs.Seats.{Helping}
 use Rattle.monitor.specs.Views.{noted}
-use Rattle.store_past.specs.Past.{Past, applied}
+use Rattle.heap_model.specs.Past.{Past, applied}
 use Rattle.trim_helper.specs.Counts.{AddsCounts, IsCutCount, StandForCuts, WasCount}
 use Rattle.trim_helper.specs.Hearing.{IsNoted}
 use Rattle.trim_helper.specs.Helping.{HavePublished, taken_in}

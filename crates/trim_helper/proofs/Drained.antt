@@ -7,9 +7,9 @@ use Rattle.heap_model.specs.Setting.{Setting}
 use Rattle.heap_model.specs.History.{log_of}
 use Rattle.heap_model.specs.Own.{own_log}
 use Rattle.heap_model.specs.Log.{lane}
-use Rattle.history_laws.specs.Laws.{LogLaw, OwnLogLaw, NextLaw}
+use Rattle.law_histories.specs.Laws.{LogLaw, OwnLogLaw, NextLaw}
 use Rattle.block_disk.specs.Device.{Device}
-use Rattle.store_past.specs.Past.{Past, applied}
+use Rattle.heap_model.specs.Past.{Past, applied}
 use Rattle.trim_helper.specs.Limits.{KeepsLimits}
 use Rattle.trim_helper.specs.Taken.{Taking, HasTaken, AllStuck, trimmed_of}
 use Rattle.trim_helper.specs.Serving.{HoldHistory}

@@ -1,7 +1,7 @@
 -- Each session that has ended meets its lane's ring.
 use Rattle.std.proofs.Common.{ℕ, zero, suc, ◌≡◌, ◌≢◌, ◌+◌, ◌<◌, ◌≤◌, ◌⊎◌, ◌==◌, if◌then◌else◌, Option, None, Some, MatchOption, Bool, true, false, List, [], ◌∷◌, ◌++◌, length, slice_index_or, refl, sym, ap, ◌∙◌, subst, inl, inr, ⊎_elim, arith}
 use Rattle.std.proofs.lemmas.Bool.Decides.{eqb_tells}
-use Rattle.lane_rings.specs.Rings.{IsPair, Receiving, Sending}
+use Rattle.thread_rings.specs.Rings.{IsPair, Receiving, Sending}
 use Rattle.heap_model.specs.declared.record.Record.{Record}
 use Rattle.heap_model.specs.Own.{own_log, sent_of}
 use Rattle.heap_model.specs.Setting.{Setting}

@@ -2,20 +2,20 @@
 use Rattle.std.proofs.Common.{ℕ, ◌≡◌, ◌<◌, ◌≤◌, List, [], ◌++◌, length, MatchOption, Option, Result, Ok, Err, OnErr, slice_index_or, slice_set, refl, sym, ap, ◌∙◌, subst, inl, inr, arith, if◌then◌else◌, true, false, ◌∷◌, reverse}
 use Rattle.std.proofs.lemmas.Bool.Decides.{eqb_tells}
 use Rattle.std.proofs.lemmas.List.{append_assoc, reverse-append}
-use Rattle.lane_rings.specs.Rings.{Receiving, SameReceiver, known_records, received}
+use Rattle.thread_rings.specs.Rings.{Receiving, SameReceiver, known_records, received}
 use Rattle.heap_model.specs.declared.record.Record.{Record}
 use Rattle.heap_model.specs.Setting.{Setting}
 use Rattle.block_disk.specs.Device.{Device}
 use Rattle.heap_model.specs.declared.event.Event.{Event}
 use Rattle.heap_model.specs.History.{IsLegalHistory}
-use Rattle.lane_rings.specs.Following.{from_release, is_release, to_release}
+use Rattle.thread_rings.specs.Following.{from_release, is_release, to_release}
 use Rattle.monitor.specs.declared.view.Plan.{Plan}
 use Rattle.monitor.specs.Seats.{Helping, Home}
 use Rattle.monitor.specs.Views.{GoesOn}
 use Rattle.monitor.specs.Words.{setting_of}
-use Rattle.store_past.specs.Past.{Past, applied}
-use Rattle.store_past.specs.declared.error.StoreError.{StoreError}
-use Rattle.round_store.specs.Store as stores
+use Rattle.heap_model.specs.Past.{Past, applied}
+use Rattle.heap_model.specs.declared.store_error.StoreError.{StoreError}
+use Rattle.store_rounds.specs.Store as stores
 use Rattle.trim_helper.specs.Calls.{AreStuck, HasGoneOn, SettlesUpTo}
 use Rattle.trim_helper.specs.Heard.{HasSeen, Hears, SeenLaw}
 use Rattle.trim_helper.specs.Hearing.{IsNoted, KeepsRecords}

@@ -7,20 +7,20 @@ use Rattle.heap_model.specs.declared.record.Record.{Record}
 use Rattle.heap_model.specs.declared.record.Record.TheVariants.{Acq, Rel, WaitRel, Put}
 use Rattle.heap_model.specs.Setting.{Setting}
 use Rattle.heap_model.specs.Log.{lane, holder, number, IsLegal}
-use Rattle.history_laws.specs.Laws.{NextLaw}
+use Rattle.law_histories.specs.Laws.{NextLaw}
 use Rattle.heap_model.specs.Sections.{Action, action, actions, holding, open_section}
-use Rattle.cut_laws.proofs.Lanes.{lane_actions}
+use Rattle.law_cuts.proofs.Lanes.{lane_actions}
 use Rattle.block_disk.specs.Device.{Device}
-use Rattle.store_past.specs.declared.error.StoreError.{StoreError}
-use Rattle.store_past.specs.declared.error.StoreError.TheVariants.{Failed, BadLane, BadId, Worn, NotNext, TooLong, LogFull, Unwritten, Fault, Unfinished}
+use Rattle.heap_model.specs.declared.store_error.StoreError.{StoreError}
+use Rattle.heap_model.specs.declared.store_error.StoreError.TheVariants.{Failed, BadLane, BadId, Worn, NotNext, TooLong, LogFull, Unwritten, Fault, Unfinished}
 use Rattle.store_memory.specs.Apply.{HasLastNumber}
 use Rattle.undo_log.specs.Dropped.{undo_logs, records_in}
 use Rattle.store_memory.specs.Memory.{lane_in}
-use Rattle.round_store.specs.Steps.{RefusesApply}
-use Rattle.store_past.specs.Past.{Past, applied}
+use Rattle.store_rounds.specs.Steps.{RefusesApply}
+use Rattle.heap_model.specs.Past.{Past, applied}
 use Rattle.store_memory.specs.Remembers.{held_of, section_of, place_of}
 use Rattle.store_memory.specs.Remembers as memory
-use Rattle.round_store.specs.Store.{Known, HasPast}
+use Rattle.store_rounds.specs.Store.{Known, HasPast}
 use Rattle.trim_helper.specs.Rings.{received_of, known_of, held_back, waiting_in, stream}
 use Rattle.trim_helper.specs.Limits.{FitsNext, KeepsLimits}
 use Rattle.trim_helper.specs.Taken.{Taking, HasTaken, IsLaneStuck, IsRefused, trimmed_of}

@@ -8,11 +8,11 @@ use Rattle.heap_model.specs.Setting.{Setting}
 use Rattle.heap_model.specs.Log.{lane, number, IsLegal, IsLaneWisePrefix}
 use Rattle.heap_model.specs.Sections.{Action, Takes, Frees, Stores, action, actions, ended, Section, Did, Earlier, Took}
 use Rattle.heap_model.specs.Cuts.{Counts, IsWhole, IsClosed, IsStable}
-use Rattle.cut_laws.proofs.Chain.{took_had, Freed, freed_below}
-use Rattle.cut_laws.proofs.Lanes.{lane_actions, lane_append}
-use Rattle.cut_laws.proofs.Next.{freed_past}
-use Rattle.cut_laws.proofs.Stores.{ended_rises}
-use Rattle.history_laws.proofs.Own.{by_test}
+use Rattle.law_cuts.proofs.Chain.{took_had, Freed, freed_below}
+use Rattle.law_cuts.proofs.Lanes.{lane_actions, lane_append}
+use Rattle.law_cuts.proofs.Next.{freed_past}
+use Rattle.law_cuts.proofs.Stores.{ended_rises}
+use Rattle.law_histories.proofs.Own.{by_test}
 use Rattle.trim_helper.specs.Counts.{IsCutCount}
 
 -- What a section did is told by its lane alone.

@@ -15,15 +15,15 @@ use Rattle.image.specs.declared.layout.Layout.{Layout}
 use Rattle.undo_log.specs.Dropped.{undo_logs, records_in}
 use Rattle.store_image.proofs.Growing.{places_grown}
 use Rattle.store_image.proofs.Places.{in_sections, past_sections, records_within}
-use Rattle.store_past.specs.Past.{Past, IsPast, IsTrimmed, after_log, applied}
-use Rattle.store_past.specs.declared.error.StoreError.{StoreError}
-use Rattle.store_past.specs.declared.error.StoreError.TheVariants.{Failed, BadLane, BadId, Worn, NotNext, TooLong, LogFull, Unwritten, Fault, Unfinished}
-use Rattle.helper_sections.specs.Image.{ShowsCutOf}
-use Rattle.round_store.specs.Runs.{HasRun}
-use Rattle.round_store.specs.Steps.{MakesRound, RefusesWrite, after_round}
-use Rattle.round_store.specs.Store as stores
-use Rattle.round_store.specs.Store.{Known, HasPast}
-use Rattle.round_store.proofs.Running.{round_runs, run_none, run_on}
+use Rattle.heap_model.specs.Past.{Past, IsPast, IsTrimmed, after_log, applied}
+use Rattle.heap_model.specs.declared.store_error.StoreError.{StoreError}
+use Rattle.heap_model.specs.declared.store_error.StoreError.TheVariants.{Failed, BadLane, BadId, Worn, NotNext, TooLong, LogFull, Unwritten, Fault, Unfinished}
+use Rattle.store_helper_sections.specs.Image.{ShowsCutOf}
+use Rattle.store_rounds.specs.Runs.{HasRun}
+use Rattle.store_rounds.specs.Steps.{MakesRound, RefusesWrite, after_round}
+use Rattle.store_rounds.specs.Store as stores
+use Rattle.store_rounds.specs.Store.{Known, HasPast}
+use Rattle.store_rounds.proofs.Running.{round_runs, run_none, run_on}
 use Rattle.trim_helper.specs.Settled.{HasSame, IsSettled, IsStop, RefusesRound, SettlesAndTrims}
 use Rattle.trim_helper.specs.Taken.{applied_more}
 

@@ -1,14 +1,14 @@
 -- What the helper has seen, as rings are drained and heard.
 use Rattle.std.proofs.Common.{ℕ, zero, suc, ◌≡◌, ◌+◌, ◌<◌, List, [], ◌∷◌, ◌++◌, length, Option, Some, slice_index_or, slice_set, refl, sym, ap, ◌∙◌, subst, arith}
 use Rattle.std.proofs.lemmas.List.{append_assoc}
-use Rattle.cut_laws.proofs.Lanes.{lane_append}
-use Rattle.lane_rings.specs.Following.{Whose, to_release, whose}
-use Rattle.lane_rings.specs.Rings.{ReceiverLooked, Receiving, TellsLast, received, whose_received}
+use Rattle.law_cuts.proofs.Lanes.{lane_append}
+use Rattle.thread_rings.specs.Following.{Whose, to_release, whose}
+use Rattle.thread_rings.specs.Rings.{ReceiverLooked, Receiving, TellsLast, received, whose_received}
 use Rattle.heap_model.specs.declared.record.Record.{Record}
 use Rattle.heap_model.specs.declared.event.Event.{Event}
 use Rattle.heap_model.specs.Log.{lane}
 use Rattle.heap_model.specs.Own.{sent_of}
-use Rattle.history_laws.specs.Laws.{SentLaw}
+use Rattle.law_histories.specs.Laws.{SentLaw}
 use Rattle.monitor.specs.declared.view.Plan.{Plan}
 use Rattle.monitor.specs.Seats.{Helping, Home, Sitting, IsSeatOf}
 use Rattle.monitor.specs.Views.{GoesOn, lane_of}

@@ -5,8 +5,8 @@ use Rattle.block_disk.specs.Images.{LeavesOnly}
 use Rattle.block_disk.proofs.Images.{and_then, begin}
 use Rattle.durable.proofs.Sequences.{shows_more}
 use Rattle.store_image.specs.Sequences.{ShowsUpTo}
-use Rattle.round_store.specs.Store.{Known}
-use Rattle.round_store.specs.Runs.{TakesSequences}
+use Rattle.store_rounds.specs.Store.{Known}
+use Rattle.store_rounds.specs.Runs.{TakesSequences}
 
 -- the device wasn't called
 pub takes_none : (x y : Known) (d e : Device) → y.committed.sequence ≡ x.committed.sequence → e ≡ d → TakesSequences 0 x d y e

@@ -3,13 +3,13 @@ use Rattle.std.proofs.Common.{ℕ, List}
 use Rattle.heap_model.specs.declared.record.Record.{Record}
 use Rattle.heap_model.specs.Setting.{Setting}
 use Rattle.image.specs.declared.layout.Layout.{Layout}
-use Rattle.helper_sections.specs.Going.{from_heap}
-use Rattle.helper_sections.specs.Image.{kept_by, round_records}
-use Rattle.helper_sections.proofs.Preceding.{precede}
-use Rattle.helper_sections.proofs.Standing.{stands_shown}
+use Rattle.store_helper_sections.specs.Going.{from_heap}
+use Rattle.store_helper_sections.specs.Image.{kept_by, round_records}
+use Rattle.store_helper_sections.proofs.Preceding.{precede}
+use Rattle.store_helper_sections.proofs.Standing.{stands_shown}
 use Rattle.store_image.specs.KeptHeap.{StandsForCut, kept_heap}
 use Rattle.store_image.proofs.Stands.{kept_at, kept_size}
-use Rattle.round_store.specs.Stops.{ShowsCut}
+use Rattle.store_rounds.specs.Stops.{ShowsCut}
 
 -- an image that shows a cut stands for the heap that the cut keeps, and names its sections
 pub cut_stands : (l : Layout) (threads : ℕ) (s : Setting) (log : List (ℕ × Record)) (cut : ℕ → ℕ) (image : List ℕ) → ShowsCut l threads s log cut image → StandsForCut l s log cut image

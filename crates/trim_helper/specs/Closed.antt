@@ -1,6 +1,6 @@
 -- What stands once both ends have met.
 use Rattle.std.specs.Prelude.{ℕ, ◌≡◌, ◌<◌, ◌≤◌, ◌++◌, List, All, Result, Ok, Err}
-use Rattle.lane_rings.specs.Rings.{sent}
+use Rattle.thread_rings.specs.Rings.{sent}
 use Rattle.heap_model.specs.declared.event.Event.{Event}
 use Rattle.heap_model.specs.Setting.{Setting}
 use Rattle.heap_model.specs.History.{state_after, log_of}
@@ -10,9 +10,9 @@ use Rattle.block_disk.specs.Device.{Device}
 use Rattle.block_disk.specs.Images.{Always}
 use Rattle.heap_model.specs.declared.record.Record.{Record}
 use Rattle.heap_model.specs.Log.{IsLegal, lane}
-use Rattle.round_store.specs.Runs.{HasRun}
-use Rattle.round_store.specs.Stops.{ShowsCut}
-use Rattle.store_past.specs.Past.{Past, applied}
+use Rattle.store_rounds.specs.Runs.{HasRun}
+use Rattle.store_rounds.specs.Stops.{ShowsCut}
+use Rattle.heap_model.specs.Past.{Past, applied}
 use Rattle.trim_helper.specs.Settled.{closed_value}
 use Rattle.image.specs.declared.layout.Layout.{Layout}
 use Rattle.undo_log.specs.StandsFor.{StandsFor}

@@ -4,13 +4,13 @@ use Rattle.heap_model.specs.declared.record.Record.{Record}
 use Rattle.heap_model.specs.Sections.{actions}
 use Rattle.heap_model.specs.Cuts.{IsWhole, IsClosed}
 use Rattle.block_disk.specs.Device.{Device}
-use Rattle.round_store.specs.Store as stores
-use Rattle.round_store.specs.Store.{HasPast}
+use Rattle.store_rounds.specs.Store as stores
+use Rattle.store_rounds.specs.Store.{HasPast}
 use Rattle.heap_model.specs.Setting.{Setting}
 use Rattle.monitor.specs.declared.view.Post.TheVariants.{Stable}
 use Rattle.monitor.specs.Posts.{WasPublished, post_number}
 use Rattle.monitor.specs.Seats.{Helping}
-use Rattle.store_past.specs.Past.{Past, applied}
+use Rattle.heap_model.specs.Past.{Past, applied}
 
 -- Some whole, closed cut of these records has so many sections of the lane.
 pub record IsCutCount (log : List (ℕ × Record)) (lane count : ℕ) : Type 0 where

@@ -1,15 +1,15 @@
 -- How rings are drained: each function's call as one relation (this project's own).
 use Rattle.std.specs.Prelude.{ℕ, ◌≡◌, ◌≢◌, ◌+◌, ◌*◌, ◌<◌, ◌≤◌, if◌then◌else◌, Bool, true, false, List, ◌++◌, length, Option, Result, Ok, Err, IfOk, IfErr, OnErr}
 use Rattle.heap_model.specs.declared.event.Event.{Event}
-use Rattle.lane_rings.specs.declared.ring_records.TheConstants.{MOST_RING_RECORDS}
+use Rattle.thread_rings.specs.declared.ring_records.TheConstants.{MOST_RING_RECORDS}
 use Rattle.heap_model.specs.declared.record.Record.{Record}
 use Rattle.heap_model.specs.History.{log_of}
 use Rattle.heap_model.specs.Log.{lane as lane_of}
 use Rattle.heap_model.specs.Setting.{Setting}
 use Rattle.block_disk.specs.Device.{Device}
-use Rattle.store_past.specs.Past.{Past, applied}
-use Rattle.store_past.specs.declared.error.StoreError.{StoreError}
-use Rattle.store_past.specs.declared.error.StoreError.TheVariants.{Failed}
+use Rattle.heap_model.specs.Past.{Past, applied}
+use Rattle.heap_model.specs.declared.store_error.StoreError.{StoreError}
+use Rattle.heap_model.specs.declared.store_error.StoreError.TheVariants.{Failed}
 use Rattle.trim_helper.specs.Bounds.{IsBelow, IsWithin}
 use Rattle.trim_helper.specs.Moves.{SameRings, most_room}
 use Rattle.trim_helper.specs.Rings.{received_of, known_of}

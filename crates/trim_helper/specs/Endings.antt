@@ -1,10 +1,10 @@
 -- The sessions that meet the helper.
 use Rattle.std.specs.Prelude.{ℕ, ◌≡◌, ◌≢◌, ◌⊎◌, true, false, ◌+◌, ◌-◌, ◌^◌, ◌<◌, ◌≤◌, ◌==◌, if◌then◌else◌, List, [], ◌∷◌, map, length}
-use Rattle.lane_rings.specs.Rings.{Receiving, sent}
+use Rattle.thread_rings.specs.Rings.{Receiving, sent}
 use Rattle.heap_model.specs.Setting.{Setting}
 use Rattle.block_disk.specs.Device.{Device, HasFailed}
-use Rattle.round_store.specs.Store.{Known, HasPast}
-use Rattle.store_past.specs.Past.{Past}
+use Rattle.store_rounds.specs.Store.{Known, HasPast}
+use Rattle.heap_model.specs.Past.{Past}
 use Rattle.heap_model.specs.Own.{own_log, sent_of}
 use Rattle.heap_model.specs.Sections.{action, holding}
 use Rattle.monitor.specs.Words.{setting_of}

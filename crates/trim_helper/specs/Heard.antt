@@ -1,6 +1,6 @@
 -- What the helper knows of the one history once it has heard its rings (this project's own).
 use Rattle.std.specs.Prelude.{ℕ, ◌≡◌, ◌<◌, List, length}
-use Rattle.lane_rings.specs.Following.{to_release}
+use Rattle.thread_rings.specs.Following.{to_release}
 use Rattle.heap_model.specs.declared.event.Event.{Event}
 use Rattle.heap_model.specs.History.{IsLegalHistory}
 use Rattle.heap_model.specs.Setting.{Setting}
@@ -10,7 +10,7 @@ use Rattle.monitor.specs.Views.{GoesOn}
 use Rattle.monitor.specs.Words.{setting_of}
 use Rattle.trim_helper.specs.Hearing.{IsNoted, KeepsRecords}
 use Rattle.trim_helper.specs.Helping.{IsHelper}
-use Rattle.store_past.specs.Past.{Past, applied}
+use Rattle.heap_model.specs.Past.{Past, applied}
 use Rattle.trim_helper.specs.Parts.{IsServing, Parts}
 use Rattle.trim_helper.specs.Rings.{received_of, stream}
 use Rattle.trim_helper.specs.Seen.{BeginsLog}

@@ -1,6 +1,6 @@
 -- How the helper hears (this project's own).
 use Rattle.std.specs.Prelude.{ℕ, ◌≡◌, List}
-use Rattle.lane_rings.specs.Rings.{Receiving}
+use Rattle.thread_rings.specs.Rings.{Receiving}
 use Rattle.monitor.specs.Seats.{Helping}
 use Rattle.trim_helper.specs.Moves.{SameRings}
 use Rattle.trim_helper.specs.Rings.{received_of, known_of}

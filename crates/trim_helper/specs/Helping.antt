@@ -4,8 +4,8 @@ use Rattle.heap_model.specs.declared.event.Event.{Event}
 use Rattle.heap_model.specs.History.{state_after}
 use Rattle.heap_model.specs.Setting.{Setting}
 use Rattle.block_disk.specs.Device.{Device}
-use Rattle.round_store.specs.Store as stores
-use Rattle.round_store.specs.Store.{HasPast}
+use Rattle.store_rounds.specs.Store as stores
+use Rattle.store_rounds.specs.Store.{HasPast}
 use Rattle.monitor.specs.declared.view.Plan.{Plan}
 use Rattle.monitor.specs.declared.view.Post.TheVariants.{Stable, Trimmed}
 use Rattle.monitor.specs.declared.view.Part as raw
@@ -14,7 +14,7 @@ use Rattle.monitor.specs.Views.{GoesOn, noted}
 use Rattle.monitor.specs.Rule.{Spelled}
 use Rattle.monitor.specs.Words.{fields, setting_of, spread}
 use Rattle.monitor.specs.Seats.{Home, Helping, Final, IsHelperOf, final_value}
-use Rattle.store_past.specs.Past.{Past}
+use Rattle.heap_model.specs.Past.{Past}
 use Rattle.trim_helper.specs.Counts.{WasCount}
 use Rattle.trim_helper.specs.Serving.{Among, IsOneHistory, Part}
 use Rattle.trim_helper.specs.Taken.{trimmed_of}

@@ -1,6 +1,6 @@
 -- Sessions that have ended, and the rings that they filled.
 use Rattle.std.specs.Prelude.{ℕ, ◌≡◌, ◌+◌, ◌==◌, if◌then◌else◌, List, [], ◌∷◌, ◌++◌, map, length}
-use Rattle.lane_rings.specs.Rings.{Receiving}
+use Rattle.thread_rings.specs.Rings.{Receiving}
 use Rattle.heap_model.specs.declared.event.Event.{Event}
 use Rattle.heap_model.specs.Own.{own_log, sent_of}
 use Rattle.heap_model.specs.Sections.{action, holding}

@@ -1,13 +1,13 @@
 -- A helper, as contracts see it, and what it serves.
 use Rattle.std.specs.Prelude.{ℕ, ◌≡◌, ◌<◌, ◌≤◌, Bool, true, false, List, Option, length}
-use Rattle.lane_rings.specs.Rings.{Receiving}
+use Rattle.thread_rings.specs.Rings.{Receiving}
 use Rattle.heap_model.specs.declared.record.Record.{Record}
 use Rattle.heap_model.specs.Setting.{Setting}
 use Rattle.block_disk.specs.Device.{Device}
-use Rattle.round_store.specs.Store as stores
-use Rattle.store_past.specs.Past.{Past, IsTrimmed}
+use Rattle.store_rounds.specs.Store as stores
+use Rattle.heap_model.specs.Past.{Past, IsTrimmed}
 use Rattle.monitor.specs.Seats.{Helping}
-use Rattle.lane_rings.specs.declared.ring_records.TheConstants.{MOST_RING_RECORDS}
+use Rattle.thread_rings.specs.declared.ring_records.TheConstants.{MOST_RING_RECORDS}
 use Rattle.trim_helper.specs.Counts.{StandForCuts}
 use Rattle.trim_helper.specs.Draining.{Drained}
 use Rattle.trim_helper.specs.declared.draining.TheConstants.{LOOKS}

@@ -1,7 +1,7 @@
 -- What the helper has seen of the one history, and what of it stands for what it took of the rings (this project's own).
 use Rattle.std.specs.Prelude.{ℕ, zero, suc, ◌≡◌, List, [], ◌∷◌, ◌++◌, Some}
-use Rattle.lane_rings.specs.Following.{Whose, to_release}
-use Rattle.lane_rings.specs.Rings.{Receiving, received, whose_received}
+use Rattle.thread_rings.specs.Following.{Whose, to_release}
+use Rattle.thread_rings.specs.Rings.{Receiving, received, whose_received}
 use Rattle.heap_model.specs.declared.record.Record.{Record}
 use Rattle.heap_model.specs.declared.event.Event.{Event}
 use Rattle.heap_model.specs.Log.{lane}

@@ -1,12 +1,12 @@
 -- What the rings hold of one legal history, by its threads' views.
 use Rattle.std.specs.Prelude.{ℕ, ◌≡◌, ◌<◌, ◌≤◌, ◌⊎◌, List, [], ◌∷◌, ◌++◌, length}
-use Rattle.lane_rings.specs.Rings.{Receiving}
+use Rattle.thread_rings.specs.Rings.{Receiving}
 use Rattle.heap_model.specs.declared.event.Event.{Event}
 use Rattle.heap_model.specs.Setting.{Setting}
 use Rattle.heap_model.specs.History.{IsLegalHistory}
 use Rattle.heap_model.specs.Log.{lane}
 use Rattle.heap_model.specs.Own.{own_log, sent_of}
-use Rattle.store_past.specs.Past.{Past}
+use Rattle.heap_model.specs.Past.{Past}
 use Rattle.image.specs.declared.layout.Layout.{Layout}
 use Rattle.trim_helper.specs.Rings.{received_of, known_of}
 use Rattle.trim_helper.specs.Limits.{KeepsLimits}

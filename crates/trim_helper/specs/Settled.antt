@@ -4,13 +4,13 @@ use Rattle.heap_model.specs.Setting.{Setting}
 use Rattle.heap_model.specs.Sections.{actions}
 use Rattle.heap_model.specs.Cuts.{IsStable}
 use Rattle.block_disk.specs.Device.{Device}
-use Rattle.store_past.specs.Past.{Past, IsTrimmed, applied}
-use Rattle.round_store.specs.Runs.{HasRun}
-use Rattle.round_store.specs.Store as stores
-use Rattle.round_store.specs.Store.{Known, HasPast}
+use Rattle.heap_model.specs.Past.{Past, IsTrimmed, applied}
+use Rattle.store_rounds.specs.Runs.{HasRun}
+use Rattle.store_rounds.specs.Store as stores
+use Rattle.store_rounds.specs.Store.{Known, HasPast}
 use Rattle.trim_helper.specs.Taken.{trimmed_of}
-use Rattle.store_past.specs.declared.error.StoreError.{StoreError}
-use Rattle.store_past.specs.declared.error.StoreError.TheVariants.{Failed, Worn, Fault}
+use Rattle.heap_model.specs.declared.store_error.StoreError.{StoreError}
+use Rattle.heap_model.specs.declared.store_error.StoreError.TheVariants.{Failed, Worn, Fault}
 
 -- By calls since the first device the same records were applied; what was acknowledged still is, and what was trimmed stays so.
 pub record HasSame (old : Device) (x : Known) (d : Device) (s : Setting) (p : Past) : Type 0 where

@@ -1,16 +1,16 @@
 -- What takes records from the rings: what it has taken, and what became of it.
 use Rattle.std.specs.Prelude.{ℕ, ◌≡◌, ◌≢◌, ◌+◌, ◌<◌, true, List, [], ◌++◌, length, Option, MatchOption}
-use Rattle.lane_rings.specs.Rings.{Receiving}
+use Rattle.thread_rings.specs.Rings.{Receiving}
 use Rattle.heap_model.specs.declared.record.Record.{Record}
 use Rattle.heap_model.specs.Setting.{Setting}
 use Rattle.block_disk.specs.Device.{Device}
 use Rattle.undo_log.specs.Dropped.{undo_logs, records_in}
-use Rattle.store_past.specs.Past.{Past, applied}
-use Rattle.round_store.specs.Steps.{RefusesApply}
-use Rattle.round_store.specs.Store as stores
-use Rattle.round_store.specs.Store.{Known, HasPast}
-use Rattle.store_past.specs.declared.error.StoreError.{StoreError}
-use Rattle.store_past.specs.declared.error.StoreError.TheVariants.{Failed}
+use Rattle.heap_model.specs.Past.{Past, applied}
+use Rattle.store_rounds.specs.Steps.{RefusesApply}
+use Rattle.store_rounds.specs.Store as stores
+use Rattle.store_rounds.specs.Store.{Known, HasPast}
+use Rattle.heap_model.specs.declared.store_error.StoreError.{StoreError}
+use Rattle.heap_model.specs.declared.store_error.StoreError.TheVariants.{Failed}
 use Rattle.trim_helper.specs.Rings.{received_of, known_of, held_back, waiting_in, stream}
 use Rattle.trim_helper.specs.Moves.{known_sum, held_sum, SameRings}
 use Rattle.trim_helper.specs.Seen.{KeepsTold}

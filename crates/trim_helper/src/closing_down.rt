@@ -1,12 +1,12 @@
 //! Both ends meet.
 ghost use Rattle.std.specs.Prelude.{◌≡◌, ◌<◌, ◌≤◌, [], ℕ, ◌⊎◌, MatchOption, MatchResult, length};
-ghost use Rattle.store_past.specs.Past.{Past};
+ghost use Rattle.heap_model.specs.Past.{Past};
 ghost use Rattle.monitor.specs.Words.{setting_of};
 ghost use Rattle.trim_helper.specs.Calls.{Closes, Finishes, StaysFailedTaking};
 ghost use Rattle.trim_helper.specs.Helping.{IsHelper, taken_in};
 ghost use Rattle.trim_helper.specs.Endings.{AreEnded, HasOpen, HoldNone, IsComplete, RefusesEnded, count_lane};
 ghost use Rattle.trim_helper.specs.Moves.{most_room};
-ghost use Rattle.lane_rings.specs.declared.ring_records.TheConstants.{MOST_RING_RECORDS};
+ghost use Rattle.thread_rings.specs.declared.ring_records.TheConstants.{MOST_RING_RECORDS};
 ghost use Rattle.trim_helper.specs.Parts.{IsServing};
 ghost use Rattle.trim_helper.specs.Taken.{with_rings};
 
@@ -18,12 +18,12 @@ use crate::meeting::meet;
 use crate::published::close;
 use crate::settling::settle_and_trim;
 use block_disk::Disk;
-use cut_laws::{stable_law, unlogged_law};
 use heap_model::{Lane, Record};
-use history_laws::{all_kept_law, log_law, next_law, order_law, own_log_law};
-use lane_rings::{MOST_RING_RECORDS, Receiver};
+use law_cuts::{stable_law, unlogged_law};
+use law_histories::{all_kept_law, log_law, next_law, order_law, own_log_law};
 use monitor::{Finals, HelperSeat, Shared};
-use round_store::RoundStore;
+use store_rounds::RoundStore;
+use thread_rings::{MOST_RING_RECORDS, Receiver};
 
 // How many of the sessions are of this lane.
 fn count_of(ended: &[Ended], lane: u8) -> usize

@@ -1,6 +1,6 @@
 //! What is next in its lane is applied, until nothing is or a bound is reached.
 ghost use Rattle.std.specs.Prelude.{◌≡◌, ◌<◌, ◌≤◌, Some, length};
-ghost use Rattle.lane_rings.specs.declared.ring_records.TheConstants.{MOST_RING_RECORDS};
+ghost use Rattle.thread_rings.specs.declared.ring_records.TheConstants.{MOST_RING_RECORDS};
 ghost use Rattle.trim_helper.specs.declared.draining.TheConstants.{LOOKS};
 ghost use Rattle.trim_helper.specs.Draining.{DrainsRings, Empties, AppliesNext, AppliesLane, AppliesLanes};
 ghost use Rattle.trim_helper.specs.Moves.{most_room};
@@ -8,11 +8,10 @@ ghost use Rattle.trim_helper.specs.Taken.{with_rings};
 
 use crate::rings::{clear_waiting, fetch, look};
 use block_disk::Disk;
-use heap_model::{Lane, Record};
-use history_laws::{log_law, next_law, own_log_law};
-use lane_rings::{MOST_RING_RECORDS, Receiver};
-use round_store::RoundStore;
-use store_past::StoreError;
+use heap_model::{Lane, Record, StoreError};
+use law_histories::{log_law, next_law, own_log_law};
+use store_rounds::RoundStore;
+use thread_rings::{MOST_RING_RECORDS, Receiver};
 
 /// How often a drain looks at the rings at most. While threads send as quickly as it applies, a drain with no bound takes so many
 /// rings' fill of each lane.

@@ -1,7 +1,7 @@
 //! A session that has ended.
 use heap_model::Lane;
-use lane_rings::Sender;
 use monitor::Seat;
+use thread_rings::Sender;
 
 /// What a session leaves when it has ended, as the helper meets it.
 #[derive(Drop)]

@@ -9,9 +9,9 @@ ghost use Rattle.trim_helper.specs.Helping.{IsHelper};
 ghost use Rattle.trim_helper.specs.Seen.{AreHeard, SeesFrom};
 
 use block_disk::Disk;
-use history_laws::sent_law;
-use lane_rings::Receiver;
+use law_histories::sent_law;
 use monitor::{HelperSeat, Shared};
+use thread_rings::Receiver;
 
 // Hears the witness that the lane's ring keeps, if it keeps one, and sees the history so far.
 fn hear_at(shared: &Shared, rings: &mut [Receiver], lane: usize, seat: &mut HelperSeat)

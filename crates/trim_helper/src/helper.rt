@@ -1,9 +1,9 @@
 //! The helper.
 ghost use Rattle.std.specs.Prelude.{◌≡◌, ◌<◌, ◌≤◌, ◌-◌, ◌^◌, [], ℕ, true, false, vec_len, None, MatchOption, OnOk};
-ghost use Rattle.round_store.specs.Store.{HasPast};
+ghost use Rattle.store_rounds.specs.Store.{HasPast};
 ghost use Rattle.heap_model.specs.Setting.{Setting};
 ghost use Rattle.monitor.specs.Views.{GoesOn};
-ghost use Rattle.store_past.specs.Past.{Past, no_past};
+ghost use Rattle.heap_model.specs.Past.{Past, no_past};
 ghost use Rattle.trim_helper.specs.Calls.{Drains, DrainsUpTo, HasGoneOn, MayBePublished, Publishes, RoundsUpTo, SettlesUpTo};
 ghost use Rattle.trim_helper.specs.Heard.{HasSeen, Hears};
 ghost use Rattle.trim_helper.specs.Hearing.{IsNoted};
@@ -12,19 +12,18 @@ ghost use Rattle.trim_helper.specs.Moves.{most_room};
 ghost use Rattle.trim_helper.specs.Parts.{IsServing};
 ghost use Rattle.trim_helper.specs.Rings.{received_of};
 ghost use Rattle.trim_helper.specs.Seen.{SeesFrom};
-ghost use Rattle.lane_rings.specs.declared.ring_records.TheConstants.{MOST_RING_RECORDS};
+ghost use Rattle.thread_rings.specs.declared.ring_records.TheConstants.{MOST_RING_RECORDS};
 
 use crate::draining::drain_rings;
 use crate::hearing::catch_up;
 use crate::published::publish_all;
 use crate::settling::settle_and_trim;
 use block_disk::Disk;
-use heap_model::{LANES, Lane, Record};
-use lane_rings::{MOST_RING_RECORDS, Receiver};
+use heap_model::{LANES, Lane, Record, StoreError};
 use monitor::{HelperSeat, Shared};
-use round_store::RoundStore;
 use std::marker::Model;
-use store_past::StoreError;
+use store_rounds::RoundStore;
+use thread_rings::{MOST_RING_RECORDS, Receiver};
 
 /// The helper: it owns the store, applies to it what the sessions send through their rings, makes that durable, and publishes
 /// how many sections of each lane are acknowledged and how many of its records are forgotten.

@@ -5,14 +5,14 @@ ghost use Rattle.monitor.specs.Words.{setting_of};
 ghost use Rattle.trim_helper.specs.Helping.{IsHelper, count_published, place_published, taken_in};
 ghost use Rattle.trim_helper.specs.Meeting.{HasPart, HaveMet};
 ghost use Rattle.trim_helper.specs.Moves.{IsEndOf, Looks};
-ghost use Rattle.lane_rings.specs.Rings.{sent};
+ghost use Rattle.thread_rings.specs.Rings.{sent};
 ghost use Rattle.trim_helper.specs.Rings.{received_of, known_of};
 ghost use Rattle.trim_helper.specs.Seen.{SameSight};
 
 use crate::ended::Ended;
 use crate::published::gather;
-use lane_rings::{Receiver, Sender};
 use monitor::{HelperSeat, Shared};
+use thread_rings::{Receiver, Sender};
 
 // Looks at the lane's ring beside its other end: what was received and what is left is what was sent.
 fn look_beside(rings: &mut [Receiver], lane: usize, producer: &mut Sender)

@@ -5,7 +5,7 @@ use block_disk::Meets;
 
 impl<D: Meets> Helper<D> {
     ghost use Rattle.heap_model.specs.Setting.{Setting};
-    ghost use Rattle.store_past.specs.Past.{Past};
+    ghost use Rattle.heap_model.specs.Past.{Past};
     ghost use Rattle.trim_helper.specs.Meets.{SameHelper};
     ghost use Rattle.trim_helper.specs.Parts.{IsServing};
 

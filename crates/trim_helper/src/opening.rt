@@ -1,9 +1,9 @@
 //! A heap that was recovered, opened for threads.
 ghost use Rattle.std.specs.Prelude.{◌≡◌, ◌<◌, ◌≤◌, ◌+◌, ◌^◌, IfErr, IfOk, All, false, map};
-ghost use Rattle.round_store.specs.Store.{HasPast};
+ghost use Rattle.store_rounds.specs.Store.{HasPast};
 ghost use Rattle.monitor.specs.Seats.{IsSeatOf, fresh_views, helper_at};
 ghost use Rattle.monitor.specs.Words.{setting_of};
-ghost use Rattle.store_past.specs.Past.{no_past};
+ghost use Rattle.heap_model.specs.Past.{no_past};
 ghost use Rattle.trim_helper.specs.Helping.{IsHelper};
 ghost use Rattle.trim_helper.specs.Opening.{FitsSchema, plan_of};
 
@@ -11,8 +11,8 @@ use block_disk::Disk;
 use guards::Schema;
 use image::Recovered;
 use monitor::{HelperSeat, Seat, Shared};
-use round_store::RoundStore;
 use std::alloc::{AllocError, Global};
+use store_rounds::RoundStore;
 
 /// A heap that is open for threads: the words that they share, the seats of its lanes, and what a helper is made of.
 #[derive(Drop)]

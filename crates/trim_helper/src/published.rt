@@ -10,7 +10,7 @@ ghost use Rattle.trim_helper.specs.Seen.{SameSight};
 use block_disk::Disk;
 use heap_model::Lane;
 use monitor::{Finals, HelperSeat, Seat, Shared};
-use round_store::RoundStore;
+use store_rounds::RoundStore;
 
 /// Publishes by lane what is acknowledged and trimmed.
 pub fn publish_all<D: Disk>(store: &RoundStore<D>, shared: &Shared, seat: &mut HelperSeat)

@@ -1,14 +1,14 @@
 //! What was applied is made durable, its stable cut is acknowledged, and what is acknowledged is forgotten.
 ghost use Rattle.std.specs.Prelude.{◌≡◌, OnOk, false};
 ghost use Rattle.block_disk.specs.Device.{HasCause};
-ghost use Rattle.store_past.specs.declared.error.StoreError.TheVariants.{Fault};
-ghost use Rattle.round_store.specs.Runs.{TakesSequences};
+ghost use Rattle.heap_model.specs.declared.store_error.StoreError.TheVariants.{Fault};
+ghost use Rattle.store_rounds.specs.Runs.{TakesSequences};
 ghost use Rattle.trim_helper.specs.Settled.{SettlesAndTrimsApplied, StaysFailed};
 
 use block_disk::Disk;
-use cut_laws::stable_law;
-use round_store::RoundStore;
-use store_past::StoreError;
+use heap_model::StoreError;
+use law_cuts::stable_law;
+use store_rounds::RoundStore;
 
 /// Makes durable what was applied, acknowledges its stable cut and forgets it, by one round of the store.
 pub fn settle_and_trim<D: Disk>(store: &mut RoundStore<D>) -> Result<(), StoreError>

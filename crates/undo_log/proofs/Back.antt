@@ -12,10 +12,10 @@ use Rattle.heap_model.specs.Log.{lane, holder, number, value, IsLegal}
 use Rattle.heap_model.specs.Sections.{action, actions, ended, undo_action}
 use Rattle.heap_model.specs.Cuts.{IsClosed}
 use Rattle.heap_model.specs.KeptHeap.{kept_value, put_back}
-use Rattle.cut_laws.proofs.Lanes.{ended_in_lane}
-use Rattle.cut_laws.proofs.Stores.{under, Mark, HasStore, lane_same, holder_knows, place_below, ended_rises}
-use Rattle.history_laws.proofs.Order.{stores_past}
-use Rattle.history_laws.proofs.Undo.{undo_is_kept}
+use Rattle.law_cuts.proofs.Lanes.{ended_in_lane}
+use Rattle.law_cuts.proofs.Stores.{under, Mark, HasStore, lane_same, holder_knows, place_below, ended_rises}
+use Rattle.law_histories.proofs.Order.{stores_past}
+use Rattle.law_histories.proofs.Undo.{undo_is_kept}
 use Rattle.undo_log.specs.OldValues.{held_since, OldValue, IsOld, HasOld, IsNoLater, TakesBack, NothingBack, FirstBack, Holds, IsBeyond, IsUnsettled}
 use Rattle.undo_log.specs.Dropped.{undo_logs, records_in, IsDropped}
 

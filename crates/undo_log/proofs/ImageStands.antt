@@ -10,7 +10,7 @@ use Rattle.heap_model.specs.Sections.{actions}
 use Rattle.heap_model.specs.Cuts.{IsWhole, IsClosed}
 use Rattle.heap_model.specs.KeptHeap.{kept_value}
 use Rattle.heap_model.specs.Base.{records_since}
-use Rattle.cut_laws.proofs.Unlogged.{first_kept}
+use Rattle.law_cuts.proofs.Unlogged.{first_kept}
 use Rattle.image.specs.Cells.{HasHome}
 use Rattle.image.specs.declared.layout.Layout.{Layout}
 use Rattle.undo_log.specs.OldValues.{OldValue, HasOld, TakesBack, IsUnsettled, IsBeyond}

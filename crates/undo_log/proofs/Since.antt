@@ -10,10 +10,10 @@ use Rattle.heap_model.specs.Log.{lane}
 use Rattle.heap_model.specs.Sections.{Action, actions, without, holding, ended, undo_action}
 use Rattle.heap_model.specs.Cuts.{IsWhole, is_counted}
 use Rattle.heap_model.specs.Base.{records_since, records_until}
-use Rattle.cut_laws.proofs.Lanes.{lane_actions, ended_in_lane}
-use Rattle.history_laws.proofs.Parts.{lane_until}
-use Rattle.history_laws.proofs.Reorder.{split_lane}
-use Rattle.history_laws.proofs.Rebase.{ended_add, until_ends}
+use Rattle.law_cuts.proofs.Lanes.{lane_actions, ended_in_lane}
+use Rattle.law_histories.proofs.Parts.{lane_until}
+use Rattle.law_histories.proofs.Reorder.{split_lane}
+use Rattle.law_histories.proofs.Rebase.{ended_add, until_ends}
 use Rattle.undo_log.specs.OldValues.{held_since, OldValue, IsOld, HasOld, TakesBack, NothingBack, FirstBack, IsBeyond}
 use Rattle.undo_log.specs.Dropped.{undo_logs}
 use Rattle.undo_log.proofs.Back.{actions_undo, old_cons}

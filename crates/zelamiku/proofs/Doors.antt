@@ -1,6 +1,6 @@
 -- What is behind a handle after a call of its session.
 use Rattle.std.proofs.Common.{◌≡◌, ℕ, refl, sym, subst}
-use Rattle.hosted_heap.specs.Sessions.{SamePlace, Seated}
+use Rattle.host_heap.specs.Sessions.{SamePlace, Seated}
 use Rattle.zelamiku.specs.Behind.{behind, session_behind}
 use Rattle.zelamiku.specs.SessionDoors.{AnswersAs}
 use Rattle.zelamiku.specs.declared.state.Open.{Open}

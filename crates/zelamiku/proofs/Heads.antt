@@ -2,7 +2,7 @@
 use Rattle.std.proofs.Common.{◌≡◌, ◌∙◌, ℕ, List, [], ◌++◌, length, drop, ap, arith, refl}
 use Rattle.std.proofs.lemmas.List.{append-nil, drop_all}
 use Rattle.block_disk.specs.Bytes.{part}
-use Rattle.deferred_disk.specs.Copying.{CopiesFrom}
+use Rattle.disk_deferred.specs.Copying.{CopiesFrom}
 use Rattle.image.specs.Guards.{guard_bytes}
 use Rattle.image.specs.declared.guard_row.GuardRow.{GuardRow}
 

@@ -1,12 +1,12 @@
 -- What a host is told of the first of the calls that are left, and what it makes of it.
 use Rattle.std.proofs.Common.{◌≡◌, ◌≤◌, arith, IfSome, ℕ, List, [], ◌∷◌, Option, Some, None, MatchOption, Bool, true, false, if◌then◌else◌, Bor, ap, sym, refl, ◌∙◌}
 use Rattle.std.specs.Option.{option_copied}
-use Rattle.deferred_disk.specs.Deferred.{stop_of}
-use Rattle.deferred_disk.specs.Handing.{IsSmall}
-use Rattle.deferred_disk.specs.Host.{Host}
-use Rattle.deferred_disk.specs.declared.call.DeviceCall.{DeviceCall}
-use Rattle.deferred_disk.specs.declared.call.DeviceCall.TheVariants.{Write, Sync}
-use Rattle.deferred_disk.specs.declared.call.TheConstants.{MOST_BYTES}
+use Rattle.disk_deferred.specs.Deferred.{stop_of}
+use Rattle.disk_deferred.specs.Handing.{IsSmall}
+use Rattle.disk_deferred.specs.Host.{Host}
+use Rattle.disk_deferred.specs.declared.call.DeviceCall.{DeviceCall}
+use Rattle.disk_deferred.specs.declared.call.DeviceCall.TheVariants.{Write, Sync}
+use Rattle.disk_deferred.specs.declared.call.TheConstants.{MOST_BYTES}
 use Rattle.zelamiku.specs.HeapDoors.{MakesFirst, first_of, told_of}
 use Rattle.zelamiku.specs.declared.status.TheConstants.{NONE_LEFT, OK}
 

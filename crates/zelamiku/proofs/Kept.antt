@@ -1,12 +1,12 @@
 -- What was acknowledged is kept by whatever a crash leaves of the host's device.
 use Rattle.std.proofs.Common.{◌≡◌, ◌↔◌, ◌<◌, ◌≤◌, ℕ, inl, inr, Result, Ok, Err, OnOk}
 use Rattle.std.proofs.lemmas.Bool.{cases_lt}
-use Rattle.deferred_disk.specs.Host.{HaveMet}
-use Rattle.hosted_heap.specs.Hosting.{Hosting}
-use Rattle.hosted_heap.specs.Meeting.{AreAllMade, SameButMet}
-use Rattle.hosted_heap.specs.declared.error.AcknowledgedError.{AcknowledgedError}
-use Rattle.hosted_heap.specs.declared.error.AcknowledgedError.TheVariants.{BadLane}
-use Rattle.hosted_life.specs.Safe.{AcknowledgedLaw, KeepsFrom, KeepsNow, NowLaw}
+use Rattle.disk_deferred.specs.Host.{HaveMet}
+use Rattle.host_heap.specs.Hosting.{Hosting}
+use Rattle.host_heap.specs.Meeting.{AreAllMade, SameButMet}
+use Rattle.host_heap.specs.declared.error.AcknowledgedError.{AcknowledgedError}
+use Rattle.host_heap.specs.declared.error.AcknowledgedError.TheVariants.{BadLane}
+use Rattle.law_hosted.specs.Safe.{AcknowledgedLaw, KeepsFrom, KeepsNow, NowLaw}
 
 module _ (x y : Hosting) (lane lanes : ℕ) (same : SameButMet x y) where
   -- a lane that is told of is one of the heap's

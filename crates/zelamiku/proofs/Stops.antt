@@ -1,9 +1,9 @@
 -- What a session answers by what it has seen of a stop.
 use Rattle.std.proofs.Common.{◌≡◌, ℕ, Bool, true, false, Option, Some, None, refl, ◌∙◌, subst}
 use Rattle.std.specs.Option.{is_some}
-use Rattle.hosted_heap.specs.Failing.{failed_call}
-use Rattle.hosted_heap.specs.Hosting.{Hosting}
-use Rattle.hosted_heap.specs.declared.error.FailedCall.{FailedCall}
+use Rattle.host_heap.specs.Failing.{failed_call}
+use Rattle.host_heap.specs.Hosting.{Hosting}
+use Rattle.host_heap.specs.declared.error.FailedCall.{FailedCall}
 use Rattle.zelamiku.specs.Behind.{heap_behind}
 use Rattle.zelamiku.specs.Own.{Held}
 use Rattle.zelamiku.specs.StopDoors.{AfterFailure, FailsCallAt, LeavesWord, UnlessSeen}

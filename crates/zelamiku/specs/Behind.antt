@@ -1,9 +1,9 @@
 -- What is behind a handle, by its kind, and what a call of it is answered (this project's own).
 use Rattle.std.specs.Prelude.{ℕ, ◌≡◌, List, Option, Some, None}
-use Rattle.hosted_heap.specs.Hosting.{Hosting}
-use Rattle.hosted_heap.specs.Sessions.{Seated, SeatedWaiting}
-use Rattle.hosted_heap.specs.Stopping.{Stopping}
-use Rattle.hosted_heap.specs.declared.closing.Closed.{Closed}
+use Rattle.host_heap.specs.Hosting.{Hosting}
+use Rattle.host_heap.specs.Sessions.{Seated, SeatedWaiting}
+use Rattle.host_heap.specs.Stopping.{Stopping}
+use Rattle.host_heap.specs.declared.closing.Closed.{Closed}
 use Rattle.session.specs.declared.session.Session.{Session}
 use Rattle.zelamiku.specs.Own.{Held}
 use Rattle.zelamiku.specs.declared.state.Open.{Open}

@@ -1,7 +1,7 @@
 -- What C's call of a copy does (this project's own).
 use Rattle.std.specs.Prelude.{ℕ, ◌≡◌, List}
-use Rattle.deferred_disk.specs.Copying.{CopiesFrom}
-use Rattle.hosted_life.specs.Copies.{copy_of}
+use Rattle.disk_deferred.specs.Copying.{CopiesFrom}
+use Rattle.law_hosted.specs.Copies.{copy_of}
 use Rattle.zelamiku.specs.Behind.{behind, closed_behind, heap_behind, stopped_behind}
 use Rattle.zelamiku.specs.Own.{Held}
 use Rattle.zelamiku.specs.declared.state.Open.{Open}

@@ -1,39 +1,39 @@
 -- What C's calls of a heap do to what is behind its handle, and what they answer, by cases on what is there (this project's own).
 use Rattle.std.specs.Prelude.{ℕ, ◌≡◌, ◌<◌, ◌≤◌, ◌↔◌, List, [], ◌∷◌, ◌++◌, ◌+◌, ◌==◌, not, true, false, if◌then◌else◌, Option, Some, None, Result, Ok, Err, IfOk, IsErrOf, OnOk, drop, length, map, min, take}
 use Rattle.block_disk.specs.Device.{HasFailed}
-use Rattle.deferred_disk.specs.Deferred.{stop_of}
-use Rattle.deferred_disk.specs.Host.{Fetches, HasLooked, HaveMet, Host}
-use Rattle.deferred_disk.specs.declared.call.DeviceCall.{DeviceCall}
-use Rattle.deferred_disk.specs.declared.call.DeviceCall.TheVariants.{Write, Sync}
-use Rattle.deferred_disk.specs.declared.call.TheConstants.{MOST_BYTES}
-use Rattle.deferred_disk.specs.declared.disk.TheConstants.{SYNCS}
-use Rattle.hosted_heap.specs.Again.{HandsAgain, HasNoneIdle}
-use Rattle.hosted_heap.specs.Closing.{IsNotClosed}
-use Rattle.hosted_heap.specs.Hosting.{Hosting, IsClosedWith, SameHeap, hosted_device}
-use Rattle.hosted_heap.specs.Lanes.{IsAwaitedBy, IsJoinedHere}
-use Rattle.hosted_heap.specs.Meeting.{AreAllMade, FetchesAll, SameButMet}
-use Rattle.hosted_heap.specs.Opening.{HasRings, IsMade, RefusesMaking}
-use Rattle.hosted_heap.specs.Rounds.{HasRound}
-use Rattle.hosted_heap.specs.Sessions.{Seated}
-use Rattle.hosted_heap.specs.declared.closing.Closed.{Closed}
-use Rattle.hosted_heap.specs.declared.closing.NotClosed.{NotClosed}
-use Rattle.hosted_heap.specs.declared.closing.NotClosed.TheVariants as unclosed
-use Rattle.hosted_heap.specs.declared.error.AcknowledgedError.{AcknowledgedError}
-use Rattle.hosted_heap.specs.declared.error.AcknowledgedError.TheVariants.{BadLane, CallsLeft}
-use Rattle.hosted_heap.specs.declared.error.HostError.{HostError}
-use Rattle.hosted_heap.specs.declared.error.RoundError.{RoundError}
-use Rattle.hosted_heap.specs.declared.error.RoundError.TheVariants as rounds
-use Rattle.hosted_heap.specs.declared.lane_end.LaneEnd.{LaneEnd}
-use Rattle.hosted_heap.specs.declared.room.TheConstants.{ROUND_SYNCS}
-use Rattle.hosted_life.specs.Safe.{KeepsFrom, KeepsNow}
+use Rattle.disk_deferred.specs.Deferred.{stop_of}
+use Rattle.disk_deferred.specs.Host.{Fetches, HasLooked, HaveMet, Host}
+use Rattle.disk_deferred.specs.declared.call.DeviceCall.{DeviceCall}
+use Rattle.disk_deferred.specs.declared.call.DeviceCall.TheVariants.{Write, Sync}
+use Rattle.disk_deferred.specs.declared.call.TheConstants.{MOST_BYTES}
+use Rattle.disk_deferred.specs.declared.disk.TheConstants.{SYNCS}
+use Rattle.host_heap.specs.Again.{HandsAgain, HasNoneIdle}
+use Rattle.host_heap.specs.Closing.{IsNotClosed}
+use Rattle.host_heap.specs.Hosting.{Hosting, IsClosedWith, SameHeap, hosted_device}
+use Rattle.host_heap.specs.Lanes.{IsAwaitedBy, IsJoinedHere}
+use Rattle.host_heap.specs.Meeting.{AreAllMade, FetchesAll, SameButMet}
+use Rattle.host_heap.specs.Opening.{HasRings, IsMade, RefusesMaking}
+use Rattle.host_heap.specs.Rounds.{HasRound}
+use Rattle.host_heap.specs.Sessions.{Seated}
+use Rattle.host_heap.specs.declared.closing.Closed.{Closed}
+use Rattle.host_heap.specs.declared.closing.NotClosed.{NotClosed}
+use Rattle.host_heap.specs.declared.closing.NotClosed.TheVariants as unclosed
+use Rattle.host_heap.specs.declared.error.AcknowledgedError.{AcknowledgedError}
+use Rattle.host_heap.specs.declared.error.AcknowledgedError.TheVariants.{BadLane, CallsLeft}
+use Rattle.host_heap.specs.declared.error.HostError.{HostError}
+use Rattle.host_heap.specs.declared.error.RoundError.{RoundError}
+use Rattle.host_heap.specs.declared.error.RoundError.TheVariants as rounds
+use Rattle.host_heap.specs.declared.lane_end.LaneEnd.{LaneEnd}
+use Rattle.host_heap.specs.declared.room.TheConstants.{ROUND_SYNCS}
+use Rattle.law_hosted.specs.Safe.{KeepsFrom, KeepsNow}
 use Rattle.image.specs.Layout.{size_of}
 use Rattle.image.specs.declared.guard_row.GuardRow.{GuardRow}
 use Rattle.image.specs.declared.layout.Layout.{Layout}
 use Rattle.recover.specs.declared.report.Report.{Report}
 use Rattle.session.specs.Sessions.{view_of}
-use Rattle.steps.specs.Views.{plan}
-use Rattle.store_past.specs.Past.{Past}
-use Rattle.store_past.specs.declared.error.StoreError.TheVariants.{Fault}
+use Rattle.thread_steps.specs.Views.{plan}
+use Rattle.heap_model.specs.Past.{Past}
+use Rattle.heap_model.specs.declared.store_error.StoreError.TheVariants.{Fault}
 use Rattle.trim_helper.specs.Parts.{IsServing}
 use Rattle.zelamiku.specs.Own.{Held}
 use Rattle.zelamiku.specs.Behind.{Answers, behind, nothing_behind, heap_behind, closed_behind, session_behind, stopped_behind}

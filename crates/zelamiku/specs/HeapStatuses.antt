@@ -2,22 +2,22 @@
 use Rattle.std.specs.Prelude.{ℕ}
 use Rattle.guards.specs.declared.error.SchemaError.{SchemaError}
 use Rattle.guards.specs.declared.error.SchemaError.TheVariants as schema
-use Rattle.hosted_heap.specs.declared.closing.NotClosed.{NotClosed}
-use Rattle.hosted_heap.specs.declared.closing.NotClosed.TheVariants as unclosed
-use Rattle.hosted_heap.specs.declared.error.AcknowledgedError.{AcknowledgedError}
-use Rattle.hosted_heap.specs.declared.error.AcknowledgedError.TheVariants as acknowledged
-use Rattle.hosted_heap.specs.declared.error.CloseRefusal.{CloseRefusal}
-use Rattle.hosted_heap.specs.declared.error.CloseRefusal.TheVariants as refusal
-use Rattle.hosted_heap.specs.declared.error.HostError.{HostError}
-use Rattle.hosted_heap.specs.declared.error.HostError.TheVariants as host
-use Rattle.hosted_heap.specs.declared.error.RoundError.{RoundError}
-use Rattle.hosted_heap.specs.declared.error.RoundError.TheVariants as rounds
+use Rattle.host_heap.specs.declared.closing.NotClosed.{NotClosed}
+use Rattle.host_heap.specs.declared.closing.NotClosed.TheVariants as unclosed
+use Rattle.host_heap.specs.declared.error.AcknowledgedError.{AcknowledgedError}
+use Rattle.host_heap.specs.declared.error.AcknowledgedError.TheVariants as acknowledged
+use Rattle.host_heap.specs.declared.error.CloseRefusal.{CloseRefusal}
+use Rattle.host_heap.specs.declared.error.CloseRefusal.TheVariants as refusal
+use Rattle.host_heap.specs.declared.error.HostError.{HostError}
+use Rattle.host_heap.specs.declared.error.HostError.TheVariants as host
+use Rattle.host_heap.specs.declared.error.RoundError.{RoundError}
+use Rattle.host_heap.specs.declared.error.RoundError.TheVariants as rounds
 use Rattle.image.specs.declared.error.ImageError.{ImageError}
 use Rattle.image.specs.declared.error.ImageError.TheVariants as image
 use Rattle.recover.specs.declared.error.RecoverError.{RecoverError}
 use Rattle.recover.specs.declared.error.RecoverError.TheVariants as recover
-use Rattle.store_past.specs.declared.error.StoreError.{StoreError}
-use Rattle.store_past.specs.declared.error.StoreError.TheVariants as store
+use Rattle.heap_model.specs.declared.store_error.StoreError.{StoreError}
+use Rattle.heap_model.specs.declared.store_error.StoreError.TheVariants as store
 use Rattle.trim_helper.specs.declared.close_error.CloseError.TheVariants as close
 use Rattle.zelamiku.specs.declared.status.TheConstants.{NO_MEMORY, CALLS_LEFT, BAD_LANE, RUNNING, UNKNOWN_OBJECT, TOO_MANY, WORN, FAULT, FAILED, UNFINISHED, EMPTY, NOT_FORMATTED, BAD_HEADER, TOO_SMALL, NO_CONTROL, BAD_CONTROL, BAD_RECORD, ILLEGAL_LOG, OLD_VERSION}
 

@@ -2,7 +2,7 @@
 use Rattle.std.specs.Prelude.{ℕ, ◌≡◌, ◌<◌, ◌≤◌, List, length}
 use Rattle.std.specs.List.{slice_index_or}
 use Rattle.block_disk.specs.Bytes.{part}
-use Rattle.hosted_life.specs.Copies.{copy_of}
+use Rattle.law_hosted.specs.Copies.{copy_of}
 use Rattle.image.specs.Guards.{SpellsGuard, mark_of}
 use Rattle.image.specs.Layout.{guard_at}
 use Rattle.image.specs.declared.guard_row.GuardRow.{GuardRow}

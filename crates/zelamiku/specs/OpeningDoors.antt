@@ -1,6 +1,6 @@
 -- How C's calls that make or open a heap put it behind a handle (this project's own).
 use Rattle.std.specs.Prelude.{ℕ, ◌≡◌, Some, None}
-use Rattle.lane_rings.specs.Rings.{IsRingSize}
+use Rattle.thread_rings.specs.Rings.{IsRingSize}
 use Rattle.zelamiku.specs.Ended.{still_behind}
 use Rattle.zelamiku.specs.Own.{Held}
 use Rattle.zelamiku.specs.declared.status.TheConstants.{OPEN, RING}

@@ -1,14 +1,14 @@
--- The calls of a pool, as C makes them: the calls of `hosted_heap` on what is behind a session's handle (this project's own).
+-- The calls of a pool, as C makes them: the calls of `host_heap` on what is behind a session's handle (this project's own).
 use Rattle.std.specs.Prelude.{ℕ, ◌≡◌, ◌+◌, ◌<◌, ◌≤◌, List, ◌++◌, length, map, slice_get, Result, Ok, Err}
 use Rattle.std.specs.List.{range_with_len, slice_index_or}
 use Rattle.std.specs.Result.{result_unwrap_or}
-use Rattle.hosted_heap.specs.Sessions.{Seated}
+use Rattle.host_heap.specs.Sessions.{Seated}
 use Rattle.pool.specs.FreeList.{Place, IsFreeList}
 use Rattle.pool.specs.Numbered.{FitsHeap, cell_first}
 use Rattle.pool.specs.declared.error.PoolError.{PoolError}
 use Rattle.pool.specs.declared.error.PoolError.TheVariants as pools
 use Rattle.pool.specs.declared.pool.TheConstants.{MOST_SLOTS}
-use Rattle.pool_in_section.specs.Calls.{GivesSlot, TakesSlot}
+use Rattle.pool.specs.SectionCalls.{GivesSlot, TakesSlot}
 use Rattle.session.specs.declared.error.SessionError.{SessionError}
 use Rattle.zelamiku.specs.SessionStatuses.{refusal_status}
 use Rattle.zelamiku.specs.declared.pool_calls.TheConstants.{NO_SLOT}

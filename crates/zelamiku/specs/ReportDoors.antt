@@ -3,10 +3,10 @@
 use Rattle.std.specs.Prelude.{ℕ, ◌≡◌, ◌<◌, List, [], length, replicate, slice_get, Option, Some, None}
 use Rattle.std.specs.List.{slice_index_or}
 use Rattle.heap_model.specs.declared.limits.TheConstants.{LANES}
-use Rattle.hosted_heap.specs.Hosting.{Hosting}
-use Rattle.hosted_heap.specs.Opening.{HasRings, IsFound, RefusesOpening}
-use Rattle.hosted_heap.specs.declared.error.HostError.{HostError}
-use Rattle.hosted_heap.specs.declared.error.HostError.TheVariants as host
+use Rattle.host_heap.specs.Hosting.{Hosting}
+use Rattle.host_heap.specs.Opening.{HasRings, IsFound, RefusesOpening}
+use Rattle.host_heap.specs.declared.error.HostError.{HostError}
+use Rattle.host_heap.specs.declared.error.HostError.TheVariants as host
 use Rattle.image.specs.declared.layout.Layout.{Layout}
 use Rattle.recover.specs.declared.error.RecoverError.TheVariants as recover
 use Rattle.recover.specs.declared.report.Dropped.{Dropped as Section}

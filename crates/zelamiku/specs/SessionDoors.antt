@@ -1,4 +1,4 @@
--- The calls of a session, as C makes them: the calls of `hosted_heap` on what is behind a handle (this project's own). Each is told by
+-- The calls of a session, as C makes them: the calls of `host_heap` on what is behind a handle (this project's own). Each is told by
 -- what is behind the handle before it and after it, and by the status that C gets.
 use Rattle.std.specs.Prelude.{ℕ, ◌≡◌, List, [], ◌∷◌, ◌++◌, Option, Some, None, Result, Ok, Err, IfOk}
 use Rattle.std.specs.FinSet as set
@@ -11,7 +11,7 @@ use Rattle.heap_model.specs.declared.ids.FieldId.{FieldId}
 use Rattle.heap_model.specs.declared.ids.Lane.{Lane}
 use Rattle.heap_model.specs.declared.ids.ObjectId.{ObjectId}
 use Rattle.rtrb.specs.Ring.{sent}
-use Rattle.hosted_heap.specs.Sessions.{SamePlace, SamePlaceResume, SamePlaceWait, Seated, SeatedWaiting, inner_resume, inner_wait}
+use Rattle.host_heap.specs.Sessions.{SamePlace, SamePlaceResume, SamePlaceWait, Seated, SeatedWaiting, inner_resume, inner_wait}
 use Rattle.lock_word.specs.Spelling.{sight_of}
 use Rattle.lock_word.specs.WaitMask.{bit_of}
 use Rattle.lock_word.specs.declared.fat_word.FatShape.{FatShape}

@@ -1,11 +1,11 @@
 -- What C's calls do where a call of the device couldn't be made, and once a heap has stopped since (this project's own).
 use Rattle.std.specs.Prelude.{ℕ, ◌≡◌, Bool, Option, Some, None, IsSome}
-use Rattle.hosted_heap.specs.Failing.{failed_call}
-use Rattle.hosted_heap.specs.Hosting.{Hosting}
-use Rattle.hosted_heap.specs.Sessions.{HasLookedAt, HasLookedWaiting, Seated, SeatedWaiting}
-use Rattle.hosted_heap.specs.Stopping.{Stopping}
-use Rattle.hosted_heap.specs.declared.error.FailedCall.{FailedCall}
-use Rattle.hosted_heap.specs.declared.error.FailedCall.TheVariants.{Write, Sync}
+use Rattle.host_heap.specs.Failing.{failed_call}
+use Rattle.host_heap.specs.Hosting.{Hosting}
+use Rattle.host_heap.specs.Sessions.{HasLookedAt, HasLookedWaiting, Seated, SeatedWaiting}
+use Rattle.host_heap.specs.Stopping.{Stopping}
+use Rattle.host_heap.specs.declared.error.FailedCall.{FailedCall}
+use Rattle.host_heap.specs.declared.error.FailedCall.TheVariants.{Write, Sync}
 use Rattle.zelamiku.specs.Own.{Held}
 use Rattle.zelamiku.specs.Behind.{behind, closed_behind, heap_behind, session_behind, stopped_behind, waiting_behind}
 use Rattle.zelamiku.specs.declared.state.Open.{Open}

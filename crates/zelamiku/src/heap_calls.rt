@@ -1,7 +1,7 @@
 //! The calls of a heap, on the heap of a handle.
 ghost use Rattle.std.specs.Prelude.{◌≡◌, ◌≢◌, Some, None, IfErr, IfOk, if◌then◌else◌};
 ghost use Rattle.std.specs.Option.{option_copied};
-ghost use Rattle.hosted_heap.specs.Opening.{HasRings, IsFound, IsMade, RefusesOpening};
+ghost use Rattle.host_heap.specs.Opening.{HasRings, IsFound, IsMade, RefusesOpening};
 ghost use Rattle.zelamiku.specs.Behind.{Answers, behind, heap_behind, session_behind};
 ghost use Rattle.zelamiku.specs.HeapDoors.{AcknowledgesAt, ClosesAt, HandsOne, HandsOutAt, HasAcknowledged, MakesCallAt, RefusesFormat, RoundsAt, TellsNextAt, filled_of, found_of, nothing_found, rows_of, told_of, wanted_of};
 ghost use Rattle.zelamiku.specs.HeapDoors as doors;
@@ -11,14 +11,14 @@ use crate::slot::{Slot, put};
 use crate::state::{Inner, Open};
 use crate::status;
 use crate::words::{Call, Field, Found};
-use deferred_disk::{DeviceCall, HostCalls};
+use disk_deferred::{DeviceCall, HostCalls};
 use heap_model::{Lane, ObjectId};
-use hosted_heap::{AcknowledgedError, HostError, HostedHeap, HostedSession, NotClosed};
-use hosted_life::host_law;
+use host_heap::{AcknowledgedError, HostError, HostedHeap, HostedSession, NotClosed};
 use image::GuardRow;
-use lane_rings::RingRecords;
+use law_hosted::host_law;
 use recover::{Report, Versions};
 use std::alloc::{AllocError, Global};
+use thread_rings::RingRecords;
 
 /// No bound on the records of a round.
 pub const ALL: u64 = u64::MAX;
@@ -43,7 +43,7 @@ pub fn format(
     let Ok(rows) = rows_of(alloc, fields) else {
         return Err(status::NO_MEMORY);
     };
-    match hosted_heap::format_with(
+    match host_heap::format_with(
         alloc,
         objects,
         &rows,
@@ -69,7 +69,7 @@ pub fn open(
     ensures rings { IfOk result (λ found. HasRings ring found.0) }
     ensures refused { IfErr result (RefusesOpening versions image.now) }
 {
-    hosted_heap::open_with(alloc, image, versions, wanted_of(threads), ring)
+    host_heap::open_with(alloc, image, versions, wanted_of(threads), ring)
 }
 
 // How many threads C has, as the heap counts them.

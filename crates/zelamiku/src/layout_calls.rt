@@ -1,7 +1,7 @@
 //! What an open heap has, on what is behind a handle.
 ghost use Rattle.std.specs.Prelude.{◌≡◌, ◌≢◌, Some};
 ghost use Rattle.block_disk.specs.Bytes.{part};
-ghost use Rattle.hosted_life.specs.Copies.{copy_of};
+ghost use Rattle.law_hosted.specs.Copies.{copy_of};
 ghost use Rattle.image.specs.Guards.{FitsGuard, SpellsGuard, guard_bytes, mark_of};
 ghost use Rattle.image.specs.declared.guard_row.GuardRow.{GuardRow as Row};
 ghost use Rattle.zelamiku.specs.Behind.{Answers, behind};
@@ -16,7 +16,7 @@ use crate::state::{Inner, Open};
 use crate::status;
 use crate::words::{Field, Head};
 use heap_model::FieldId;
-use hosted_heap::HostedHeap;
+use host_heap::HostedHeap;
 use image::{GuardRow, Layout, decode_guard};
 
 // What is told where there is no field.

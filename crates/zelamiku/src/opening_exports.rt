@@ -1,6 +1,6 @@
 //! What C calls to make or open a heap, with rings of the room that it asks for.
 ghost use Rattle.std.specs.Prelude.{◌≡◌, MatchOption};
-ghost use Rattle.lane_rings.specs.Rings.{IsRingSize};
+ghost use Rattle.thread_rings.specs.Rings.{IsRingSize};
 ghost use Rattle.recover.specs.declared.versions.Versions.TheVariants.{Current, Both};
 ghost use Rattle.zelamiku.specs.Ended.{still_behind};
 ghost use Rattle.zelamiku.specs.HeapDoors.{FormatsAt};
@@ -11,9 +11,9 @@ use crate::slot::{Slot, is_taken, put_new};
 use crate::state::Open;
 use crate::words::{Dropped, Field, Told};
 use crate::{heap_calls, report_calls, status};
-use lane_rings::RingRecords;
 use recover::Versions;
 use std::alloc::Global;
+use thread_rings::RingRecords;
 
 /// Makes a heap and opens it.
 #[unsafe(no_mangle)]

@@ -13,7 +13,7 @@ use crate::state::{Inner, Open};
 use crate::status;
 use crate::words::Field;
 use heap_model::FieldId;
-use hosted_heap::HostedSession;
+use host_heap::HostedSession;
 use pool::{MOST_SLOTS, Pool, PoolError};
 use session::SessionError;
 

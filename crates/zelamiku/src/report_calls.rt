@@ -1,6 +1,6 @@
 //! What is told of an opening: which sections recovery kept and dropped, and why; or for which record it refused.
 ghost use Rattle.std.specs.Prelude.{◌≡◌};
-ghost use Rattle.hosted_heap.specs.declared.error.HostError.TheVariants as host;
+ghost use Rattle.host_heap.specs.declared.error.HostError.TheVariants as host;
 ghost use Rattle.zelamiku.specs.ReportDoors as doors;
 ghost use Rattle.zelamiku.specs.ReportDoors.{TellsEach, nothing_told, told_of, told_of_refusal, told_why};
 
@@ -8,7 +8,7 @@ use crate::heap_calls;
 use crate::session_calls::NOBODY;
 use crate::words::{Dropped, Told};
 use heap_model::{LANES, Lane};
-use hosted_heap::{HostError, HostedHeap};
+use host_heap::{HostError, HostedHeap};
 use recover::{Dropped as Section, RecoverError, Report, Why};
 
 /// It hasn't ended.

@@ -3,7 +3,7 @@ ghost use Rattle.std.specs.Prelude.{◌≡◌, IfOk};
 ghost use Rattle.zelamiku.specs.Ended.{is_ended};
 ghost use Rattle.zelamiku.specs.declared.state.Open.TheVariants as kind;
 
-use hosted_heap::{Closed, HostedHeap, HostedSession, HostedWaiting, Returned, StopWord};
+use host_heap::{Closed, HostedHeap, HostedSession, HostedWaiting, Returned, StopWord};
 use std::alloc::{AllocError, Global};
 
 /// What is behind a handle: one kind of handle serves all.

@@ -4,12 +4,11 @@ ghost use Rattle.zelamiku.specs.HeapStatuses.{acknowledged_status, close_status,
 ghost use Rattle.zelamiku.specs.SessionStatuses.{refusal_status, status_of, still_status};
 
 use guards::SchemaError;
-use heap_model::Lane;
-use hosted_heap::{AcknowledgedError, CloseRefusal, HostError, RoundError};
+use heap_model::{Lane, StoreError};
+use host_heap::{AcknowledgedError, CloseRefusal, HostError, RoundError};
 use image::ImageError;
 use recover::RecoverError;
 use session::{SessionError, Still};
-use store_past::StoreError;
 use trim_helper::CloseError;
 
 /// The call was made.

@@ -8,7 +8,7 @@ ghost use Rattle.zelamiku.specs.declared.state.Open.TheVariants as kind;
 use crate::state::{Inner, Open};
 use crate::status;
 use heap_model::ObjectId;
-use hosted_heap::{Closed, FailedCall, HostedHeap, HostedSession, HostedWaiting};
+use host_heap::{Closed, FailedCall, HostedHeap, HostedSession, HostedWaiting};
 
 /// The host couldn't make the call.
 pub fn call_failed(state: &mut Inner) -> u32

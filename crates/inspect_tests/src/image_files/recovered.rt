@@ -1,7 +1,6 @@
 //! Image files recovered, shown, drawn and dumped. Lines and bytes follow from docs/SCRIPTS.md and docs/FORMAT.md.
 use super::{SCHEMA, format_there, has};
 use block_disk::{Fill, MemDisk};
-use declarations::{SchemaFault, SchemaFaultKind, read_schema};
 use durable::{Store, StoreCall};
 use guards::Schema;
 use heap_model::{FieldId, Lane, ObjectId, Record};
@@ -10,6 +9,7 @@ use image_file::{
     show_at,
 };
 use recover::{RecoverError, Versions};
+use script_declarations::{SchemaFault, SchemaFaultKind, read_schema};
 use std::alloc::Global;
 use std::io::Write;
 use std::{fs, io};

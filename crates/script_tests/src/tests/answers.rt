@@ -1,7 +1,7 @@
 //! The text of an answer that no script brings about.
 use heap_model::Lane;
 use script_machine::{Answer, Refusal};
-use scripts::text;
+use script_play::text;
 use std::alloc::Global;
 
 // Whether a record that is none, in a log, is told so.

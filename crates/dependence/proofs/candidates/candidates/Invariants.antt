@@ -1,6 +1,6 @@
 use Rattle.std.proofs.Common.{ℕ, ◌≤◌, List, slice_index}
 use Rattle.heap_model.specs.Cuts.{counts_of}
-use Rattle.cut_laws.specs.Plain.{IsClosedOver}
+use Rattle.law_cuts.specs.Plain.{IsClosedOver}
 use Rattle.dependence.specs.declared.step.Step.{Step}
 use Rattle.dependence.specs.Steps.{reading}
 use Rattle.dependence.specs.Search.{IsAbove, AreCauses}

@@ -1,6 +1,6 @@
 use Rattle.std.proofs.Common.{ℕ, ◌≡◌, ◌-◌, ◌<◌, ap, subst, arith, rules, false, length, get_or, slice_index, slice_set}
 use Rattle.heap_model.specs.Cuts.{counts_of}
-use Rattle.cut_laws.specs.Plain.{takes_after}
+use Rattle.law_cuts.specs.Plain.{takes_after}
 use Rattle.dependence.specs.Links.{lanes_in, sections_in, acts_in, act_at}
 use Rattle.dependence.specs.Search.{Takes}
 use Rattle.dependence.proofs.Falling.{Falls, falls, one_taker}

@@ -1,5 +1,5 @@
 use Rattle.std.proofs.Common.{ℕ, ◌≡◌, ◌+◌, ◌-◌, true, false, slice_index, sym, ◌∙◌, ap, arith}
-use Rattle.cut_laws.specs.Plain.{takes_after}
+use Rattle.law_cuts.specs.Plain.{takes_after}
 use Rattle.dependence.specs.Links.{acts_in, act_at, partner_in}
 use Rattle.dependence.proofs.Falling.{takes_at}
 use Rattle.dependence.proofs.Linked.{beside_many}

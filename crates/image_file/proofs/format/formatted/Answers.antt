@@ -3,7 +3,7 @@ use Rattle.block_disk.specs.Device.{new_device}
 use Rattle.image.specs.Calls.{after}
 use Rattle.image.specs.Format.{format_calls}
 use Rattle.image.specs.Layout.{size_of}
-use Rattle.sector_file.specs.ImageDisks.{room_for}
+use Rattle.disk_sector_file.specs.ImageDisks.{room_for}
 use Rattle.image_file.proofs.format.formatted.Goals as goal
 
 pub returns-in-Ok-format-clause-ok : goal.returns-in-Ok-format-clause-ok

@@ -4,7 +4,7 @@ use Rattle.std.specs.Fmt.{decimal}
 use Rattle.std.specs.List.{concat}
 use Rattle.guards.specs.Schema.{guard_of, names_of, owner_of}
 use Rattle.script_lines.specs.Grammar.{field_word}
-use Rattle.declarations.specs.SchemaText.{ended, name_of}
+use Rattle.script_declarations.specs.SchemaText.{ended, name_of}
 use Rattle.inspect.specs.Written.{AppendsPart}
 use Rattle.image_schema.proofs.writing.put_field.Goals as goal
 

@@ -2,7 +2,7 @@ use Rattle.std.proofs.Common.{◌<◌, List, ℕ, [], length, subst, sym, ap, �
 use Rattle.std.proofs.lemmas.List.{take_all}
 use Rattle.std.specs.Io.KnownBytes.{Appends}
 use Rattle.std.specs.List.{flat_map}
-use Rattle.declarations.specs.SchemaText.{begun_with}
+use Rattle.script_declarations.specs.SchemaText.{begun_with}
 use Rattle.inspect.specs.Written.{AppendsPart}
 use Rattle.inspect.proofs.PartLemmas.{always, next_item, part_item}
 use Rattle.image_schema.proofs.WritingLemmas.{begun_length, field_is, field_item, fields_text, no_field}

@@ -1,7 +1,7 @@
 use Rattle.std.proofs.Common.{take}
 use Rattle.std.specs.Io.KnownBytes.{Appends}
 use Rattle.std.specs.List.{flat_map}
-use Rattle.declarations.specs.SchemaText.{begun_with}
+use Rattle.script_declarations.specs.SchemaText.{begun_with}
 use Rattle.image_schema.proofs.WritingLemmas.{field_item}
 use Rattle.image_schema.proofs.writing.put_fields.Given as goal
 

@@ -2,7 +2,7 @@ use Rattle.std.proofs.Common.{subst, sym, OnErr}
 use Rattle.std.proofs.lemmas.List.Concat.{flat_map-append}
 use Rattle.std.proofs.lemmas.Result.{on_err_weaker}
 use Rattle.std.specs.List.{flat_map}
-use Rattle.declarations.specs.SchemaText.{begun_with, ended, field_lines, object_lines}
+use Rattle.script_declarations.specs.SchemaText.{begun_with, ended, field_lines, object_lines}
 use Rattle.inspect.specs.Written.{AppendsPart}
 use Rattle.inspect.proofs.PartLemmas.{part_second}
 use Rattle.image_schema.proofs.writing.write_schema.Goals as goal

@@ -1,7 +1,7 @@
 use Rattle.std.proofs.Common.{◌≡◌, take, reverse}
 use Rattle.std.specs.List.{flat_map}
 use Rattle.std.specs.Io.KnownBytes.{Appends}
-use Rattle.log_state.specs.Lanes.{count_of}
+use Rattle.recover_logs.specs.Lanes.{count_of}
 use Rattle.inspect.specs.Sections.{told}
 use Rattle.inspect.specs.Links.{finds, linked_by}
 use Rattle.inspect.specs.SectionText.{link_text}

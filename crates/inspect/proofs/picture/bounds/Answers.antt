@@ -1,7 +1,7 @@
 use Rattle.std.proofs.Common.{ℕ, ◌≡◌, ◌+◌, ◌-◌, ◌<◌, ◌∙◌, ◌++◌, List, [], ◌∷◌, length, take, reverse, refl, sym, ap, ap₂, subst, arith, slice_set}
 use Rattle.std.proofs.lemmas.List.{length-set, take_more_set}
 use Rattle.heap_model.specs.declared.record.UndoRecord.{UndoRecord}
-use Rattle.log_state.specs.Lanes.{count_of}
+use Rattle.recover_logs.specs.Lanes.{count_of}
 use Rattle.recover.specs.Logs.{records_of}
 use Rattle.inspect.specs.declared.numbering.Numbering.{Numbering}
 use Rattle.inspect.specs.Drawn.{drawn_from}

@@ -1,8 +1,8 @@
 use Rattle.std.proofs.Common.{◌≤◌, List, length, arith, reverse, sym, subst}
 use Rattle.std.proofs.lemmas.List.{take_all}
 use Rattle.heap_model.specs.declared.record.UndoRecord.{UndoRecord}
-use Rattle.log_state.specs.Lanes.{count_of}
-use Rattle.log_state.specs.declared.lane_count.LaneCount.{LaneCount}
+use Rattle.recover_logs.specs.Lanes.{count_of}
+use Rattle.recover_logs.specs.declared.lane_count.LaneCount.{LaneCount}
 use Rattle.inspect.proofs.ToldLemmas.{Few, few}
 use Rattle.inspect.proofs.picture.first_of_last.Goals as goal
 

@@ -1,7 +1,7 @@
 use Rattle.std.proofs.Common.{◌≡◌, ◌+◌, ◌<◌, ◌++◌, length, arith, take, reverse, sym, ap, subst, ◌∙◌, get_or, List, append_assoc, length-append}
 use Rattle.heap_model.specs.declared.record.UndoRecord.{UndoRecord}
-use Rattle.log_state.specs.declared.lane_count.LaneCount.{LaneCount}
-use Rattle.log_state.specs.Lanes.{count_after, count_of}
+use Rattle.recover_logs.specs.declared.lane_count.LaneCount.{LaneCount}
+use Rattle.recover_logs.specs.Lanes.{count_after, count_of}
 use Rattle.inspect.specs.Sections.{told}
 use Rattle.inspect.specs.Links.{Release, Tells, released_by}
 use Rattle.inspect.proofs.PartLemmas.{always}

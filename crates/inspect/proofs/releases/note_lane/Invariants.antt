@@ -1,5 +1,5 @@
 use Rattle.std.proofs.Common.{◌≡◌, ◌++◌, List, take, reverse}
-use Rattle.log_state.specs.Lanes.{count_of}
+use Rattle.recover_logs.specs.Lanes.{count_of}
 use Rattle.inspect.specs.Sections.{told}
 use Rattle.inspect.specs.Links.{Release, Tells, released_by}
 use Rattle.inspect.proofs.releases.note_lane.Given as goal

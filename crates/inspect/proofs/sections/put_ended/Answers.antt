@@ -1,7 +1,7 @@
 use Rattle.std.proofs.Common.{ℕ, ◌≡◌, ◌+◌, ◌∙◌, Bool, true, false, List, [], ◌∷◌, sym, subst, OnOk, OnErr}
 use Rattle.std.specs.Io.KnownBytes.{Appends}
 use Rattle.std.proofs.KnownBytes.{Appends-nil}
-use Rattle.log_state.specs.Lanes.{ends_at}
+use Rattle.recover_logs.specs.Lanes.{ends_at}
 use Rattle.inspect.specs.declared.section.Section.{Section}
 use Rattle.inspect.specs.declared.section.SectionId.{SectionId}
 use Rattle.inspect.specs.Sections.{section_id}

@@ -6,10 +6,10 @@ use Rattle.std.proofs.lemmas.List.{take_all}
 use Rattle.std.proofs.lemmas.List.Concat.{flat_map-append}
 use Rattle.std.proofs.lemmas.Result.{on_ok_weaker, on_err_weaker}
 use Rattle.heap_model.specs.declared.record.UndoRecord.{UndoRecord}
-use Rattle.log_state.specs.declared.lane_count.LaneCount.{LaneCount}
+use Rattle.recover_logs.specs.declared.lane_count.LaneCount.{LaneCount}
 use Rattle.inspect.specs.declared.section.Section.{Section}
 use Rattle.inspect.specs.Written.{AppendsPart}
-use Rattle.log_state.specs.Lanes.{count_of}
+use Rattle.recover_logs.specs.Lanes.{count_of}
 use Rattle.inspect.specs.Sections.{whole_sections, unfinished_section}
 use Rattle.inspect.specs.SectionText.{section_text}
 use Rattle.inspect.proofs.PartLemmas.{always, part_first, part_second}

@@ -2,9 +2,9 @@ use Rattle.std.proofs.Common.{◌<◌, length, arith, take, reverse, sym, ap, su
 use Rattle.std.specs.List.{flat_map}
 use Rattle.std.specs.Io.KnownBytes.{Appends}
 use Rattle.heap_model.specs.declared.record.UndoRecord.{UndoRecord}
-use Rattle.log_state.specs.declared.lane_count.LaneCount.{LaneCount}
+use Rattle.recover_logs.specs.declared.lane_count.LaneCount.{LaneCount}
 use Rattle.inspect.specs.Written.{AppendsPart}
-use Rattle.log_state.specs.Lanes.{count_after, count_of}
+use Rattle.recover_logs.specs.Lanes.{count_after, count_of}
 use Rattle.inspect.specs.Sections.{ended_by}
 use Rattle.inspect.specs.SectionText.{section_text}
 use Rattle.std.proofs.KnownBytes.{Appends-nil}

@@ -1,7 +1,7 @@
 use Rattle.std.proofs.Common.{◌≡◌, take, reverse}
 use Rattle.std.specs.List.{flat_map}
 use Rattle.std.specs.Io.KnownBytes.{Appends}
-use Rattle.log_state.specs.Lanes.{count_of}
+use Rattle.recover_logs.specs.Lanes.{count_of}
 use Rattle.inspect.specs.Sections.{whole_sections}
 use Rattle.inspect.specs.SectionText.{section_text}
 use Rattle.inspect.proofs.sections.put_whole_sections.Given as goal

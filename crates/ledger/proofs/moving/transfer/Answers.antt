@@ -2,7 +2,7 @@ use Rattle.std.proofs.Common.{◌≡◌, ◌≢◌, ◌≤◌, ◌⊎◌, inl, i
 use Rattle.heap_model.specs.declared.ids.ObjectId.{ObjectId}
 use Rattle.session.specs.declared.error.SessionError.{SessionError}
 use Rattle.session.specs.declared.error.SessionError.TheVariants.{UnknownObject}
-use Rattle.steps.specs.Views.{plan}
+use Rattle.thread_steps.specs.Views.{plan}
 use Rattle.ledger.specs.Transfers.{First, HasMadeUnder, HasPaid, IsRefusedAMonitor, Second, monitors_of}
 use Rattle.ledger.specs.Holding.{HasBoth, IsTaken}
 use Rattle.ledger.specs.declared.moving.Made.{Made}

@@ -1,5 +1,5 @@
 use Rattle.std.proofs.Common.{ap, ◌∙◌}
-use Rattle.steps.specs.Views.{view, hold}
+use Rattle.thread_steps.specs.Views.{view, hold}
 use Rattle.one_monitor.proofs.holding.read.Goals as goal
 
 pub read_field-requires-clause-held : goal.read_field-requires-clause-held

@@ -1,5 +1,5 @@
 use Rattle.std.proofs.Common.{◌≤◌, None}
-use Rattle.steps.specs.Views.{view, IsSlot}
+use Rattle.thread_steps.specs.Views.{view, IsSlot}
 use Rattle.one_monitor.specs.Idle.{IsIdle}
 use Rattle.one_monitor.proofs.sections.take_again.Given as goal
 

@@ -1,5 +1,5 @@
 use Rattle.std.proofs.Common.{◌≡◌}
-use Rattle.pool_in_section.specs.Knowing.{home_of}
+use Rattle.pool.specs.Knowing.{home_of}
 use Rattle.pool_tests.proofs.calls.follow.Given as goal
 
 abbrev pub invariant-loop-call : goal.invariant-loop-call

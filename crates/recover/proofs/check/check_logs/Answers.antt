@@ -4,12 +4,12 @@ use Rattle.heap_model.specs.declared.record.UndoRecord.{UndoRecord}
 use Rattle.image.specs.Rows.{IsRow, empty_row}
 use Rattle.image.specs.declared.lane_row.LaneRow.{LaneRow}
 use Rattle.undo_log.specs.StandsFor.{row_of, settled_of}
-use Rattle.log_state.specs.Limits.{IsOfObjects}
-use Rattle.live_logs.specs.Logs as numbers
-use Rattle.live_logs.specs.Replay.{Replays}
-use Rattle.live_logs.specs.Settled as logs
-use Rattle.live_logs.specs.Tables.{log_of}
-use Rattle.live_logs.specs.declared.settled_count.SettledCount.{SettledCount}
+use Rattle.recover_logs.specs.Limits.{IsOfObjects}
+use Rattle.recover_logs.specs.Logs as numbers
+use Rattle.recover_logs.specs.Replay.{Replays}
+use Rattle.recover_logs.specs.Settled as logs
+use Rattle.recover_logs.specs.Tables.{log_of}
+use Rattle.recover_logs.specs.declared.settled_count.SettledCount.{SettledCount}
 use Rattle.recover.specs.Logs.{lanes_of, logged_guard_in, records_of}
 use Rattle.recover.specs.Settled.{IsIllegalAt, kept_of}
 use Rattle.recover.proofs.HomeLemmas.{named_low}

@@ -4,8 +4,8 @@ use Rattle.std.proofs.lemmas.List.{length-set, get_or_past}
 use Rattle.image.specs.Rows.{empty_row}
 use Rattle.image.specs.declared.lane_row.LaneRow.{LaneRow}
 use Rattle.undo_log.specs.StandsFor.{row_of}
-use Rattle.live_logs.specs.Logs.{count_of}
-use Rattle.live_logs.specs.declared.settled_count.SettledCount.{SettledCount}
+use Rattle.recover_logs.specs.Logs.{count_of}
+use Rattle.recover_logs.specs.declared.settled_count.SettledCount.{SettledCount}
 use Rattle.recover.proofs.check.settled_counts.Goals as goal
 
 abbrev none : SettledCount

@@ -1,6 +1,6 @@
 use Rattle.std.proofs.Common.{ℕ, ◌≡◌, ◌<◌, ◌≤◌, length}
 use Rattle.undo_log.specs.StandsFor.{settled_of}
-use Rattle.live_logs.specs.Logs.{count_of}
+use Rattle.recover_logs.specs.Logs.{count_of}
 use Rattle.recover.specs.Settled.{kept_of}
 use Rattle.recover.proofs.check.settled_counts.Given as goal
 

@@ -2,7 +2,7 @@ use Rattle.std.proofs.Common.{ℕ, suc, ◌≡◌, ◌+◌, ◌-◌, ◌<◌, �
 use Rattle.heap_model.specs.Sections.{Action, Section}
 use Rattle.heap_model.specs.Cuts.{IsStable}
 use Rattle.heap_model.specs.declared.record.UndoRecord.{UndoRecord}
-use Rattle.cut_laws.proofs.Existence.{stable_exists}
+use Rattle.law_cuts.proofs.Existence.{stable_exists}
 use Rattle.image.specs.Rows.{IsRow, empty_row}
 use Rattle.image.specs.declared.lane_row.LaneRow.{LaneRow}
 use Rattle.dependence.specs.Trace.{Trace}
@@ -10,11 +10,11 @@ use Rattle.undo_log.specs.StandsFor.{row_of}
 use Rattle.recover.specs.declared.live_sections.LiveSections.{LiveSections}
 use Rattle.recover.specs.declared.report.Dropped.{Dropped}
 use Rattle.recover.specs.Logs.{lanes_of, logged_guard_in}
-use Rattle.live_logs.specs.Tables.{log_of}
+use Rattle.recover_logs.specs.Tables.{log_of}
 use Rattle.recover.specs.Dropping.{acts_in, AreEntriesOf, sections_after, settled_sections, trimmed_sections, unsettled_sections}
 use Rattle.recover.specs.Live.{live_at, trimmed_at, IsLiveIn, IsReady, AreReported}
 use Rattle.recover.proofs.LogLemmas.{row_is}
-use Rattle.live_logs.proofs.SettledLemmas.{lanes_free}
+use Rattle.recover_logs.proofs.SettledLemmas.{lanes_free}
 use Rattle.recover.proofs.PushingLemmas.{pushable}
 use Rattle.recover.proofs.LiveLemmas.{row_past, settled_few, whole_few}
 use Rattle.recover.proofs.StepLemmas.{steps_low, steps_named, ready}

@@ -1,7 +1,7 @@
 use Rattle.std.proofs.Common.{ℕ, ◌≡◌, ◌+◌, ◌-◌, ◌≤◌, true, false, List, refl, sym, ap, subst, arith}
 use Rattle.heap_model.specs.Log.{lane}
 use Rattle.heap_model.specs.Sections.{Section, ended}
-use Rattle.cut_laws.proofs.Existence.{stable_exists}
+use Rattle.law_cuts.proofs.Existence.{stable_exists}
 use Rattle.dependence.specs.Trace.{Trace, section_since, base_of}
 use Rattle.dependence.specs.Reason.{IsLeftOut, IsReason}
 use Rattle.recover.specs.declared.live_sections.LiveSections.{LiveSections}

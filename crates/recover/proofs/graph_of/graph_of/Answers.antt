@@ -4,9 +4,9 @@ use Rattle.heap_model.specs.Sections.{Action, undo_action}
 use Rattle.heap_model.specs.declared.record.UndoRecord.{UndoRecord}
 use Rattle.heap_model.specs.declared.record.UndoRecord.TheVariants.{Acq}
 use Rattle.dependence.specs.Next.{IsNext}
-use Rattle.live_logs.specs.declared.step.Step.{Step}
+use Rattle.recover_logs.specs.declared.step.Step.{Step}
 use Rattle.recover.specs.Dropping.{acts_in}
-use Rattle.live_logs.specs.Tables.{log_of}
+use Rattle.recover_logs.specs.Tables.{log_of}
 use Rattle.recover.proofs.PushingLemmas.{step_next, ended_few}
 use Rattle.recover.proofs.graph_of.graph_of.Goals as goal
 

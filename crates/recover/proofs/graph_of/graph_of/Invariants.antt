@@ -1,7 +1,7 @@
 use Rattle.std.proofs.Common.{ℕ, ◌≡◌, ◌+◌, length, take}
 use Rattle.dependence.specs.Trace.{base_of}
 use Rattle.recover.specs.Dropping.{acts_in}
-use Rattle.live_logs.specs.Tables.{log_of}
+use Rattle.recover_logs.specs.Tables.{log_of}
 use Rattle.recover.proofs.graph_of.graph_of.Given as goal
 
 abbrev pub invariant-loop-step : goal.invariant-loop-step

@@ -5,7 +5,7 @@ use Rattle.image.specs.Cells.{HasHome}
 use Rattle.undo_log.specs.StandsFor.{guard_in, row_in, settled_of}
 use Rattle.recover.specs.Heap.{first_old, IsOldOrHome, IsUndone}
 use Rattle.recover.specs.Logs.{lanes_of, logged_guard_in}
-use Rattle.live_logs.specs.Tables.{log_of}
+use Rattle.recover_logs.specs.Tables.{log_of}
 use Rattle.recover.proofs.HomeLemmas.{logged_agrees}
 use Rattle.recover.proofs.HeapLemmas.{takes_back, undone_is, fields_as}
 use Rattle.recover.proofs.heap.old_heap.Goals as goal

@@ -6,12 +6,12 @@ use Rattle.heap_model.specs.declared.record.UndoRecord.{UndoRecord}
 use Rattle.image.specs.declared.lane_row.LaneRow.{LaneRow}
 use Rattle.undo_log.specs.StandsFor.{settled_of}
 use Rattle.recover.specs.Heap.{earlier, first_old, stored}
-use Rattle.live_logs.specs.Tables.{log_of}
+use Rattle.recover_logs.specs.Tables.{log_of}
 use Rattle.recover.proofs.HeapLemmas.{old_more, written_back}
 use Rattle.heap_model.specs.declared.record.UndoRecord.TheVariants.{Acq}
-use Rattle.live_logs.specs.declared.step.Step.{Step}
-use Rattle.live_logs.proofs.ReplayLemmas.{log_more, zeros}
-use Rattle.live_logs.proofs.WalkLemmas.{few_places, places_more}
+use Rattle.recover_logs.specs.declared.step.Step.{Step}
+use Rattle.recover_logs.proofs.ReplayLemmas.{log_more, zeros}
+use Rattle.recover_logs.proofs.WalkLemmas.{few_places, places_more}
 use Rattle.recover.proofs.heap.old_values.Goals as goal
 
 abbrev none : Step

@@ -1,7 +1,7 @@
 use Rattle.std.proofs.Common.{List, arith}
 use Rattle.heap_model.specs.declared.record.UndoRecord.{UndoRecord}
-use Rattle.live_logs.specs.Tally.{acts_of}
-use Rattle.live_logs.proofs.TallyLemmas.{frees_first}
+use Rattle.recover_logs.specs.Tally.{acts_of}
+use Rattle.recover_logs.proofs.TallyLemmas.{frees_first}
 use Rattle.recover.proofs.LiveLemmas.{counted_short, acts_long}
 use Rattle.recover.proofs.live_counts.live_of.Goals as goal
 

@@ -4,7 +4,7 @@ use Rattle.std.proofs.lemmas.List.{length-set, get_or_past}
 use Rattle.image.specs.Rows.{empty_row}
 use Rattle.image.specs.declared.lane_row.LaneRow.{LaneRow}
 use Rattle.undo_log.specs.StandsFor.{row_of}
-use Rattle.live_logs.proofs.ReplayLemmas.{zeros}
+use Rattle.recover_logs.proofs.ReplayLemmas.{zeros}
 use Rattle.recover.proofs.studying.kept_sections.Goals as goal
 
 pub loop-lane-init : goal.loop-lane-init

@@ -8,7 +8,7 @@ use Rattle.image.specs.declared.guard_row.GuardRow.{GuardRow}
 use Rattle.store_image.specs.Formatting.{layout_with}
 use Rattle.guards.specs.Schema.{is_transient_of}
 use Rattle.heap_model.specs.declared.limits.TheConstants.{LAST_NUMBER}
-use Rattle.plain_monitors.specs.Table.{setting_in}
+use Rattle.script_monitors.specs.Table.{setting_in}
 use Rattle.script_machine.specs.OfSchema.{IsDiskOf}
 use Rattle.script_machine.proofs.AgreementLemmas.{not_not}
 use Rattle.script_machine.proofs.SchemaLemmas.{made_of}

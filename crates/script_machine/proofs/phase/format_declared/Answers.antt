@@ -1,6 +1,6 @@
 use Rattle.std.proofs.Common.{◌≡◌, Bool, true, false, IsTrue, IsSome, refl, sym, ◌∙◌, ap, subst}
 use Rattle.store_image.specs.Formatting.{layout_with}
-use Rattle.store_past.specs.Past.{no_past}
+use Rattle.heap_model.specs.Past.{no_past}
 use Rattle.guards.specs.Schema.{Declarations, first_of}
 use Rattle.heap_model.specs.State.{initial_state}
 use Rattle.heap_model.specs.Setting.{Setting}
@@ -9,7 +9,7 @@ use Rattle.script_machine.specs.declared.answer.Answer.TheVariants.{Formatted}
 use Rattle.script_machine.specs.Machine as machine
 use Rattle.script_machine.specs.OfSchema.{IsDiskOf, formatted_device}
 use Rattle.script_machine.specs.States.{Tells}
-use Rattle.plain_monitors.specs.Table.{setting_in}
+use Rattle.script_monitors.specs.Table.{setting_in}
 use Rattle.image.specs.declared.layout.Layout.{Layout}
 use Rattle.script_machine.specs.Limits.{IsFormattable}
 use Rattle.script_machine.proofs.AgreementLemmas.{agree-formatted}

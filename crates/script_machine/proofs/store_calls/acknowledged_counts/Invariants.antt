@@ -1,6 +1,6 @@
 use Rattle.std.proofs.Common.{◌≡◌, ◌<◌, ℕ, length, get_or}
 use Rattle.heap_model.specs.Setting.{Setting}
-use Rattle.store_past.specs.Past.{Past}
+use Rattle.heap_model.specs.Past.{Past}
 use Rattle.script_machine.specs.States.{Tells}
 use Rattle.script_machine.proofs.store_calls.acknowledged_counts.Given as goal
 

@@ -1,5 +1,5 @@
 use Rattle.heap_model.specs.Log.{value}
-use Rattle.store_past.specs.Past.{applied}
+use Rattle.heap_model.specs.Past.{applied}
 use Rattle.script_machine.proofs.ListLemmas.{length-more, each-more}
 use Rattle.script_machine.proofs.store_calls.applied_values.Goals as goal
 

@@ -1,7 +1,7 @@
 use Rattle.std.proofs.Common.{◌≡◌, ◌<◌, ℕ, length, get_or}
 use Rattle.heap_model.specs.Setting.{Setting}
 use Rattle.heap_model.specs.Log.{value}
-use Rattle.store_past.specs.Past.{Past, applied}
+use Rattle.heap_model.specs.Past.{Past, applied}
 use Rattle.script_machine.specs.States.{Tells}
 use Rattle.script_machine.proofs.store_calls.applied_values.Given as goal
 

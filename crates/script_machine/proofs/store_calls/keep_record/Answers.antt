@@ -1,7 +1,7 @@
 use Rattle.std.proofs.Common.{Option, OnOk, IfErr, sym, subst, ◌∙◌}
 use Rattle.heap_model.specs.Setting.{Setting}
 use Rattle.heap_model.specs.declared.record.Record.{Record}
-use Rattle.store_past.specs.Past.{Past}
+use Rattle.heap_model.specs.Past.{Past}
 use Rattle.script_machine.specs.States.{Tells}
 use Rattle.script_machine.specs.Machine.{Keeps, RefusesRecord}
 use Rattle.script_machine.proofs.StoreLemmas.{took, not_took}

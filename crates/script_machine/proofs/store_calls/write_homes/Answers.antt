@@ -6,13 +6,13 @@ use Rattle.block_disk.specs.Memory.{Memory, device_of}
 use Rattle.image.specs.declared.layout.Layout.{Layout}
 use Rattle.heap_model.specs.Setting.{Setting}
 use Rattle.store_image.specs.KeptHeap.{StandsForCut}
-use Rattle.store_past.specs.Past.{Past, after_home}
+use Rattle.heap_model.specs.Past.{Past, after_home}
 use Rattle.durable.specs.Calls.{AnswersHome, RefusesHome, after_home_step}
 use Rattle.durable.proofs.Playing.{fault_since}
 use Rattle.store_image.specs.Consistent.{ShowsPast}
 use Rattle.durable.specs.Store.{Known, Parts}
-use Rattle.store_past.specs.declared.error.StoreError.{StoreError}
-use Rattle.store_past.specs.declared.error.StoreError.TheVariants.{Failed, BadLane, BadId, Worn, NotNext, TooLong, LogFull, Unwritten, Fault, Unfinished}
+use Rattle.heap_model.specs.declared.store_error.StoreError.{StoreError}
+use Rattle.heap_model.specs.declared.store_error.StoreError.TheVariants.{Failed, BadLane, BadId, Worn, NotNext, TooLong, LogFull, Unwritten, Fault, Unfinished}
 use Rattle.store_image.specs.declared.home.Home.{Home}
 use Rattle.script_machine.specs.Homes.{WriteHomes}
 use Rattle.script_machine.specs.States.{Tells}

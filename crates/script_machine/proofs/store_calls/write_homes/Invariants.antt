@@ -4,7 +4,7 @@ use Rattle.block_disk.specs.Images.{LeavesOnly}
 use Rattle.block_disk.specs.Memory.{device_of}
 use Rattle.image.specs.declared.layout.Layout.{Layout}
 use Rattle.store_image.specs.KeptHeap.{StandsForCut}
-use Rattle.store_past.specs.Past.{Past}
+use Rattle.heap_model.specs.Past.{Past}
 use Rattle.store_image.specs.Consistent.{ShowsPast}
 use Rattle.durable.specs.Store.{Parts}
 use Rattle.block_disk.specs.Memory.{Memory}

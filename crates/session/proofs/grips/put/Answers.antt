@@ -1,5 +1,5 @@
 use Rattle.std.proofs.Common.{List, ◌++◌, length, take, drop, slice_set, ap, ◌∙◌}
-use Rattle.steps.specs.declared.grip.Grip.{Grip}
+use Rattle.thread_steps.specs.declared.grip.Grip.{Grip}
 use Rattle.session.proofs.GripLists.{refill_set}
 use Rattle.session.proofs.grips.put.Goals as goal
 

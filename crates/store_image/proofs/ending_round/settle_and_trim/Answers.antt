@@ -2,7 +2,7 @@ use Rattle.std.proofs.Common.{◌+◌, sym, subst}
 use Rattle.block_disk.proofs.Images.{begin, now_too}
 use Rattle.heap_model.specs.Cuts.{counts_of}
 use Rattle.image.specs.Commit.{turned_sequence}
-use Rattle.store_past.specs.Past.{after_settle, after_trim}
+use Rattle.heap_model.specs.Past.{after_settle, after_trim}
 use Rattle.store_image.specs.Consistent.{IsConsistent, ShowsEither}
 use Rattle.store_image.specs.KeptHeap.{StandsForEither}
 use Rattle.store_image.specs.Sequences.{ShowsUpTo}

@@ -1,7 +1,7 @@
 use Rattle.std.proofs.Common.{◌+◌, sym, subst, arith}
 use Rattle.block_disk.proofs.Images.{and_then, leaves_synced}
 use Rattle.image.specs.Commit.{turned_sequence}
-use Rattle.store_past.specs.Past.{after_log}
+use Rattle.heap_model.specs.Past.{after_log}
 use Rattle.store_image.specs.Consistent.{IsConsistent}
 use Rattle.store_image.specs.Sequences.{ShowsUpTo}
 use Rattle.store_image.specs.declared.committed.Committed.{Committed}

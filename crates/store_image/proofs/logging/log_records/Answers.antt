@@ -1,7 +1,7 @@
 use Rattle.std.proofs.Common.{◌≡◌, ℕ, ◌+◌, List, [], length, refl, ap, ◌∙◌, arith}
 use Rattle.heap_model.specs.declared.record.Record.{Record}
 use Rattle.block_disk.proofs.Images.{begin, now_too}
-use Rattle.store_past.specs.Past.{after_log}
+use Rattle.heap_model.specs.Past.{after_log}
 use Rattle.store_image.specs.Consistent.{ShowsEither}
 use Rattle.store_image.specs.KeptHeap.{StandsForCut}
 use Rattle.store_image.specs.Sequences.{ShowsUpTo}

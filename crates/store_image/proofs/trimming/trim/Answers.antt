@@ -1,6 +1,6 @@
 use Rattle.std.proofs.Common.{◌+◌, sym, subst}
 use Rattle.block_disk.proofs.Images.{begin}
-use Rattle.store_past.specs.Past.{after_trim}
+use Rattle.heap_model.specs.Past.{after_trim}
 use Rattle.store_image.specs.Consistent.{IsConsistent}
 use Rattle.store_image.specs.Sequences.{ShowsUpTo}
 use Rattle.store_image.specs.declared.committed.Committed.{Committed}

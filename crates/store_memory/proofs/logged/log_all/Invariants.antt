@@ -1,6 +1,6 @@
 use Rattle.std.proofs.Common.{ℕ, ◌≡◌, ◌<◌, true, if◌then◌else◌, length, take}
 use Rattle.heap_model.specs.Log.{value, log_from}
-use Rattle.store_past.specs.Past.{has_store}
+use Rattle.heap_model.specs.Past.{has_store}
 use Rattle.store_memory.specs.Memory.{field_in, value_in, guard_in, is_logged_in}
 use Rattle.store_memory.specs.Dirty.{is_dirty_in}
 use Rattle.store_memory.proofs.logged.log_all.Given as goal

@@ -18,9 +18,9 @@ use Rattle.trim_helper.proofs.Rounds.{stood_round, stood_still, taken_follows}
 use Rattle.trim_helper.proofs.Sent.{HasMet, are_sent}
 use Rattle.trim_helper.specs.Serving.{Among, Part}
 use Rattle.trim_helper.specs.Endings.{parts_of}
-use Rattle.store_past.specs.Past.{applied}
+use Rattle.heap_model.specs.Past.{applied}
 use Rattle.trim_helper.proofs.Closing.{all_applied, all_free, has_spelled, same_lanes}
-use Rattle.store_past.specs.declared.error.StoreError.TheVariants.{Failed as StoreFailed}
+use Rattle.heap_model.specs.declared.store_error.StoreError.TheVariants.{Failed as StoreFailed}
 use Rattle.trim_helper.proofs.closing_down.finish.Goals as goal
 
 pub returns-clause-finishes : goal.returns-clause-finishes

@@ -1,8 +1,8 @@
 use Rattle.std.proofs.Common.{ℕ, ◌≡◌, ◌<◌, ◌≤◌, ◌⊎◌}
 use Rattle.heap_model.specs.Setting.{Setting}
 use Rattle.monitor.specs.Views.{GoesOn}
-use Rattle.store_past.specs.Past.{Past}
-use Rattle.round_store.specs.Store.{HasPast}
+use Rattle.heap_model.specs.Past.{Past}
+use Rattle.store_rounds.specs.Store.{HasPast}
 use Rattle.trim_helper.specs.Counts.{WasCount}
 use Rattle.trim_helper.specs.Helping.{IsHelper, count_published, place_published, taken_in}
 use Rattle.trim_helper.specs.Seen.{SameSight}

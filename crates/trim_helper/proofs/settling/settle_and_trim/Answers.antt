@@ -1,6 +1,6 @@
 use Rattle.heap_model.specs.Sections.{actions}
-use Rattle.store_past.specs.Past.{applied}
-use Rattle.round_store.proofs.Running.{round_runs}
+use Rattle.heap_model.specs.Past.{applied}
+use Rattle.store_rounds.proofs.Running.{round_runs}
 use Rattle.trim_helper.proofs.Rounding.{ok_weaker, round_settles}
 use Rattle.trim_helper.proofs.settling.settle_and_trim.Goals as goal
 

@@ -1,5 +1,5 @@
 use Rattle.std.proofs.Common.{refl}
-use Rattle.hosted_heap.specs.declared.closing.NotClosed.TheVariants.{Running, CallsLeft, InUse, Stopped}
+use Rattle.host_heap.specs.declared.closing.NotClosed.TheVariants.{Running, CallsLeft, InUse, Stopped}
 use Rattle.zelamiku.specs.HeapDoors.{IsNotYetClosed, IsNowClosed}
 use Rattle.zelamiku.proofs.heap_calls.closed_of.Goals as goal
 

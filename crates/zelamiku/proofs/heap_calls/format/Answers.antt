@@ -1,5 +1,5 @@
 use Rattle.std.proofs.Common.{ℕ, ◌≤◌, List, arith, subst, ◌∙◌}
-use Rattle.hosted_heap.specs.Opening.{RefusesMaking}
+use Rattle.host_heap.specs.Opening.{RefusesMaking}
 use Rattle.image.specs.declared.guard_row.GuardRow.{GuardRow}
 use Rattle.zelamiku.specs.HeapDoors.{NotMade, rows_of}
 use Rattle.zelamiku.proofs.heap_calls.format.Goals as goal

@@ -1,7 +1,7 @@
 use Rattle.std.proofs.Common.{◌≡◌, ℕ, MatchOption, Option, [], refl, ap, ◌∙◌, subst}
-use Rattle.hosted_heap.specs.Again.{HandsAgain, HasNoneIdle}
-use Rattle.hosted_heap.specs.Hosting.{Hosting}
-use Rattle.hosted_heap.specs.Sessions.{Seated}
+use Rattle.host_heap.specs.Again.{HandsAgain, HasNoneIdle}
+use Rattle.host_heap.specs.Hosting.{Hosting}
+use Rattle.host_heap.specs.Sessions.{Seated}
 use Rattle.zelamiku.specs.Behind.{heap_behind, session_behind}
 use Rattle.zelamiku.specs.HeapDoors.{HandsOne, IsHanded, IsHandedAgain, NoneIsLeft, NoRoomForOne}
 use Rattle.zelamiku.specs.Own.{Held}

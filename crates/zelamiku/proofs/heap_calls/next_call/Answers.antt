@@ -1,5 +1,5 @@
 use Rattle.std.proofs.Common.{◌≤◌, refl, ap, subst, sym, ◌∙◌}
-use Rattle.deferred_disk.specs.declared.call.TheConstants.{MOST_BYTES}
+use Rattle.disk_deferred.specs.declared.call.TheConstants.{MOST_BYTES}
 use Rattle.zelamiku.specs.HeapDoors.{filled_of, told_of}
 use Rattle.zelamiku.specs.declared.words.Call.{Call}
 use Rattle.zelamiku.proofs.HostCallLemmas.{first_told, small_told}

@@ -1,7 +1,7 @@
 use Rattle.std.proofs.Common.{◌≡◌, ◌≢◌, inl, inr, ℕ, sym, subst, arith, get_or-set_other}
 use Rattle.std.proofs.lemmas.Bool.{cases_lt}
 use Rattle.std.proofs.lemmas.Grind.{get_or-set_at}
-use Rattle.hosted_life.specs.Copies.{copy_of}
+use Rattle.law_hosted.specs.Copies.{copy_of}
 use Rattle.zelamiku.specs.LayoutDoors.{TellsField}
 use Rattle.zelamiku.specs.declared.words.Field.{Field}
 use Rattle.zelamiku.proofs.layout_calls.tell_fields.Goals as goal

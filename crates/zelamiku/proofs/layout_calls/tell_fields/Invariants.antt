@@ -1,6 +1,6 @@
 use Rattle.std.proofs.Common.{ℕ, ◌<◌}
 use Rattle.std.specs.List.{slice_index_or}
-use Rattle.hosted_life.specs.Copies.{copy_of}
+use Rattle.law_hosted.specs.Copies.{copy_of}
 use Rattle.zelamiku.specs.LayoutDoors.{TellsField}
 use Rattle.zelamiku.specs.declared.words.Field.{Field}
 use Rattle.zelamiku.proofs.layout_calls.tell_fields.Given as goal

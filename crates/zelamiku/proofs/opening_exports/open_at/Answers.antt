@@ -1,5 +1,5 @@
 use Rattle.std.proofs.Common.{List, refl, subst, ◌∙◌}
-use Rattle.hosted_heap.specs.declared.error.HostError.TheVariants.{NoMemory}
+use Rattle.host_heap.specs.declared.error.HostError.TheVariants.{NoMemory}
 use Rattle.recover.specs.declared.report.Dropped.{Dropped as Section}
 use Rattle.zelamiku.specs.ReportDoors.{IsOpen, NotOpen, TellsEach}
 use Rattle.zelamiku.proofs.Emptiness.{nothing_still}

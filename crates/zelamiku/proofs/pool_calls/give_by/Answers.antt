@@ -1,6 +1,6 @@
 use Rattle.std.proofs.Common.{refl, subst, arith}
 use Rattle.pool.specs.FreeList.{Place}
-use Rattle.pool_in_section.specs.Calls.{GivesSlot}
+use Rattle.pool.specs.SectionCalls.{GivesSlot}
 use Rattle.zelamiku.specs.PoolDoors.{Gives, GivesNone, GivesToNone}
 use Rattle.zelamiku.proofs.Doors.{stays_put}
 use Rattle.zelamiku.proofs.pool_calls.give_by.Goals as goal

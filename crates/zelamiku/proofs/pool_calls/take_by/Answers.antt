@@ -1,6 +1,6 @@
 use Rattle.std.proofs.Common.{refl, subst}
 use Rattle.pool.specs.FreeList.{Place}
-use Rattle.pool_in_section.specs.Calls.{TakesSlot}
+use Rattle.pool.specs.SectionCalls.{TakesSlot}
 use Rattle.zelamiku.specs.PoolDoors.{Takes, TakesOfNone}
 use Rattle.zelamiku.proofs.Doors.{stays_put}
 use Rattle.zelamiku.proofs.pool_calls.take_by.Goals as goal

@@ -1,8 +1,8 @@
 use Rattle.std.proofs.Common.{◌≡◌, Option, Some, None, IsSome, refl, ap, sym, ◌∙◌, subst}
-use Rattle.hosted_heap.specs.Hosting.{Hosting}
-use Rattle.hosted_heap.specs.Stopping.{Stopping}
-use Rattle.hosted_heap.specs.declared.error.FailedCall.{FailedCall}
-use Rattle.hosted_heap.specs.declared.error.FailedCall.TheVariants.{Write, Sync}
+use Rattle.host_heap.specs.Hosting.{Hosting}
+use Rattle.host_heap.specs.Stopping.{Stopping}
+use Rattle.host_heap.specs.declared.error.FailedCall.{FailedCall}
+use Rattle.host_heap.specs.declared.error.FailedCall.TheVariants.{Write, Sync}
 use Rattle.zelamiku.specs.Behind.{heap_behind, stopped_behind}
 use Rattle.zelamiku.specs.declared.status.TheConstants.{NONE_LEFT, OK, STOPPED}
 use Rattle.zelamiku.proofs.Stops.{failed_at}

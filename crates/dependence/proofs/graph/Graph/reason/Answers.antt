@@ -1,6 +1,6 @@
 use Rattle.std.proofs.Common.{ℕ, ◌<◌, ◌↔◌, List, IsSome, IfSome, MatchOption, slice_index, sym, subst, arith}
 use Rattle.heap_model.specs.Cuts.{counts_of, IsStable}
-use Rattle.cut_laws.specs.Plain.{IsClosedOver, IsGreatest}
+use Rattle.law_cuts.specs.Plain.{IsClosedOver, IsGreatest}
 use Rattle.dependence.specs.declared.step.Step.{Step}
 use Rattle.dependence.specs.Trace.{Trace, base_of, section_since, IsStableOf}
 use Rattle.dependence.specs.Steps.{reading}

@@ -1,6 +1,6 @@
 use Rattle.std.proofs.Common.{◌+◌, ◌*◌, ◌≤◌, List, slice_index, sym, subst, arith}
 use Rattle.heap_model.specs.Cuts.{counts_of}
-use Rattle.cut_laws.specs.Plain.{IsClosedOver}
+use Rattle.law_cuts.specs.Plain.{IsClosedOver}
 use Rattle.dependence.specs.declared.step.Step.{Step}
 use Rattle.dependence.specs.Trace.{Trace, answered_of, growth, unanswered, IsStableOf}
 use Rattle.dependence.specs.Steps.{reading}

@@ -1,6 +1,6 @@
 use Rattle.std.proofs.Common.{refl, sym, ap, ◌∙◌}
 use Rattle.store_image.specs.declared.committed.Committed.{Committed}
-use Rattle.store_past.specs.Past.{no_past}
+use Rattle.heap_model.specs.Past.{no_past}
 use Rattle.durable.proofs.Adopting.{same_setting, adopts, adopts_one}
 use Rattle.durable.proofs.store.Store.adopt.Goals as goal
 

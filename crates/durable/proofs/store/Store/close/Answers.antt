@@ -3,7 +3,7 @@ use Rattle.heap_model.specs.Log.{value as value_of}
 use Rattle.block_disk.specs.Images.{Always}
 use Rattle.image.specs.Cells.{HasCell}
 use Rattle.undo_log.specs.StandsFor.{StandsFor}
-use Rattle.store_past.specs.Past.{applied}
+use Rattle.heap_model.specs.Past.{applied}
 use Rattle.durable.specs.Closed.{applied_heap}
 use Rattle.durable.specs.Store.{Parts}
 use Rattle.durable.proofs.Closing.{home_cells, home_stands}

@@ -1,6 +1,6 @@
 use Rattle.std.proofs.Common.{◌∙◌}
-use Rattle.cut_laws.proofs.Unlogged.{first_stays}
-use Rattle.store_past.specs.Past.{applied}
+use Rattle.law_cuts.proofs.Unlogged.{first_stays}
+use Rattle.heap_model.specs.Past.{applied}
 use Rattle.durable.specs.Store.{HasPast}
 use Rattle.durable.proofs.Storing.{to_parts}
 use Rattle.durable.proofs.store.Store.heap_value.Goals as goal

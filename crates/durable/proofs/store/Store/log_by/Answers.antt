@@ -2,10 +2,10 @@ use Rattle.std.proofs.Common.{◌≡◌, inl, ⊎_elim, ℕ, List, Err, refl, sy
 use Rattle.heap_model.specs.Setting.{Setting}
 use Rattle.durable.specs.Store.{HasPast}
 use Rattle.durable.specs.declared.doubt.Doubt.TheVariants.{Logging}
-use Rattle.store_past.specs.Past.{Past, after_log}
+use Rattle.heap_model.specs.Past.{Past, after_log}
 use Rattle.std.proofs.Common.{◌++◌}
 use Rattle.heap_model.specs.declared.record.Record.{Record}
-use Rattle.store_past.specs.declared.error.StoreError.TheVariants.{Worn}
+use Rattle.heap_model.specs.declared.store_error.StoreError.TheVariants.{Worn}
 use Rattle.store_memory.specs.Sections.{TellsSections, MayBeLogged}
 use Rattle.durable.proofs.Storing.{logged_has, failed_has, logs_now, logs_then, may_log, may_be_logged}
 use Rattle.durable.proofs.Writing.{commits_same, log_fault, log_worn, logs_failed, logs_from}

@@ -2,11 +2,11 @@ use Rattle.std.proofs.Common.{◌≡◌, inl, refl, ⊎_elim, ℕ, true, false, 
 use Rattle.block_disk.proofs.Images.{begin}
 use Rattle.durable.specs.Store.{HasPast}
 use Rattle.durable.specs.declared.doubt.Doubt.TheVariants.{Acknowledging}
-use Rattle.store_past.specs.Past.{after_settle, after_trim}
+use Rattle.heap_model.specs.Past.{after_settle, after_trim}
 use Rattle.heap_model.specs.Cuts.{counts_of}
 use Rattle.store_memory.specs.Sections.{Logged}
 use Rattle.store_memory.specs.Trimming.{MayForget}
-use Rattle.store_past.specs.declared.error.StoreError.TheVariants.{Worn}
+use Rattle.heap_model.specs.declared.store_error.StoreError.TheVariants.{Worn}
 use Rattle.store_image.specs.KeptHeap.{StandsForEither}
 use Rattle.durable.proofs.Settling.{settling, answers, may, of_stable, refuses_worn, refuses_fault, stands_for_one, shows, fails}
 use Rattle.durable.proofs.Writing.{acknowledged_both, acknowledged_failed, acknowledged_from, commits_none, commits_same, unwritten_other}

@@ -2,8 +2,8 @@ use Rattle.std.proofs.Common.{◌≡◌, ◌+◌, ◌≤◌, inl, ⊎_elim, Err,
 use Rattle.block_disk.proofs.Images.{begin}
 use Rattle.heap_model.specs.Cuts.{counts_of}
 use Rattle.store_image.specs.KeptHeap.{StandsForCut}
-use Rattle.store_past.specs.Past.{Past, after_trim}
-use Rattle.store_past.specs.declared.error.StoreError.TheVariants.{Worn}
+use Rattle.heap_model.specs.Past.{Past, after_trim}
+use Rattle.heap_model.specs.declared.store_error.StoreError.TheVariants.{Worn}
 use Rattle.durable.specs.Store.{HasPast}
 use Rattle.durable.specs.declared.doubt.Doubt.TheVariants.{Trimming}
 use Rattle.durable.proofs.Storing.{failed_has, logs_now, trims_then}

@@ -4,7 +4,7 @@ use Rattle.heap_model.specs.State.{Awake}
 use Rattle.script_machine.specs.declared.answer.Refusal.TheVariants as why
 use Rattle.script_machine.specs.Lookups.{LooksUp, field_of}
 use Rattle.script_machine.specs.States.{Live}
-use Rattle.plain_monitors.specs.Table.{Table, lanes_of, state_of}
+use Rattle.script_monitors.specs.Table.{Table, lanes_of, state_of}
 use Rattle.script_machine.proofs.PlanLemmas.{is_awake, no_lane, not_there, is_asleep, is_found}
 use Rattle.script_machine.proofs.running.Running.field.Goals as goal
 

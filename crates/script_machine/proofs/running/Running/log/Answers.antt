@@ -1,7 +1,7 @@
 use Rattle.std.proofs.Common.{◌≡◌, ◌∙◌, sym, inl, inr, refl, subst}
 use Rattle.block_disk.specs.Memory.{Memory}
 use Rattle.durable.specs.Calls.{RefusesLog}
-use Rattle.store_past.specs.Past.{after_log}
+use Rattle.heap_model.specs.Past.{after_log}
 use Rattle.durable.specs.Store.{Parts}
 use Rattle.durable.specs.declared.doubt.Doubt.TheVariants.{Logging}
 use Rattle.script_machine.specs.Agreement.{Agrees, setting_from}

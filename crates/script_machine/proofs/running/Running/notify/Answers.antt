@@ -7,12 +7,12 @@ use Rattle.script_machine.specs.declared.answer.Refusal.{Refusal}
 use Rattle.script_machine.specs.declared.answer.Refusal.TheVariants.{NotHeld}
 use Rattle.script_machine.specs.Lookups.{object_of}
 use Rattle.script_machine.specs.States.{Live}
-use Rattle.plain_monitors.specs.Table.{Table, lanes_of, state_of}
+use Rattle.script_monitors.specs.Table.{Table, lanes_of, state_of}
 use Rattle.script_machine.specs.Machine as machine
 use Rattle.script_machine.proofs.PlanLemmas.{looked_up, not_notified, notified}
 use Rattle.script_machine.proofs.StoreLemmas.{live}
 use Rattle.script_machine.proofs.AgreementLemmas.{goes-on}
-use Rattle.plain_monitors.specs.WaitSets.{least_of, wait_set}
+use Rattle.script_monitors.specs.WaitSets.{least_of, wait_set}
 use Rattle.guards.specs.Schema.{object_count}
 use Rattle.heap_model.specs.declared.event.Event.TheVariants.{Notify}
 use Rattle.script_machine.proofs.running.Running.notify.Goals as goal

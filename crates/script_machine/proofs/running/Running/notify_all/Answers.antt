@@ -3,19 +3,19 @@ use Rattle.heap_model.specs.declared.ids.ObjectId.{ObjectId}
 use Rattle.heap_model.specs.State.{Awake}
 use Rattle.heap_model.specs.declared.ids.Lane.{Lane}
 use Rattle.heap_model.specs.declared.event.Event.TheVariants.{NotifyAll}
-use Rattle.plain_monitors.specs.Table.{IsAfter}
+use Rattle.script_monitors.specs.Table.{IsAfter}
 use Rattle.script_machine.specs.declared.answer.Answer.{Answer}
 use Rattle.script_machine.specs.declared.answer.Answer.TheVariants.{Woke, Refused}
 use Rattle.script_machine.specs.declared.answer.Refusal.{Refusal}
 use Rattle.script_machine.specs.declared.answer.Refusal.TheVariants.{NotHeld}
 use Rattle.script_machine.specs.Lookups.{object_of}
 use Rattle.script_machine.specs.States.{Live}
-use Rattle.plain_monitors.specs.Table.{Table, lanes_of, state_of}
+use Rattle.script_monitors.specs.Table.{Table, lanes_of, state_of}
 use Rattle.script_machine.specs.Machine as machine
 use Rattle.script_machine.proofs.PlanLemmas.{looked_up, not_notified_all, notified_all}
 use Rattle.script_machine.proofs.StoreLemmas.{live}
 use Rattle.script_machine.proofs.AgreementLemmas.{goes-on}
-use Rattle.plain_monitors.specs.WaitSets.{wait_set}
+use Rattle.script_monitors.specs.WaitSets.{wait_set}
 use Rattle.guards.specs.Schema.{object_count}
 use Rattle.script_machine.proofs.running.Running.notify_all.Goals as goal
 

@@ -7,7 +7,7 @@ use Rattle.script_machine.specs.Machine.{Does, RefusesRecord, Running}
 use Rattle.script_machine.specs.States.{Live}
 use Rattle.heap_model.specs.History.{logged}
 use Rattle.durable.specs.Store.{Parts}
-use Rattle.plain_monitors.specs.Table.{Table, lanes_of, setting_of, state_of, IsStepOf}
+use Rattle.script_monitors.specs.Table.{Table, lanes_of, setting_of, state_of, IsStepOf}
 use Rattle.script_machine.proofs.AgreementLemmas.{goes-on, refused-event, step-event}
 use Rattle.script_machine.proofs.StoreLemmas.{live, refused-line}
 use Rattle.script_machine.proofs.running.Running.perform.Goals as goal

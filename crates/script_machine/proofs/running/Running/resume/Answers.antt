@@ -2,9 +2,9 @@ use Rattle.std.proofs.Common.{◌<◌, ℕ, Result, refl, sym, ap, subst, arith,
 use Rattle.heap_model.specs.declared.event.Event.{Event}
 use Rattle.script_machine.specs.declared.answer.Answer.{Answer}
 use Rattle.script_machine.specs.declared.answer.Answer.TheVariants.{Done, Refused}
-use Rattle.plain_monitors.specs.declared.monitors.MonitorRefusal.{MonitorRefusal}
+use Rattle.script_monitors.specs.declared.monitors.MonitorRefusal.{MonitorRefusal}
 use Rattle.script_machine.specs.States.{Live}
-use Rattle.plain_monitors.specs.Table.{lanes_of}
+use Rattle.script_monitors.specs.Table.{lanes_of}
 use Rattle.script_machine.specs.Machine as machine
 use Rattle.script_machine.proofs.PlanLemmas.{IfOk-map, PlansResume, Follows, resumed}
 use Rattle.script_machine.proofs.running.Running.resume.Goals as goal

@@ -3,7 +3,7 @@ use Rattle.block_disk.specs.Memory.{Memory}
 use Rattle.heap_model.specs.Sections.{actions}
 use Rattle.image.specs.declared.layout.Layout.{Layout}
 use Rattle.durable.specs.Calls.{RefusesSettle}
-use Rattle.store_past.specs.Past.{after_settle}
+use Rattle.heap_model.specs.Past.{after_settle}
 use Rattle.durable.specs.Store.{Parts}
 use Rattle.durable.specs.declared.doubt.Doubt.TheVariants.{Settling}
 use Rattle.script_machine.specs.Agreement.{Agrees, setting_from}

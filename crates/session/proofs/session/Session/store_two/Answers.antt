@@ -1,7 +1,7 @@
 use Rattle.std.proofs.Common.{◌≡◌, ◌+◌, sym, ap, ◌∙◌, arith, rules}
 use Rattle.heap_model.specs.declared.ids.FieldId.{FieldId}
 use Rattle.heap_model.specs.Setting.{Setting}
-use Rattle.steps.specs.Views.{view, hold, plan}
+use Rattle.thread_steps.specs.Views.{view, hold, plan}
 use Rattle.session.specs.Calls.{records_of}
 use Rattle.session.proofs.Lengthening.{after_both, same_view, hold_after}
 use Rattle.session.proofs.Sitting.{lacks_by, not_lacks_by}

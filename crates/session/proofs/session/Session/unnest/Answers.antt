@@ -1,6 +1,6 @@
 use Rattle.std.proofs.Common.{ap, refl}
 use Rattle.heap_model.specs.declared.ids.ObjectId.{ObjectId}
-use Rattle.steps.specs.Views.{view}
+use Rattle.thread_steps.specs.Views.{view}
 use Rattle.session.proofs.Lengthening.{unnested_else}
 use Rattle.session.proofs.Sitting.{sits_changed}
 use Rattle.session.proofs.session.Session.unnest.Goals as goal

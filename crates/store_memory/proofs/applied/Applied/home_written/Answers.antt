@@ -1,4 +1,4 @@
-use Rattle.store_past.specs.Past.{after_home}
+use Rattle.heap_model.specs.Past.{after_home}
 use Rattle.store_memory.specs.Within.{memory_of}
 use Rattle.store_memory.proofs.LogLaws.{remembers_home}
 use Rattle.store_memory.proofs.applied.Applied.home_written.Goals as goal

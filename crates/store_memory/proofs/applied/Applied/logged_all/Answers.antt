@@ -4,7 +4,7 @@ use Rattle.std.proofs.lemmas.List.{with_items_is}
 use Rattle.heap_model.specs.declared.record.LaneRecord.{LaneRecord}
 use Rattle.heap_model.specs.Log.{value, log_from}
 use Rattle.store_memory.specs.declared.states.FieldState.{FieldState}
-use Rattle.store_past.specs.Past.{has_store, after_log}
+use Rattle.heap_model.specs.Past.{has_store, after_log}
 use Rattle.store_memory.specs.Dirty.{is_dirty_in}
 use Rattle.store_memory.specs.Memory.{Memory, field_in, value_in, guard_in, is_logged_in}
 use Rattle.store_memory.specs.Remembers.{Remembers}

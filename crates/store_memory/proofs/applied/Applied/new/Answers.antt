@@ -2,7 +2,7 @@ use Rattle.std.proofs.Common.{◌≡◌, List, length, replicate, refl, sym, ◌
 use Rattle.heap_model.specs.declared.record.LaneRecord.{LaneRecord}
 use Rattle.heap_model.specs.Log.{log_from}
 use Rattle.store_memory.specs.Limits.{FitWords}
-use Rattle.store_past.specs.Past.{no_past}
+use Rattle.heap_model.specs.Past.{no_past}
 use Rattle.store_memory.specs.Memory.{Memory, new_monitor, new_lane}
 use Rattle.store_memory.proofs.Begins.{setting_of, setting_is, begins, within_none, start_none}
 use Rattle.store_memory.proofs.applied.Applied.new.Goals as goal

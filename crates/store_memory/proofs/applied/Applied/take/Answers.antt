@@ -7,7 +7,7 @@ use Rattle.heap_model.specs.Log.{lane, log_from}
 use Rattle.store_memory.specs.declared.states.MonitorState.{MonitorState}
 use Rattle.store_memory.specs.declared.states.FieldState.{FieldState}
 use Rattle.store_memory.specs.declared.states.LaneState.{LaneState}
-use Rattle.store_past.specs.Past.{after_apply}
+use Rattle.heap_model.specs.Past.{after_apply}
 use Rattle.store_memory.specs.Memory.{Memory, lane_in, lane_after, monitors_after, fields_after, KeepsLayout}
 use Rattle.store_memory.specs.Remembers.{Remembers}
 use Rattle.store_memory.specs.Apply.{Answers}

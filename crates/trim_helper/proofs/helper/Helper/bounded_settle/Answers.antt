@@ -1,5 +1,5 @@
 use Rattle.std.proofs.Common.{◌≡◌, ◌∙◌, ◌++◌, [], Ok, Err, false, true, refl, sym, ap, subst, arith}
-use Rattle.store_past.specs.declared.error.StoreError.TheVariants.{Fault}
+use Rattle.heap_model.specs.declared.store_error.StoreError.TheVariants.{Fault}
 use Rattle.monitor.specs.Seats.{Helping}
 use Rattle.trim_helper.specs.Calls.{DrainsUpTo, MayBePublished}
 use Rattle.trim_helper.specs.Heard.{HasSeen, Hears}

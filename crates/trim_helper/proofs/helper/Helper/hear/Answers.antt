@@ -1,6 +1,6 @@
 use Rattle.std.proofs.Common.{◌≡◌, List, length, refl, sym, subst, arith}
 use Rattle.std.proofs.lemmas.List.{take_at}
-use Rattle.lane_rings.specs.Rings.{Receiving}
+use Rattle.thread_rings.specs.Rings.{Receiving}
 use Rattle.trim_helper.specs.Heard.{Hears}
 use Rattle.trim_helper.specs.Hearing.{KeepsRecords}
 use Rattle.trim_helper.specs.Parts.{IsWhole}

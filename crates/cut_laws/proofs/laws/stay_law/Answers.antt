@@ -1,5 +1,0 @@
-use Rattle.cut_laws.proofs.Stays.{cut_stays}
-use Rattle.cut_laws.proofs.laws.stay_law.Goals as goal
-
-pub returns : goal.returns
-returns c s newer log cut legal whole closed = cut_stays s newer log cut legal whole closed

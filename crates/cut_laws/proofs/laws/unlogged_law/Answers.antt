@@ -1,5 +1,0 @@
-use Rattle.cut_laws.proofs.Unlogged.{first_stays, first_kept}
-use Rattle.cut_laws.proofs.laws.unlogged_law.Goals as goal
-
-pub returns : goal.returns
-returns c s log f legal not = (first_stays s log f legal not, first_kept s log f legal not)

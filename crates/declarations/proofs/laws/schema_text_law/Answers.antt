@@ -1,9 +1,0 @@
-use Rattle.declarations.proofs.NameLemmas.{lines_have_names}
-use Rattle.declarations.proofs.TextLemmas.{schema_text_declares}
-use Rattle.declarations.proofs.laws.schema_text_law.Goals as goal
-
-pub returns-clause-text : goal.returns-clause-text
-returns-clause-text c = schema_text_declares
-
-pub returns-clause-names : goal.returns-clause-names
-returns-clause-names c = lines_have_names

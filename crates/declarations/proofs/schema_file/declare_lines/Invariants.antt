@@ -1,9 +1,0 @@
-use Rattle.std.proofs.Common.{length}
-use Rattle.declarations.proofs.SchemaLemmas.{IsDeclared}
-use Rattle.declarations.proofs.schema_file.declare_lines.Given as goal
-
-abbrev pub invariant-loop-rest : goal.invariant-loop-rest
-invariant-loop-rest l = IsDeclared l.initial.declaring l.lines l.declaring l.rest l.count
-
-abbrev pub decreases-loop-rest : goal.decreases-loop-rest
-decreases-loop-rest l = length l.rest

@@ -1,0 +1,46 @@
+-- Disks whose bytes reach a file at each sync, or at each write (this project's own).
+use Rattle.std.specs.Prelude.{◌≡◌, ℕ, Bool, false, ◌+◌, ◌≤◌, List, [], ◌∷◌, All, length, Option}
+use Rattle.block_disk.specs.Device.{Range, Device, IsClear}
+use Rattle.disk_file.specs.Backing.{Held, Has, HasBut, IsPendingIn}
+
+-- the range lies within a disk of this size
+abbrev pub IsWithin : ℕ → Range → Type 0
+IsWithin size r = r.start + r.len ≤ size
+
+-- each of the ranges does
+abbrev pub AllWithin : ℕ → List Range → Type 0
+AllWithin size rs = All (IsWithin size) rs
+
+-- a write there goes on with the newest of the pending ranges: it begins within that or right behind it
+abbrev pub GoesOn : (at : ℕ) → (pending : List Range) → Type 0
+GoesOn at [] = ⊥
+GoesOn at (r ∷ older) = (r.start ≤ at) × (at ≤ r.start + r.len)
+
+-- the last of the ranges covers this one
+abbrev pub LastCovers : Range → List Range → Type 0
+LastCovers r [] = ⊥
+LastCovers r (s ∷ []) = (s.start ≤ r.start) × (r.start + r.len ≤ s.start + s.len)
+LastCovers r (s ∷ t ∷ rs) = LastCovers r (t ∷ rs)
+
+-- the last of the ranges covers the newest of the pending ones
+abbrev pub HasNewest : (pending unwritten : List Range) → Type 0
+HasNewest [] unwritten = Unit {0}
+HasNewest (r ∷ older) unwritten = LastCovers r unwritten
+
+-- The bytes are those that the device reads. Those that may not be in the file are pending, and the file reads the others, and keeps them.
+pub record IsBuffered (d : Device) (bytes : List ℕ) (unwritten : List Range) (file : Option Held) : Type 0 where
+  pub reads : d.now.bytes ≡ bytes
+  pub within : AllWithin (length bytes) unwritten
+  pub near : HasBut unwritten bytes file
+  pub waits : IsPendingIn unwritten file
+  pub pending : (i : ℕ) → IsClear i d.now.pending → IsClear i unwritten
+
+-- The file has all of the bytes, unless a call of it has failed since the last sync.
+pub record IsMirrored (behind : Bool) (d : Device) (bytes : List ℕ) (written : List Range) (file : Option Held) : Type 0 where
+  pub buffered : IsBuffered d bytes written file
+  pub current : behind ≡ false → Has bytes file
+
+-- The file is brought up to the bytes at the next sync; the range written last can be lengthened.
+pub record IsDeferred (d : Device) (bytes : List ℕ) (unwritten : List Range) (file : Option Held) : Type 0 where
+  pub buffered : IsBuffered d bytes unwritten file
+  pub newest : HasNewest d.now.pending unwritten

@@ -1,0 +1,88 @@
+//! All bytes of a file.
+ghost use Rattle.std.specs.Prelude.{◌≡◌, ◌++◌, [], ℕ, List, length, IfOk, OnOk};
+ghost use Rattle.disk_file.specs.Backing.{Has, Reads, ReadsForGood, ReadsOverAny};
+
+use crate::backing::BackingFile;
+use crate::buffered::flush;
+use crate::error::FileError;
+use crate::span::Span;
+use std::alloc::Global;
+use std::fs::{Files, OpenOptions};
+use std::io;
+
+const PAGE: usize = 4096;
+
+/// Opens a file that is new or is emptied later.
+pub(crate) fn create_file<R: Files>(rt: &R, path: &str) -> Result<R::File, FileError> {
+    let mut options = OpenOptions::new();
+    options.read(true).write(true).create(true);
+    options.open(rt, path).map_err(fault)
+}
+
+/// Opens a file that is there.
+pub(crate) fn find_file<R: Files>(rt: &R, path: &str) -> Result<R::File, FileError> {
+    let mut options = OpenOptions::new();
+    options.read(true).write(true);
+    options.open(rt, path).map_err(fault)
+}
+
+fn fault(_error: io::Error) -> FileError {
+    FileError::Fault
+}
+
+/// Makes these the file's bytes, durably, whatever it had, by writes of 4,096 bytes at most. After a `Fault` it may have any bytes.
+pub fn fill<F: BackingFile>(file: &mut F, bytes: &[u8]) -> Result<(), FileError>
+    ensures { OnOk result (ReadsForGood bytes.now (F.holds file.new)) }
+{
+    file.empty().map_err(fault)?;
+    write_in_pieces(file, bytes).map_err(fault)?;
+    file.settle().map_err(fault)
+}
+
+// Writes these bytes into an empty file, a page at a time: of a file that one large write has made, the system may keep
+// large pages, in each of which a small write takes long.
+fn write_in_pieces<F: BackingFile>(file: &mut F, bytes: &[u8]) -> io::Result<()>
+    requires { Has [] (F.holds file.old) }
+    ensures { OnOk result (Has bytes.now (F.holds file.new)) }
+{
+    let mut rest = bytes;
+    while !rest.is_empty() {
+        let at = bytes.len() - rest.len();
+        let (piece, later) = rest.split_at(PAGE.min(rest.len()));
+        write_behind(file, at as u64, piece)?;
+        rest = later;
+    }
+    Ok(())
+}
+
+// Writes these bytes at the end of a file that has so many.
+fn write_behind<F: BackingFile>(file: &mut F, at: u64, piece: &[u8]) -> io::Result<()>
+    ensures { (done : List ℕ) → length done ≡ at
+        → OnOk result (Has done (F.holds file.old)
+        → Has (done ++ piece.now) (F.holds file.new)) }
+{
+    file.write_to(at, piece)
+}
+
+/// The file's bytes, which are written back and synced, so that what is read is what a crash leaves, whatever became of syncs before. It is
+/// synced first, so that a write of another process that has failed is told, and nothing of it is pending.
+pub(crate) fn read_whole<F: BackingFile>(alloc: Global, file: &mut F) -> Result<Vec<u8>, FileError>
+    ensures durable { IfOk result (λ bytes. ReadsForGood bytes.items (F.holds file.new)) }
+    ensures given { IfOk result (λ bytes. Reads bytes.items (F.holds file.old)) }
+{
+    file.settle().map_err(fault)?;
+    let len = file.len().map_err(fault)?;
+    let mut bytes = vec![in alloc; 0u8; len as usize].map_err(|_| FileError::NoMemory)?;
+    file.read_from(0, &mut bytes).map_err(fault)?;
+    write_back(file, &bytes).map_err(fault)?;
+    Ok(bytes)
+}
+
+// Makes these bytes, which the file reads, its device's too.
+fn write_back<F: BackingFile>(file: &mut F, bytes: &[u8]) -> io::Result<()>
+    requires { ReadsOverAny bytes.now (F.holds file.old) }
+    ensures { OnOk result (ReadsForGood bytes.now (F.holds file.new)) }
+{
+    let all = [Span::new(0, bytes.len() as u64)];
+    flush(file, &all, bytes)
+}

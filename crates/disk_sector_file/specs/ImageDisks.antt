@@ -1,0 +1,33 @@
+-- The disk of an image file of either kind, as clauses see it (this project's own).
+use Rattle.std.specs.Int.{div_ceil}
+use Rattle.std.specs.Prelude.{ℕ, Option, None, Some}
+use Rattle.block_disk.specs.Device.{Device}
+use Rattle.disk_file.specs.Backing.{ReadsForGood}
+use Rattle.disk_sectors.specs.declared.size.SectorSize.{SectorSize}
+use Rattle.disk_sectors.specs.Size.{bytes_in, place_of}
+use Rattle.disk_sector_file.specs.declared.image_disk.ImageDisk.{ImageDisk}
+use Rattle.disk_sector_file.specs.declared.image_disk.ImageDisk.TheVariants.{Plain, Placed}
+
+-- the device that it is
+abbrev pub device_on : {F : Type 0} → ImageDisk F → Device
+device_on (Plain disk) = disk.device
+device_on (Placed disk) = disk.device
+
+-- the file's own bytes are what its device has: a crash leaves what the disk reads
+abbrev pub IsKeptAsFound : {F : Type 0} → ImageDisk F → Type 0
+IsKeptAsFound (Plain disk) = ReadsForGood disk.device.now.bytes disk.file
+IsKeptAsFound (Placed disk) = Unit {0}
+
+-- where it lies in two places, how many bytes a sector of theirs has
+abbrev pub sectors_on : {F : Type 0} → ImageDisk F → Option SectorSize
+sectors_on (Plain disk) = None
+sectors_on (Placed disk) = Some disk.size
+
+-- how many sectors take so many bytes
+abbrev pub sectors_for : SectorSize → ℕ → ℕ
+sectors_for size len = div_ceil len (bytes_in size)
+
+-- how many bytes a disk has that is made for so many
+abbrev pub room_for : Option SectorSize → ℕ → ℕ
+room_for None len = len
+room_for (Some size) len = place_of size (sectors_for size len)

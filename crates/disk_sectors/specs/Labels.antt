@@ -1,0 +1,14 @@
+-- The label, with which a device of sectors in two places begins (docs/FORMAT.md, "Sectors in two places").
+use Rattle.std.specs.Prelude.{ℕ, List, [], ◌∷◌, ◌++◌}
+use Rattle.std.specs.Int.{to_be_bytes, w64}
+use Rattle.disk_sectors.specs.declared.size.SectorSize.{SectorSize}
+use Rattle.disk_sectors.specs.declared.size.SectorSize.TheVariants.{Bytes512, Bytes4096}
+
+-- `MONI0512` or `MONI4096` in ASCII
+abbrev pub name_of : SectorSize → List ℕ
+name_of Bytes512 = 77 ∷ 79 ∷ 78 ∷ 73 ∷ 48 ∷ 53 ∷ 49 ∷ 50 ∷ []
+name_of Bytes4096 = 77 ∷ 79 ∷ 78 ∷ 73 ∷ 52 ∷ 48 ∷ 57 ∷ 54 ∷ []
+
+-- the name of such sectors, and how many the disk has
+abbrev pub label_bytes : SectorSize → (count : ℕ) → List ℕ
+label_bytes size count = name_of size ++ to_be_bytes w64 count

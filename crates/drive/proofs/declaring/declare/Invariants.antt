@@ -1,7 +1,0 @@
-use Rattle.std.proofs.Common.{◌≡◌}
-use Rattle.drive.specs.Schemas.{schema_of}
-use Rattle.drive.proofs.declaring.declare.Given as goal
-
--- the workers so far are declared
-abbrev pub invariant-loop-worker : goal.invariant-loop-worker
-invariant-loop-worker l = l.builder ≡ schema_of l.worker

@@ -1,5 +1,0 @@
-use Rattle.std.proofs.Common.{vec_len}
-use Rattle.heap_threads.proofs.beside.+work_in.Given as goal
-
-abbrev pub decreases-work_in : goal.decreases-work_in
-decreases-work_in g l = vec_len l.sessions

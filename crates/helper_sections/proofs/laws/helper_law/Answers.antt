@@ -1,5 +1,0 @@
-use Rattle.helper_sections.proofs.Preceding.{precede}
-use Rattle.helper_sections.proofs.laws.helper_law.Goals as goal
-
-pub returns : goal.returns
-returns c = precede

@@ -1,7 +1,0 @@
-use Rattle.std.proofs.Common.{refl}
-use Rattle.heap_model.specs.Log.{lane}
-use Rattle.history_laws.proofs.Own.{awake_by_view}
-use Rattle.history_laws.proofs.own_laws.awake_by_view_law.Goals as goal
-
-pub returns : goal.returns
-returns c g history t legal is = awake_by_view g history t (lane t history) legal refl is

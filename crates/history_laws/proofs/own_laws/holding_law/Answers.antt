@@ -1,5 +1,0 @@
-use Rattle.history_laws.proofs.Holding.{are_held}
-use Rattle.history_laws.proofs.own_laws.holding_law.Goals as goal
-
-pub returns : goal.returns
-returns c g history t legal = are_held g history t legal

@@ -1,5 +1,0 @@
-use Rattle.history_laws.proofs.OfLanes.{log_of_lanes, idle}
-use Rattle.history_laws.proofs.own_laws.of_lanes_law.Goals as goal
-
-pub returns : goal.returns
-returns c g lanes history legal few = (log_of_lanes g lanes history few, λ t le. idle g lanes history legal few t le)

@@ -1,9 +1,0 @@
-use Rattle.std.proofs.Common.{map, ap, ◌∙◌}
-use Rattle.heap_model.specs.History.{log_of}
-use Rattle.heap_model.specs.Sections.{action}
-use Rattle.history_laws.proofs.OwnLog.{own_log_is}
-use Rattle.cut_laws.proofs.Lanes.{lane_actions}
-use Rattle.history_laws.proofs.own_laws.own_sections_law.Goals as goal
-
-pub returns : goal.returns
-returns c g history t = lane_actions t (log_of g history) ∙ ap (map action) (own_log_is g history t)

@@ -1,5 +1,0 @@
-use Rattle.history_laws.proofs.Earliest.{earliest}
-use Rattle.history_laws.proofs.section_laws.earliest_law.Goals as goal
-
-pub returns : goal.returns
-returns c s all done prefix = earliest all done prefix

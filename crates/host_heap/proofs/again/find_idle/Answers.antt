@@ -1,0 +1,67 @@
+use Rattle.std.proofs.Common.{ℕ, ◌≡◌, ◌<◌, ◌≤◌, ◌+◌, List, get_or, length, take, ap, refl, sym, ◌∙◌, subst, arith}
+use Rattle.std.proofs.lemmas.List.{take-set-le}
+use Rattle.host_heap.specs.Lanes.{IsTaken}
+use Rattle.host_heap.specs.declared.lane_end.LaneEnd.{LaneEnd}
+use Rattle.host_heap.proofs.Coming.{all_same, all_twice}
+use Rattle.host_heap.proofs.Ends.{all_from, each_set}
+use Rattle.host_heap.proofs.again.find_idle.Goals as goal
+
+pub loop-place-init : goal.loop-place-init
+loop-place-init c = (λ h k rings all. (all, refl), refl, λ i d low high. absurd (omega (arith, low, high)), all_same c.args.lanes.now.items, refl)
+
+pub loop-place-preserved : goal.loop-place-preserved
+loop-place-preserved c =
+    let was = c.loop-place.invariant in
+    let place = c.loop-place.place in
+    let lanes = c.loop-place.lanes.items in
+    let end : c.len-place-end.result ≡ length c.args.lanes.now.items = c.len-place-end.ensures ∙ c.args.lanes.now.ok.0 in
+    let low = c.loop-place-test.true in
+    let same = was.1 in
+    let seen = c.is_idle_at.ensures.taken in (
+      λ h k rings all.
+          let earlier = was.0 h k rings all in
+          let now = c.is_idle_at.ensures.kept h k rings earlier.0 in (now.0, now.1 ∙ earlier.1),
+      c.is_idle_at.ensures.count ∙ was.1,
+      subst (λ (ls : List LaneEnd). (i : ℕ) (d : LaneEnd) → c.args.first ≤ i → i < place + 1 → IsTaken (get_or ls i d)) (sym seen.1)
+          (each_set IsTaken lanes c.args.first place seen.0 (omega (arith, low, end, same)) was.2 (seen.2 c.if-is_idle_at.false)),
+      all_twice c.args.lanes.now.items lanes c.is_idle_at.new.lanes.items was.3 c.is_idle_at.ensures.come,
+      ap (λ (ls : List LaneEnd). take c.args.first ls) seen.1 ∙ take-set-le c.args.first lanes place seen.0 c.loop-place.auto.place ∙ was.4,
+    )
+
+pub returns-then-is_idle_at-clause-kept : goal.returns-then-is_idle_at-clause-kept
+returns-then-is_idle_at-clause-kept c = λ h k rings all.
+    let earlier = c.loop-place.invariant.0 h k rings all in
+    let now = c.is_idle_at.ensures.kept h k rings earlier.0 in (now.0, now.1 ∙ earlier.1)
+
+pub returns-then-is_idle_at-clause-place : goal.returns-then-is_idle_at-clause-place
+returns-then-is_idle_at-clause-place c =
+    let count : length c.is_idle_at.new.lanes.items ≡ length c.args.lanes.now.items = c.is_idle_at.ensures.count ∙ c.loop-place.invariant.1 in
+    let end : c.len-place-end.result ≡ length c.args.lanes.now.items = c.len-place-end.ensures ∙ c.args.lanes.now.ok.0 in
+    let low = c.loop-place-test.true in (c.loop-place.auto.place, omega (arith, count, end, low))
+
+pub returns-then-is_idle_at-clause-idle : goal.returns-then-is_idle_at-clause-idle
+returns-then-is_idle_at-clause-idle c = λ d. c.is_idle_at.ensures.idle d c.if-is_idle_at.true
+
+pub returns-clause-none : goal.returns-clause-none
+returns-clause-none c =
+    let end : c.len-place-end.result ≡ length c.args.lanes.now.items = c.len-place-end.ensures ∙ c.args.lanes.now.ok.0 in
+    let past = c.loop-place-test.false in
+    let same = c.loop-place.invariant.1 in
+    all_from IsTaken c.loop-place.lanes.items c.args.first (λ i d low high. c.loop-place.invariant.2 i d low (omega (arith, high, same, end, past)))
+
+pub returns-clause-kept : goal.returns-clause-kept
+returns-clause-kept c = λ h k rings all. let now = c.loop-place.invariant.0 h k rings all in (now.0, now.1)
+
+pub returns-then-is_idle_at-clause-come : goal.returns-then-is_idle_at-clause-come
+returns-then-is_idle_at-clause-come c = all_twice c.args.lanes.now.items c.loop-place.lanes.items c.is_idle_at.new.lanes.items c.loop-place.invariant.3 c.is_idle_at.ensures.come
+
+pub returns-clause-come : goal.returns-clause-come
+returns-clause-come c = c.loop-place.invariant.3
+
+pub returns-then-is_idle_at-clause-front : goal.returns-then-is_idle_at-clause-front
+returns-then-is_idle_at-clause-front c =
+    let seen = c.is_idle_at.ensures.taken in
+    ap (λ (ls : List LaneEnd). take c.args.first ls) seen.1 ∙ take-set-le c.args.first c.loop-place.lanes.items c.loop-place.place seen.0 c.loop-place.auto.place ∙ c.loop-place.invariant.4
+
+pub returns-clause-front : goal.returns-clause-front
+returns-clause-front c = c.loop-place.invariant.4

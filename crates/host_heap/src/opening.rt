@@ -1,0 +1,249 @@
+//! A hosted heap is made, or opened.
+ghost use Rattle.std.specs.Prelude.{◌≡◌, ◌≤◌, ◌+◌, [], IfErr, IfOk};
+ghost use Rattle.disk_deferred.specs.Host.{IsHostOf};
+ghost use Rattle.heap_model.specs.declared.limits.TheConstants.{LANES, RING_RECORDS};
+ghost use Rattle.host_heap.specs.Opening.{HasBegun, HasRings, IsFound, IsMade, RefusesMaking, RefusesOpening, threads_of};
+ghost use Rattle.trim_helper.specs.Opening.{FitsSchema};
+
+use crate::beginning::begin_all;
+use crate::error::HostError;
+use crate::heap::HostedHeap;
+use crate::stop::Stopper;
+use disk_deferred::{DeferredDisk, HostCalls};
+use durable::Store;
+use guards::Schema;
+use heap_model::{LANES, LAST_NUMBER};
+use image::{GuardRow, ImageError, Layout, Recovered, declare};
+use recover::{Report, Versions, recover_of};
+use std::alloc::{AllocError, Global};
+use std::sync::Arc;
+use thread_heap::RunningHeap;
+use thread_rings::RingRecords;
+
+/// Makes a heap of so many objects and of these fields, and opens it, as [`format_with`] does. All its lanes are the threads', and each
+/// lane's ring has the usual room.
+pub fn format(
+    alloc: Global,
+    objects: u32,
+    rows: &[GuardRow],
+    lanes: u8,
+    capacity: u32,
+) -> Result<HostedHeap, HostError>
+    // A heap is made of exactly these objects and fields, each field with its owner, its guard and its first value.
+    ensures ok { IfOk result (IsMade objects rows.now lanes capacity lanes) }
+    // Where the caller doesn't choose, each lane's ring has room for 4,096 records.
+    ensures rings { IfOk result (HasRings RING_RECORDS) }
+    // A heap is refused by its schema only where it has no object, no field or too many, or a field names an object
+    // that there isn't; by its header only where lanes or records are past their limits; and else for want of memory.
+    ensures refused { IfErr result (RefusesMaking objects rows.now lanes capacity) }
+{
+    format_with(
+        alloc,
+        objects,
+        rows,
+        lanes,
+        capacity,
+        lanes,
+        RingRecords::usual(),
+    )
+}
+
+/// Makes a heap of so many objects and of these fields, and opens it for so many threads. Where it has more lanes than that, the last one
+/// is the helper's own, unless it is the only one; each other is a thread's. Each lane's ring has room for `ring` records. The host's
+/// device has as many zero bytes as [`HostedHeap::layout`] says that the image has, durably, before the host makes the first call.
+///
+/// Refusals, in this order:
+/// - `Schema`: as [`declare`] refuses;
+/// - `Image`: by `BadHeader`, where `lanes` isn't 1 to 32 or `capacity` isn't 2,000 to 1,048,576;
+/// - `NoMemory`, and `Image` by `NoMemory` and `Fault`, for want of memory.
+pub fn format_with(
+    alloc: Global,
+    objects: u32,
+    rows: &[GuardRow],
+    lanes: u8,
+    capacity: u32,
+    threads: u8,
+    ring: RingRecords,
+) -> Result<HostedHeap, HostError>
+    // A heap is made of exactly these objects and fields, each field with its owner, its guard and its first value.
+    ensures ok { IfOk result (IsMade objects rows.now lanes capacity threads) }
+    // Each lane's ring has room for as many records as the caller asks for.
+    ensures rings { IfOk result (HasRings ring) }
+    // A heap is refused by its schema only where it has no object, no field or too many, or a field names an object
+    // that there isn't; by its header only where lanes or records are past their limits; and else for want of memory.
+    ensures refused { IfErr result (RefusesMaking objects rows.now lanes capacity) }
+{
+    let schema = match declare(alloc, objects, rows) {
+        Ok(schema) => schema,
+        Err(refusal) => return Err(HostError::Schema(refusal)),
+    };
+    let Some(layout) = Layout::of(&schema, lanes, capacity) else {
+        drop(schema);
+        return Err(HostError::Image(ImageError::BadHeader));
+    };
+    let Ok((disk, calls)) = DeferredDisk::new(alloc, layout.size()) else {
+        drop(schema);
+        return Err(HostError::NoMemory);
+    };
+    let made = match Store::format(alloc, disk, &schema, lanes, capacity) {
+        Ok(made) => made,
+        Err((disk, refusal)) => {
+            drop(disk);
+            drop(calls);
+            drop(schema);
+            return Err(HostError::Image(refusal));
+        }
+    };
+    match begin(alloc, schema, made, calls, threads, ring) {
+        Ok(heap) => Ok(heap),
+        Err(_) => Err(HostError::NoMemory),
+    }
+}
+
+/// Opens the heap of the image that the host's device has, as [`open_with`] does. All its lanes are the threads', and each lane's ring has
+/// the usual room.
+pub fn open(
+    alloc: Global,
+    bytes: &[u8],
+    versions: Versions,
+) -> Result<(HostedHeap, Report), HostError>
+    // A heap is opened with what recovery finds in the bytes of the host's device, and recovery's report is told.
+    ensures ok { IfOk result (λ r. IsFound versions LANES bytes.now r.0 r.1) }
+    // Where the caller doesn't choose, each lane's ring has room for 4,096 records.
+    ensures rings { IfOk result (λ r. HasRings RING_RECORDS r.0) }
+    // A heap isn't opened where recovery refuses the bytes, or memory runs out.
+    ensures refused { IfErr result (RefusesOpening versions bytes.now) }
+{
+    open_with(alloc, bytes, versions, LANES as u8, RingRecords::usual())
+}
+
+/// Opens the heap of the image that the host's device has, durably, if it is of one of these versions; these are its bytes, all of
+/// them. It is opened for so many threads: where the image has more lanes than that, the last one is the helper's own, unless it is the
+/// only one; each other is a thread's. Each lane's ring has room for `ring` records, whatever room it had before: the image doesn't say. The heap is recovered first,
+/// in memory, and so is of the current version: the calls of that are the first that the host makes.
+///
+/// Refusals, in this order: `NoMemory` for the bytes; `Recover`, as [`recover_of`](recover::recover_of) refuses; `Schema` and
+/// `NoMemory`, for want of memory.
+pub fn open_with(
+    alloc: Global,
+    bytes: &[u8],
+    versions: Versions,
+    threads: u8,
+    ring: RingRecords,
+) -> Result<(HostedHeap, Report), HostError>
+    // A heap is opened with what recovery finds in the bytes of the host's device, and recovery's report is told.
+    ensures ok { IfOk result (λ r. IsFound versions threads bytes.now r.0 r.1) }
+    // Each lane's ring has room for as many records as the caller asks for.
+    ensures rings { IfOk result (λ r. HasRings ring r.0) }
+    // A heap isn't opened where recovery refuses the bytes, or memory runs out.
+    ensures refused { IfErr result (RefusesOpening versions bytes.now) }
+{
+    let Ok((disk, calls)) = DeferredDisk::from_bytes(alloc, bytes) else {
+        return Err(HostError::NoMemory);
+    };
+    let (recovered, report) = match recover_of(alloc, disk, versions) {
+        Ok(found) => found,
+        Err((disk, refusal)) => {
+            drop(disk);
+            drop(calls);
+            return Err(HostError::Recover(refusal));
+        }
+    };
+    let schema = match declare(alloc, recovered.layout().objects, recovered.guards()) {
+        Ok(schema) => schema,
+        Err(refusal) => {
+            drop(recovered);
+            drop(calls);
+            return Err(HostError::Schema(refusal));
+        }
+    };
+    match begin(alloc, schema, recovered, calls, threads, ring) {
+        Ok(heap) => Ok((heap, report)),
+        Err(_) => Err(HostError::NoMemory),
+    }
+}
+
+// Lets a heap of this schema that was recovered run, for so many threads and with rings of so many records.
+fn begin(
+    alloc: Global,
+    schema: Schema,
+    recovered: Recovered<DeferredDisk>,
+    calls: HostCalls,
+    wanted: u8,
+    ring: RingRecords,
+) -> Result<HostedHeap, AllocError>
+    requires schema { FitsSchema schema recovered.layout recovered.guards }
+    requires calls { (calls.made ≡ []) × (calls.left ≡ []) }
+    requires host { IsHostOf recovered.disk calls }
+    ensures begun { IfOk result (HasBegun schema (threads_of recovered.layout.lanes wanted) recovered) }
+    ensures rings { IfOk result (HasRings ring) }
+    ensures calls { IfOk result (λ x. x.calls ≡ calls) }
+{
+    let layout = recovered.layout();
+    let threads = threads_among(layout.lanes, wanted);
+    let heap = match thread_heap::open(alloc, schema, recovered, threads, LAST_NUMBER, ring) {
+        Ok(heap) => heap,
+        Err((disk, error)) => {
+            drop(disk);
+            drop(calls);
+            return Err(error);
+        }
+    };
+    let RunningHeap {
+        shared,
+        sessions,
+        helper,
+    } = heap;
+    let shared = match Arc::new(alloc, shared) {
+        Ok(shared) => shared,
+        Err(error) => {
+            drop(helper);
+            drop(sessions);
+            drop(calls);
+            return Err(error.into());
+        }
+    };
+    let mut stop = match Stopper::new(alloc) {
+        Ok(stop) => stop,
+        Err(error) => {
+            drop(shared);
+            drop(helper);
+            drop(sessions);
+            drop(calls);
+            return Err(error);
+        }
+    };
+    match begin_all(alloc, &shared, sessions, &mut stop) {
+        Ok((unused, lanes)) => Ok(HostedHeap {
+            alloc,
+            shared,
+            helper,
+            calls,
+            layout,
+            unused,
+            lanes,
+            stop,
+        }),
+        Err(error) => {
+            drop(stop);
+            drop(shared);
+            drop(helper);
+            drop(calls);
+            Err(error)
+        }
+    }
+}
+
+// How many of so many lanes are the threads', where the caller has so many threads.
+fn threads_among(lanes: u8, wanted: u8) -> u8
+    ensures threads { result ≡ threads_of lanes wanted }
+    ensures some { 1 ≤ lanes → 1 ≤ result }
+    ensures within { result ≤ lanes }
+    ensures most { lanes ≤ result + 1 }
+{
+    if wanted < lanes && lanes >= 2 {
+        lanes - 1
+    } else {
+        lanes
+    }
+}

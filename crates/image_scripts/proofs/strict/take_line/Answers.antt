@@ -1,1 +1,0 @@
-use Rattle.image_scripts.proofs.strict.take_line.Goals as goal

@@ -1,0 +1,11 @@
+pub mod InLanes
+pub mod ReleaseLemmas
+pub mod KeptReleased
+pub mod Needed
+pub mod Shown
+pub mod Kept
+pub mod Running
+pub mod Seen
+pub mod Told
+pub mod Faults
+pub mod Halves

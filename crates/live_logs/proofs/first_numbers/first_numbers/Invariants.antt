@@ -1,5 +1,0 @@
-use Rattle.live_logs.specs.First.{IsLowestOf}
-use Rattle.live_logs.proofs.first_numbers.first_numbers.Given as goal
-
-abbrev pub invariant-loop-lane : goal.invariant-loop-lane
-invariant-loop-lane l = IsLowestOf l.logs l.lane l.numbers

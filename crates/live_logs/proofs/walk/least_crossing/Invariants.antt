@@ -1,8 +1,0 @@
-use Rattle.std.proofs.Common.{take}
-use Rattle.live_logs.specs.Logs.{settled_of}
-use Rattle.live_logs.specs.Tables.{log_of}
-use Rattle.live_logs.specs.Crossings.{AreCrossings}
-use Rattle.live_logs.proofs.walk.least_crossing.Given as goal
-
-abbrev pub invariant-loop-step : goal.invariant-loop-step
-invariant-loop-step l = AreCrossings (settled_of l.counts) (log_of (take l.step-index l.steps)) l.crossings

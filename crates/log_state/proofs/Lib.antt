@@ -1,3 +1,0 @@
-pub mod MonitorLemmas
-pub mod LaneLemmas
-pub mod HeldLemmas

@@ -1,3 +1,0 @@
-mod Loading
-mod Storing
-mod Calling

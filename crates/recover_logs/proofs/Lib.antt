@@ -1,0 +1,10 @@
+pub mod MonitorLemmas
+pub mod LaneCountLemmas
+pub mod HeldLemmas
+pub mod LaneLemmas
+pub mod FirstLemmas
+pub mod ReplayLemmas
+pub mod TallyLemmas
+pub mod CrossingLemmas
+pub mod WalkLemmas
+pub mod SettledLemmas

@@ -1,4 +1,0 @@
-pub mod InLanes
-pub mod Releases
-pub mod Kept
-pub mod Needed

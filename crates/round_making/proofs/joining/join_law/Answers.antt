@@ -1,5 +1,0 @@
-use Rattle.round_making.proofs.Following.{joins}
-use Rattle.round_making.proofs.joining.join_law.Goals as goal
-
-pub returns : goal.returns
-returns c = joins

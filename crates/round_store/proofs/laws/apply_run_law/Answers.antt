@@ -1,5 +1,0 @@
-use Rattle.round_store.proofs.Running.{apply_runs}
-use Rattle.round_store.proofs.laws.apply_run_law.Goals as goal
-
-pub returns : goal.returns
-returns g c = λ x y lane next result makes. apply_runs g.D.Disk.device x y lane next result makes

@@ -1,8 +1,0 @@
-use Rattle.round_store.proofs.Running.{run_none, run_on}
-use Rattle.round_store.proofs.laws.run_on_law.Goals as goal
-
-pub returns-clause-none : goal.returns-clause-none
-returns-clause-none c = run_none
-
-pub returns-clause-on : goal.returns-clause-on
-returns-clause-on c = run_on

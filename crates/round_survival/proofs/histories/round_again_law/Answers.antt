@@ -1,5 +1,0 @@
-use Rattle.round_survival.proofs.ShownCuts.{shown_again}
-use Rattle.round_survival.proofs.histories.round_again_law.Goals as goal
-
-pub returns : goal.returns
-returns c = shown_again c.two_syncs_again_law.ensures

@@ -1,8 +1,0 @@
-use Rattle.round_survival.proofs.ShownCuts.{keeps_each, keeps_one}
-use Rattle.round_survival.proofs.histories.round_run_law.Goals as goal
-
-pub returns-clause-each : goal.returns-clause-each
-returns-clause-each c = keeps_each c.log_law.ensures c.order_law.ensures c.two_syncs_law.ensures
-
-pub returns-clause-history : goal.returns-clause-history
-returns-clause-history c = keeps_one (keeps_each c.log_law.ensures c.order_law.ensures c.two_syncs_law.ensures)

@@ -1,8 +1,0 @@
-use Rattle.round_survival.proofs.Rounds.{gives_between, gives_moment}
-use Rattle.round_survival.proofs.laws.crashed_round_law.Goals as goal
-
-pub returns-clause-between : goal.returns-clause-between
-returns-clause-between c = gives_between c.two_syncs_law.ensures
-
-pub returns-clause-moment : goal.returns-clause-moment
-returns-clause-moment c = gives_moment c.two_syncs_law.ensures

@@ -1,9 +1,0 @@
-//! Tests of: round_survival, round_store.
-//!
-//! Images over rounds of two syncs, made by hand or by a store, and what recovery gives of them.
-#![tactic(auto)]
-
-#[cfg(test)]
-mod store_rounds;
-#[cfg(test)]
-mod worked_rounds;

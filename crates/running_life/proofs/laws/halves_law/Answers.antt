@@ -1,8 +1,0 @@
-use Rattle.running_life.proofs.Halves.{read_publishing, read_settling}
-use Rattle.running_life.proofs.laws.halves_law.Goals as goal
-
-pub returns-clause-settling : goal.returns-clause-settling
-returns-clause-settling g c = read_settling g.D.Disk.device
-
-pub returns-clause-publishing : goal.returns-clause-publishing
-returns-clause-publishing g c = read_publishing g.D.Disk.device c.stable_law.ensures.rises

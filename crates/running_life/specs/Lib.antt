@@ -1,7 +1,0 @@
--- The promise: what a crash keeps of a heap that runs, and of one that ran and was closed.
-pub mod Runs
-pub mod Running
-pub mod Crashes
-pub mod Told
-pub mod Faults
-pub mod Halves

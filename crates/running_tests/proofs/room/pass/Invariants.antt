@@ -1,5 +1,0 @@
-use Rattle.session.specs.Sessions.{IsSessionOf}
-use Rattle.running_tests.proofs.room.pass.Given as goal
-
-abbrev pub invariant-loop-passed : goal.invariant-loop-passed
-invariant-loop-passed l = IsSessionOf l.shared l.session

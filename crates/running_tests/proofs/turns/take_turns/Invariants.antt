@@ -1,7 +1,0 @@
-use Rattle.block_disk.specs.Memory.{device_of}
-use Rattle.running_heap.specs.Joined.{IsHelping}
-use Rattle.session.specs.Sessions.{IsSessionOf}
-use Rattle.running_tests.proofs.turns.take_turns.Given as goal
-
-abbrev pub invariant-loop-turn : goal.invariant-loop-turn
-invariant-loop-turn g l = (IsSessionOf l.shared l.first × IsSessionOf l.shared l.second) × IsHelping device_of l.shared l.helper

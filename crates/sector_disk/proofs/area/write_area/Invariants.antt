@@ -1,8 +1,0 @@
-use Rattle.std.proofs.Common.{◌≡◌}
-use Rattle.sector_disk.proofs.Filling.{Filled}
-use Rattle.sector_disk.proofs.area.write_area.Given as goal
-
--- the sectors so far hold what the image does
-abbrev pub invariant-loop-i : goal.invariant-loop-i
-invariant-loop-i g l = (g.S.Sectors.of_size l.sectors ≡ l.size)
-    × Filled l.size l.first l.i l.marks l.image (g.S.Sectors.device l.fn.sectors) (g.S.Sectors.device l.sectors)

@@ -1,0 +1,80 @@
+-- What a survey finds of records (this project's own). A list of (lane, record) has its newest record first.
+use Rattle.std.specs.Prelude.{ℕ, ◌≡◌, ◌≢◌, ◌↔◌, ◌+◌, ◌<◌, ◌≤◌, ◌^◌, Bool, true, false, List, [], ◌∷◌, ◌++◌, All, AllPairs, Contains, length, slice_index, slice_index_or, slice_set, Some, None, vec_capacity, if◌then◌else◌}
+use Rattle.std.specs.List.Sorted.{IsNonDecreasingBy}
+use Rattle.heap_model.specs.declared.ids.FieldId.{FieldId}
+use Rattle.heap_model.specs.declared.record.LaneRecord.{LaneRecord}
+use Rattle.heap_model.specs.declared.record.Record.{Record}
+use Rattle.heap_model.specs.declared.record.Record.TheVariants.{Acq, Rel, WaitRel, Put}
+use Rattle.store_helper_sections.specs.HelperSections.{earlier, first_taken}
+use Rattle.store_round_image.specs.Turning.{fields_of}
+use Rattle.store_round_image.specs.declared.cells.HomeValue.{HomeValue}
+use Rattle.store_round_memory.specs.Counting.{kept_store, number_told, records_left}
+use Rattle.store_round_memory.specs.declared.survey.Survey.{Survey}
+
+-- the record's object or field is one of so many, and its number has one behind it
+abbrev pub Fits : (objects fields : ℕ) → Record → Type 0
+Fits objects fields (Acq o n) = (o.0 < objects) × (n + 1 < 2 ^ 64)
+Fits objects fields (Rel o n) = Unit {0}
+Fits objects fields (WaitRel o n) = Unit {0}
+Fits objects fields (Put f before after) = f.0 < fields
+
+-- so does the record of a lane, which is one of so many
+abbrev pub FitsLane : (lanes objects fields : ℕ) → LaneRecord → Type 0
+FitsLane lanes objects fields e = (e.lane.0 < lanes) × Fits objects fields e.record
+
+-- the lane is one of 32
+abbrev pub HasLane : LaneRecord → Type 0
+HasLane e = e.lane.0 < 32
+
+-- the value is of one of so many fields
+abbrev pub HasField : (fields : ℕ) → HomeValue → Type 0
+HasField fields c = c.field.0 < fields
+
+-- the values stand in the order of their fields
+abbrev pub IsSortedByField : List HomeValue → Type 0
+IsSortedByField changed = IsNonDecreasingBy (λ c. c.field.0) changed
+
+-- how many of the marks are set
+abbrev pub count_set : List Bool → ℕ
+count_set [] = 0
+count_set (b ∷ marks) = if b then count_set marks + 1 else count_set marks
+
+-- whether the field's mark is set
+abbrev pub is_marked : (marks : List Bool) → (field : ℕ) → Bool
+is_marked marks f = slice_index_or marks f false
+
+-- the values are of different fields, and the marks tell which these are
+pub record AreMarked (changed : List HomeValue) (marks : List Bool) : Type 0 where
+  pub listed : (f : ℕ) → Contains (fields_of changed) f ↔ (is_marked marks f ≡ true)
+  pub once : AllPairs (λ c d. c.field.0 ≢ d.field.0) changed
+  pub many : length changed ≤ count_set marks
+
+-- the survey's marks tell which fields its values are of, of which it has room for so many
+pub record IsSurvey (objects fields : ℕ) (v : Survey) : Type 0 where
+  pub marks : length v.marks.items ≡ fields
+  pub first : length v.first.items ≡ objects
+  pub room : fields ≤ vec_capacity v.changed
+  pub marked : AreMarked v.changed.items v.marks.items
+
+-- each number that the survey has of an object is one at which these records take it
+abbrev pub IsOfTakers : List (ℕ × Record) → Survey → Type 0
+IsOfTakers records v = (o : ℕ) → slice_index v.first.items o ≢ 0 → first_taken o records ≢ None
+
+-- the survey tells of all records, but for these older ones
+pub record TellsDownTo (counts : List ℕ) (all older : List (ℕ × Record)) (v : Survey) : Type 0 where
+  pub values : All (λ c. kept_store counts c.field.0 all ≡ Some c.value) v.changed.items
+  pub rest : (f : ℕ) → is_marked v.marks.items f ≡ false → kept_store counts f all ≡ kept_store counts f older
+  pub taken : (o : ℕ) → first_taken o (records_left counts all) ≡ earlier (first_taken o (records_left counts older)) (number_told (slice_index v.first.items o))
+
+-- the field's value was noted
+pub record NotesStore (field : FieldId) (value : ℕ) (old new : Survey) : Type 0 where
+  pub changed : new.changed.items ≡ old.changed.items ++ record { field = field; value = value } ∷ []
+  pub marks : new.marks.items ≡ slice_set old.marks.items field.0 true
+  pub first : new.first.items ≡ old.first.items
+  pub capacity : vec_capacity new.changed ≡ vec_capacity old.changed
+
+-- the survey has found nothing
+pub record FoundNothing (v : Survey) : Type 0 where
+  pub changed : v.changed.items ≡ []
+  pub marks : (f : ℕ) → is_marked v.marks.items f ≡ false
+  pub first : (o : ℕ) → slice_index v.first.items o ≡ 0

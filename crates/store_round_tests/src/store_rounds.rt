@@ -1,0 +1,240 @@
+//! Stores for rounds: what recovery gives of whatever a crash leaves of them, with a lane for the helper and without one.
+use crate::worked_rounds::{CELL_AT, SIZE, schema_or_none};
+use block_disk::{Fill, MemDisk};
+use durable::Store;
+use heap_model::{FieldId, Lane, ObjectId, Record};
+use image::Recovered;
+use recover::recover;
+use std::alloc::Global;
+use store_rounds::RoundStore;
+
+const FILLS: [Fill; 4] = [Fill::Lost, Fill::Kept, Fill::Byte(0), Fill::Byte(255)];
+
+// A call of a store: a record of the first thread's or the second one's, or one that writes.
+#[derive(Clone, Copy)]
+enum Call {
+    One(Record),
+    Two(Record),
+    Round,
+    Flush,
+}
+
+fn acq(object: u32, number: u64) -> Record {
+    Record::Acq {
+        object: ObjectId(object),
+        number,
+    }
+}
+
+fn rel(object: u32, number: u64) -> Record {
+    Record::Rel {
+        object: ObjectId(object),
+        number,
+    }
+}
+
+fn put(field: u32, before: u64, after: u64) -> Record {
+    Record::Put {
+        field: FieldId(field),
+        before,
+        after,
+    }
+}
+
+fn is_made(store: &mut RoundStore<MemDisk>, call: Call) -> bool {
+    match call {
+        Call::One(next) => store.apply(Lane(0), next).is_ok(),
+        Call::Two(next) => store.apply(Lane(1), next).is_ok(),
+        Call::Round => store.round().is_ok(),
+        Call::Flush => store.flush().is_ok(),
+    }
+}
+
+fn are_made(store: &mut RoundStore<MemDisk>, calls: &[Call]) -> bool {
+    for call in calls {
+        if !is_made(store, *call) {
+            return false;
+        }
+    }
+    true
+}
+
+// A store over this device, whose first lanes are so many threads'.
+fn adopted(alloc: Global, made: Recovered<MemDisk>, threads: u8) -> Option<RoundStore<MemDisk>> {
+    let lanes = made.layout().lanes;
+    if threads == 0 || threads > lanes || lanes - threads > 1 {
+        drop(made);
+        return None;
+    }
+    RoundStore::adopt(alloc, made, threads, 9).ok()
+}
+
+// One on an image of three lanes, two objects and a field of each with 10 and 20.
+fn fresh_store(alloc: Global, threads: u8) -> Option<RoundStore<MemDisk>> {
+    let disk = MemDisk::new(alloc, SIZE).ok()?;
+    let Some(schema) = schema_or_none(alloc) else {
+        drop(disk);
+        return None;
+    };
+    let made = Store::format(alloc, disk, &schema, 3, 2000).ok();
+    drop(schema);
+    adopted(alloc, made?, threads)
+}
+
+// Its device after these calls, and how often it was called by all but the last of them.
+fn device_after(alloc: Global, threads: u8, calls: &[Call], last: Call) -> Option<(MemDisk, u64)> {
+    let mut store = fresh_store(alloc, threads)?;
+    let mut is_so = are_made(&mut store, calls);
+    let from = store.disk().stops();
+    is_so &= is_made(&mut store, last);
+    let disk = store.into_disk();
+    if is_so {
+        Some((disk, from))
+    } else {
+        drop(disk);
+        None
+    }
+}
+
+// The heap that recovery gives of this image.
+fn recovered(alloc: Global, image: MemDisk) -> Option<[u64; 2]> {
+    match recover(alloc, image) {
+        Ok((made, report)) => {
+            drop(report);
+            let heap = heap_of(&made);
+            drop(made);
+            heap
+        }
+        Err(refused) => {
+            drop(refused);
+            None
+        }
+    }
+}
+
+fn heap_of(made: &Recovered<MemDisk>) -> Option<[u64; 2]> {
+    Some(*made.heap().as_array::<2>()?)
+}
+
+// Whether what a crash leaves that comes with stop `k` of the device begun gives one of these heaps.
+fn gives_either(alloc: Global, disk: &MemDisk, k: u64, old: [u64; 2], new: [u64; 2]) -> bool {
+    let mut is_so = true;
+    for fill in FILLS {
+        let heap = crashed(alloc, disk, k, fill);
+        is_so &= heap == Some(old) || heap == Some(new);
+    }
+    is_so
+}
+
+fn crashed(alloc: Global, disk: &MemDisk, k: u64, fill: Fill) -> Option<[u64; 2]> {
+    recovered(alloc, disk.crash_image(k, fill).ok()??)
+}
+
+// Whether each crash in the last of these calls gives the old heap or the new one, and a crash behind it the new one.
+fn turns(
+    alloc: Global,
+    threads: u8,
+    calls: &[Call],
+    last: Call,
+    old: [u64; 2],
+    new: [u64; 2],
+) -> bool {
+    let Some((disk, from)) = device_after(alloc, threads, calls, last) else {
+        return false;
+    };
+    let mut is_so = true;
+    for k in from..disk.stops() {
+        is_so &= gives_either(alloc, &disk, k + 1, old, new);
+    }
+    let behind = disk.stops().saturating_add(1);
+    is_so &= gives_either(alloc, &disk, behind, new, new);
+    drop(disk);
+    is_so
+}
+
+// The first thread stores 5, and the second 7 in a section that it ends later. The first stores to the other field, and once more to
+// the first one, in a section that is open over a flush.
+fn script() -> [Call; 17] {
+    [
+        Call::One(acq(0, 0)),
+        Call::One(put(0, 10, 5)),
+        Call::One(rel(0, 0)),
+        Call::Two(acq(0, 1)),
+        Call::Two(put(0, 5, 7)),
+        Call::Round,
+        Call::Two(rel(0, 1)),
+        Call::One(acq(1, 0)),
+        Call::One(put(1, 20, 30)),
+        Call::One(rel(1, 0)),
+        Call::Round,
+        Call::One(acq(0, 2)),
+        Call::One(put(0, 7, 8)),
+        Call::Flush,
+        Call::One(rel(0, 2)),
+        Call::Round,
+        Call::Flush,
+    ]
+}
+
+// Which of these calls write, and the heaps before and after them.
+const WRITES: [(usize, [u64; 2], [u64; 2]); 5] = [
+    (5, [10, 20], [5, 20]),
+    (10, [5, 20], [7, 30]),
+    (13, [7, 30], [7, 30]),
+    (15, [7, 30], [8, 30]),
+    (16, [8, 30], [8, 30]),
+];
+
+fn all_turn(alloc: Global, threads: u8) -> bool {
+    let calls = script();
+    let mut is_so = true;
+    for (place, old, new) in WRITES {
+        is_so &= turns(alloc, threads, &calls[..place], calls[place], old, new);
+    }
+    is_so
+}
+
+// With a lane for the helper, and with three threads and none.
+#[test]
+fn a_crash_gives_the_old_heap_or_the_new_one(rt: HostRuntime) {
+    assert!(rt; all_turn(rt.alloc(), 2));
+    assert!(rt; all_turn(rt.alloc(), 3));
+}
+
+// What the first field's home cell holds after these calls.
+fn cell_after(alloc: Global, threads: u8, calls: &[Call], last: Call) -> Option<u64> {
+    let (disk, _) = device_after(alloc, threads, calls, last)?;
+    let cell = cell_of(&disk);
+    drop(disk);
+    cell
+}
+
+fn cell_of(disk: &MemDisk) -> Option<u64> {
+    let bytes = disk.bytes().get(CELL_AT as usize..CELL_AT as usize + 8)?;
+    Some(u64::from_be_bytes(*bytes.as_array::<8>()?))
+}
+
+// Threads, so many calls of the script and one more, and what the first field's cell holds then.
+const CELLS: [(u8, usize, Call, u64); 5] = [
+    (2, 5, Call::Round, 10),
+    (2, 6, Call::Flush, 5),
+    (2, 10, Call::Round, 10),
+    (2, 11, Call::Flush, 7),
+    (3, 5, Call::Round, 5),
+];
+
+fn are_cells_so(alloc: Global) -> bool {
+    let calls = script();
+    let mut are_so = true;
+    for (threads, count, last, cell) in CELLS {
+        are_so &= cell_after(alloc, threads, &calls[..count], last) == Some(cell);
+    }
+    are_so
+}
+
+// A round of two syncs leaves the kept value in a record of the helper's. The next round brings it home, where its field doesn't change
+// again, and a flush does too. Without a lane for the helper a round brings it home itself.
+#[test]
+fn a_kept_value_comes_home(rt: HostRuntime) {
+    assert!(rt; are_cells_so(rt.alloc()));
+}

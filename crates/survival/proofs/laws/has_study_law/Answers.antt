@@ -1,5 +1,0 @@
-use Rattle.survival.proofs.Studies.{study_there}
-use Rattle.survival.proofs.laws.has_study_law.Goals as goal
-
-pub returns : goal.returns
-returns c = study_there

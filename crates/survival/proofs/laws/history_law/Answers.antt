@@ -1,5 +1,0 @@
-use Rattle.survival.proofs.Histories.{of_history}
-use Rattle.survival.proofs.laws.history_law.Goals as goal
-
-pub returns : goal.returns
-returns c = of_history c.log_law.ensures c.order_law.ensures

@@ -1,0 +1,7 @@
+use Rattle.block_disk.specs.Memory.{device_of}
+use Rattle.thread_heap.specs.Joined.{IsHelping}
+use Rattle.session.specs.Sessions.{IsSessionOf}
+use Rattle.thread_heap_tests.proofs.helpers_lane.take_turns.Given as goal
+
+abbrev pub invariant-loop-turn : goal.invariant-loop-turn
+invariant-loop-turn l = (IsSessionOf l.shared l.first × IsSessionOf l.shared l.second) × IsHelping (λ d. device_of d.disk) l.shared l.helper

@@ -1,0 +1,297 @@
+//! Threads on a heap, from its opening to its end, in one call or in two halves.
+ghost use Rattle.std.specs.Prelude.{◌≡◌, ◌<◌, All, IfErr, IfNone, IfOk, IfSome, false, length, take};
+ghost use Rattle.thread_work.specs.Returns.{HasReturned, HaveReturned, IsBack, IsHanded};
+ghost use Rattle.std.specs.List.{range_with_len, slice_index_or};
+ghost use Rattle.thread_work.specs.Bodies.{WereCalled};
+ghost use Rattle.thread_work.specs.ImageLanes.{HasLanesFor};
+ghost use Rattle.thread_work.specs.Outcomes.{EndsRun, HasRunFrom, IsTold};
+ghost use Rattle.thread_work.specs.Serving.{CrashesBy};
+ghost use Rattle.thread_work.specs.Stops.{StopsBy, StopsEnd, StopsRun, StopsTelling};
+ghost use Rattle.recover.specs.Recovery.{IsCutOff};
+ghost use Rattle.thread_heap.specs.Joined.{AreNew, IsHelping, IsJoined};
+ghost use Rattle.trim_helper.specs.Endings.{HoldNone, IsComplete, IsEnded, lanes_ended};
+ghost use Rattle.trim_helper.specs.Opening.{FitsSchema};
+ghost use Rattle.trim_helper.specs.declared.ended.Ended.{Ended as Left};
+
+use crate::beside::{Beside, work_beside};
+use crate::body::{AllWorked, Answer};
+use crate::crashes::taken_law;
+use crate::error::RunError;
+use crate::outcome::Outcome;
+use crate::returned::{Returned, disk_of};
+use crate::serving::Served;
+use crate::work::Work;
+use block_disk::Disk;
+use guards::Schema;
+use heap_model::LAST_NUMBER;
+use image::Recovered;
+use law_rounds::two_syncs_law;
+use law_running::{crash_law, round_law};
+use monitor::Shared;
+use recover::recover;
+use std::alloc::Global;
+use std::sync::Wait;
+use std::thread::Threads;
+use thread_heap::{RunningHeap, close, joined_law, life_law, open};
+use thread_rings::RingRecords;
+use trim_helper::{Ended, Helper};
+
+/// Lets so many threads do this work on a heap of this schema that was recovered, each with a lane of its own, closes the heap, and
+/// recovers the device: what is told is what recovery finds there. Where the image has one lane more, the last one is the helper's, and
+/// a round takes two syncs in place of four.
+///
+/// A crash may come at any moment of it: recovery takes what that leaves, and keeps whole sections, each with all that it depends on.
+///
+/// Refusals, in this order, each with the device as a stop leaves it; it may be recovered: those of [`work_on`], and then those of
+/// [`close_returned`].
+pub fn run_heap<D: Disk + Drop, W: Work + Sync, R: Threads + Wait + Sync>(
+    rt: &R,
+    alloc: Global,
+    work: &W,
+    schema: Schema,
+    recovered: Recovered<D>,
+    threads: u8,
+) -> Result<(Recovered<D>, Outcome), (D, RunError)>
+    requires schema { FitsSchema schema recovered.layout recovered.guards }
+    requires lanes { HasLanesFor threads recovered.layout.lanes }
+    // A run of threads calls the body of each thread, and what it tells at its end is what recovery gives of the device
+    // that the closing gave back.
+    ensures ok { IfOk result (λ r. HasRunFrom (W.does work.now) D.device schema threads recovered r.0 r.1) }
+    // A run of threads is refused only for the cause that it names, and recovery accepts whatever a crash left since it
+    // began.
+    ensures cause { IfErr result (λ back. StopsRun (W.does work.now) D.device schema threads recovered (D.device back.0) back.1) }
+{
+    match work_on(rt, alloc, work, schema, recovered, threads) {
+        Ok(returned) => close_returned(alloc, work, returned),
+        Err(back) => Err(back),
+    }
+}
+
+/// Lets so many threads do this work on a heap of this schema that was recovered, until each body has returned. Each has a lane of its
+/// own, and where the image has one lane more, the last one is the helper's. The heap isn't closed: whether it is may hang on what the bodies have answered.
+///
+/// Refusals, in this order, each with the device as a stop leaves it; it may be recovered:
+/// - `NoMemory`: there was no room for what the threads share. No body was called;
+/// - `NoThread`: some lane got no thread. No body was called, and the device is as it was;
+/// - `Helper`: a round of the helper was refused, by `Worn`, with the control's sequence at its last value, or by `Fault`, after a
+///   failure of the device. Never by `Failed`: the first fault ends the rounds;
+/// - `NoMemory`: there was no room for what the threads leave.
+pub fn work_on<D: Disk + Drop, W: Work + Sync, R: Threads + Wait + Sync>(
+    rt: &R,
+    alloc: Global,
+    work: &W,
+    schema: Schema,
+    recovered: Recovered<D>,
+    threads: u8,
+) -> Result<Returned<D>, (D, RunError)>
+    requires schema { FitsSchema schema recovered.layout recovered.guards }
+    requires lanes { HasLanesFor threads recovered.layout.lanes }
+    // Threads come back from a heap of their schema, and a body was called for each of them.
+    ensures ok { IfOk result (HasReturned (W.does work.now) D.device schema threads recovered) }
+    // Threads that don't come back are stopped only for the cause that is named, and recovery accepts whatever a crash
+    // left since they began.
+    ensures cause { IfErr result (λ back. StopsRun (W.does work.now) D.device schema threads recovered (D.device back.0) back.1) }
+{
+    taken_law();
+    life_law::<D>();
+    round_law::<D>();
+    let _layout = recovered.layout();
+    match open(
+        alloc,
+        schema,
+        recovered,
+        threads,
+        LAST_NUMBER,
+        RingRecords::usual(),
+    ) {
+        Ok(heap) => run(rt, alloc, work, heap),
+        Err((disk, _)) => Err((disk, RunError::NoMemory)),
+    }
+}
+
+// The threads work beside the helper.
+fn run<D: Disk + Drop, W: Work + Sync, R: Threads + Wait + Sync>(
+    rt: &R,
+    alloc: Global,
+    work: &W,
+    heap: RunningHeap<D>,
+) -> Result<Returned<D>, (D, RunError)>
+    requires joined { All (IsJoined heap.shared heap.helper.store.known.layout.capacity heap.helper.rings) heap.sessions.items }
+    requires new { AreNew 0 heap.sessions.items }
+    requires count { length heap.sessions.items ≡ heap.shared.plan.lanes }
+    requires helping { IsHelping D.device heap.shared heap.helper }
+    requires running { heap.helper.store.known.has_failed ≡ false }
+    ensures ok { IfOk result (HaveReturned (W.does work.now) D.device heap.shared heap.helper) }
+    ensures cause { IfErr result (λ back. StopsBy (W.does work.now) heap.shared heap.helper.store.known.layout (D.device heap.helper.store.disk) (D.device back.0) back.1) }
+    ensures crashes { IfErr result (λ back. CrashesBy D.device heap.shared heap.helper (D.device back.0) back.1) }
+{
+    joined_law();
+    round_law::<D>();
+    let RunningHeap {
+        shared,
+        sessions,
+        helper,
+    } = heap;
+    let Beside { worked, served } = match work_beside(rt, alloc, work, &shared, sessions, helper) {
+        Ok(beside) => beside,
+        Err(helper) => {
+            drop(shared);
+            return Err((disk_of(helper), RunError::NoThread));
+        }
+    };
+    let Served { helper, answer } = served;
+    if let Err(reason) = answer {
+        drop(worked);
+        drop(shared);
+        return Err((disk_of(helper), RunError::Helper(reason)));
+    }
+    match worked {
+        Ok(worked) => hand_over(shared, worked, helper),
+        Err(_) => {
+            drop(shared);
+            Err((disk_of(helper), RunError::NoMemory))
+        }
+    }
+}
+
+// Hands over what the threads leave, where each body was called.
+fn hand_over<D: Disk>(
+    shared: Shared,
+    worked: AllWorked,
+    helper: Helper<D>,
+) -> Result<Returned<D>, (D, RunError)>
+    ensures ok { IfOk result (IsHanded shared worked helper) }
+    ensures disk { IfErr result (λ back. back.0 ≡ helper.store.disk) }
+    ensures memory { IfErr result (λ back. back.1 ≡ RunError.NoMemory) }
+{
+    let AllWorked { ended, answer } = worked;
+    let Some(answer) = answer else {
+        drop(ended);
+        drop(shared);
+        return Err((disk_of(helper), RunError::NoMemory));
+    };
+    Ok(Returned {
+        shared,
+        ended,
+        answer,
+        helper,
+    })
+}
+
+/// Closes a heap whose threads have come back, and recovers the device: what is told is what recovery finds there.
+///
+/// Refusals, in this order, each with the device as a stop leaves it; it may be recovered:
+/// - `Unfinished`: a body has ended with a monitor held;
+/// - `Close`: the heap wasn't closed, by `Worn` or by `Fault`;
+/// - `Recover`: the device wasn't recovered: a call of it failed, memory was wanting, or its control is at its last sequence.
+///   Never because of what the closing left: recovery takes that;
+/// - `NoMemory`: there was no room for what is told. The device is recovered.
+pub fn close_returned<D: Disk, W: Work>(
+    alloc: Global,
+    work: &W,
+    returned: Returned<D>,
+) -> Result<(Recovered<D>, Outcome), (D, RunError)>
+    requires { IsBack (W.does work.now) D.device returned }
+    // What a closing after threads tells is what recovery gives of the device that it gave back.
+    ensures ok { IfOk result (λ r. EndsRun (W.does work.now) D.device returned.shared returned.helper r.0 r.1) }
+    // What a closing after threads tells of their bodies is what they have answered.
+    ensures answer { IfOk result (λ r. r.1.answer ≡ returned.answer) }
+    // A closing after threads is refused only for the cause that it names.
+    ensures cause { IfErr result (λ back. StopsEnd (W.does work.now) returned.shared returned.helper.store.known.layout (D.device returned.helper.store.disk) (D.device back.0) back.1) }
+    // Where a closing after threads is refused, recovery accepts whatever a crash left since the heap was opened.
+    ensures crashes { IfErr result (λ back. CrashesBy D.device returned.shared returned.helper (D.device back.0) back.1) }
+{
+    round_law::<D>();
+    let Returned {
+        shared,
+        ended,
+        answer,
+        helper,
+    } = returned;
+    match holder(&ended) {
+        None => close_all(alloc, work, shared, ended, answer, helper),
+        Some(_holder) => {
+            drop(ended);
+            drop(shared);
+            Err((disk_of(helper), RunError::Unfinished))
+        }
+    }
+}
+
+// The first of them that holds a monitor.
+fn holder(ended: &[Ended]) -> Option<usize>
+    ensures none { IfNone result (All (λ e. e.held ≡ 0) ended.now) }
+    ensures some { IfSome result (λ k. (k < length ended.now) × ((d : Left) → (slice_index_or ended.now k d).held ≡ 0 → ⊥)) }
+{
+    ended.iter().position(|one| one.held != 0)
+}
+
+// Closes, and recovers the device.
+fn close_all<D: Disk, W: Work>(
+    alloc: Global,
+    work: &W,
+    shared: Shared,
+    ended: Vec<Ended>,
+    answer: Answer,
+    helper: Helper<D>,
+) -> Result<(Recovered<D>, Outcome), (D, RunError)>
+    requires helper { IsHelping D.device shared helper }
+    requires running { helper.store.known.has_failed ≡ false }
+    requires ended { All (IsEnded shared helper.store.known.layout.capacity helper.rings) ended.items }
+    requires lanes { lanes_ended ended.items ≡ range_with_len 0 shared.plan.lanes }
+    requires called { WereCalled (W.does work.now) shared helper.store.known.layout.capacity answer ended.items }
+    requires none { HoldNone ended.items }
+    requires complete { IsComplete shared.plan.lanes ended.items }
+    ensures ok { IfOk result (λ r. EndsRun (W.does work.now) D.device shared helper r.0 r.1) }
+    ensures answer { IfOk result (λ r. r.1.answer ≡ answer) }
+    ensures cause { IfErr result (λ back. StopsEnd (W.does work.now) shared helper.store.known.layout (D.device helper.store.disk) (D.device back.0) back.1) }
+    ensures crashes { IfErr result (λ back. CrashesBy D.device shared helper (D.device back.0) back.1) }
+{
+    two_syncs_law();
+    crash_law::<D>();
+    taken_law();
+    let _work = work;
+    let threads = helper.threads();
+    match close(shared, ended, helper) {
+        Ok(disk) => tell(alloc, answer, threads, disk),
+        Err((disk, refusal)) => Err((disk, RunError::Close(refusal))),
+    }
+}
+
+// Recovers the device, and tells what is there, with the sections of so many lanes.
+fn tell<D: Disk>(
+    alloc: Global,
+    answer: Answer,
+    lanes: u8,
+    disk: D,
+) -> Result<(Recovered<D>, Outcome), (D, RunError)>
+    ensures ok { IfOk result (λ r. IsTold D.device lanes (D.device disk) r.0 r.1) }
+    ensures answer { IfOk result (λ r. r.1.answer ≡ answer) }
+    ensures cause { IfErr result (λ back. StopsTelling (D.device disk) (D.device back.0) back.1) }
+    ensures cut_off { IfErr result (λ back. IsCutOff (D.device disk) (D.device back.0)) }
+{
+    let (recovered, report) = match recover(alloc, disk) {
+        Ok(found) => found,
+        Err((disk, refusal)) => return Err((disk, RunError::Recover(refusal))),
+    };
+    let counts = first_counts(&report.kept.counts, lanes);
+    let Ok(acknowledged) = counts.to_vec(alloc) else {
+        return Err((recovered.into_disk(), RunError::NoMemory));
+    };
+    let Ok(heap) = recovered.heap().to_vec(alloc) else {
+        return Err((recovered.into_disk(), RunError::NoMemory));
+    };
+    let outcome = Outcome {
+        acknowledged,
+        heap,
+        answer,
+    };
+    Ok((recovered, outcome))
+}
+
+// The counts of the first lanes, so many.
+fn first_counts(counts: &[u64], lanes: u8) -> &[u64]
+    ensures { result.now ≡ take lanes counts.now }
+{
+    &counts[..counts.len().min(usize::from(lanes))]
+}
