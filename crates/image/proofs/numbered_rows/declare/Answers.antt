@@ -1,7 +1,7 @@
 use Rattle.std.proofs.Common.{refl, sym, subst}
 use Rattle.image.specs.NumberedRows.{RefusesRows}
 use Rattle.image.proofs.Numbered.{empty_of}
-use Rattle.image.proofs.rows.declare.Goals as goal
+use Rattle.image.proofs.numbered_rows.declare.Goals as goal
 
 pub returns-in-Err-build-clause-refused : goal.returns-in-Err-build-clause-refused
 returns-in-Err-build-clause-refused c =

@@ -1,7 +1,7 @@
 use Rattle.std.proofs.Common.{◌≡◌, ◌∙◌, arith}
 use Rattle.image.specs.NumberedRows.{object_name}
 use Rattle.image.proofs.Numbered.{object_refused}
-use Rattle.image.proofs.rows.declare_object.Goals as goal
+use Rattle.image.proofs.numbered_rows.declare_object.Goals as goal
 
 pub returns-clause-refused : goal.returns-clause-refused
 returns-clause-refused c =

@@ -1,6 +1,6 @@
 use Rattle.std.proofs.Common.{◌≡◌, []}
 use Rattle.image.specs.NumberedRows.{numbered}
-use Rattle.image.proofs.rows.declare_objects.Given as goal
+use Rattle.image.proofs.numbered_rows.declare_objects.Given as goal
 
 -- the objects so far are declared
 abbrev pub invariant-loop-number : goal.invariant-loop-number

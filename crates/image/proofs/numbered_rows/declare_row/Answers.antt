@@ -2,7 +2,7 @@ use Rattle.std.proofs.Common.{◌≡◌, ◌∙◌, ap, length, arith}
 use Rattle.guards.specs.Schema.{Declarations, field_count}
 use Rattle.image.specs.NumberedRows.{field_name}
 use Rattle.image.proofs.Numbered.{fields_are, row_declared, row_refused}
-use Rattle.image.proofs.rows.declare_row.Goals as goal
+use Rattle.image.proofs.numbered_rows.declare_row.Goals as goal
 
 pub returns-in-Ok-declare_named-clause-ok : goal.returns-in-Ok-declare_named-clause-ok
 returns-in-Ok-declare_named-clause-ok c = λ objects before is.

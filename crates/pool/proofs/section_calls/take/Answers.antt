@@ -1,5 +1,5 @@
 use Rattle.pool.proofs.Calling.{takes_slot}
-use Rattle.pool.proofs.calls.take.Goals as goal
+use Rattle.pool.proofs.section_calls.take.Goals as goal
 
 pub returns-clause-told : goal.returns-clause-told
 returns-clause-told c =
