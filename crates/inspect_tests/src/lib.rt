@@ -1,4 +1,4 @@
-//! Tests of: inspect, declarations, image_file.
+//! Tests of: inspect, script_declarations, image_file.
 //!
 //! Tests of the inspector and of image files by their public calls: the texts of hand-made studies, of images that a
 //! store left, and of files.

@@ -41,7 +41,7 @@ RoundLaw = (l : Layout) (t : ℕ) (s : Setting) (log : List (ℕ × Record)) (cu
 abbrev pub round_past : (log : List (ℕ × Record)) → (cut : ℕ → ℕ) → Past
 round_past log cut = record { fresh = []; logged = log; base = cut; cut = cut; is_dirty = λ f. false }
 
--- the image is one of those that recovery may be run on again and again, with this cut's heap (`again_law` of `survival`)
+-- the image is one of those that recovery may be run on again and again, with this cut's heap (`again_law` of `law_survival`)
 abbrev pub IsKeptRound : Layout → Setting → (log : List (ℕ × Record)) → (cut : ℕ → ℕ) → (image : List ℕ) → Type 0
 IsKeptRound l s log cut image = IsKept l s (round_past log cut) image
 

@@ -22,7 +22,7 @@ pub fn round_run_law()
 /// Recovery of such an image that a crash cuts off, or that answers a fault, may be run again.
 pub fn round_again_law()
     // Recovery of an image that shows a cut of what threads have logged may be cut off and run again, any number of times:
-    // `again_law` of `survival` holds of it with the cut that it shows.
+    // `again_law` of `law_survival` holds of it with the cut that it shows.
     ensures { ShownAgainLaw }
 {
     two_syncs_again_law();

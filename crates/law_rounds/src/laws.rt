@@ -23,7 +23,7 @@ pub fn two_syncs_law()
 
 /// Recovery of such an image that a crash cuts off, or that answers a fault, may be run again.
 pub fn two_syncs_again_law()
-    // Recovery of an image over a round of two syncs may be cut off and run again, any number of times: `again_law` of `survival`
+    // Recovery of an image over a round of two syncs may be cut off and run again, any number of times: `again_law` of `law_survival`
     // holds of it with the acknowledged cut.
     ensures { RoundAgainLaw }
 {

@@ -1,4 +1,4 @@
-//! Tests of: recover, survival.
+//! Tests of: recover, law_survival.
 //!
 //! Tests of recovery by its public calls: images with hand-made logs, stores that crashed, and the texts of refusals.
 //!

@@ -1,4 +1,4 @@
-//! Tests of: monitor, steps, one_monitor.
+//! Tests of: monitor, thread_steps, one_monitor.
 //!
 //! Tests of the steps on shared words, by their public calls alone: the words that they leave, and threads that take
 //! and leave monitors side by side.

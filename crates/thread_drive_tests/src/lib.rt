@@ -1,4 +1,4 @@
-//! Tests of: drive.
+//! Tests of: thread_drive.
 //!
 //! Tests of workers, by public calls alone: what they leave, that their sections run side by side, that others go on with an
 //! image of theirs, and that a failing disk ends them all.
