@@ -1,7 +1,7 @@
 use Rattle.law_running.proofs.KeptReleased.{keeps_released}
 use Rattle.law_running.proofs.Needed.{lacks_section}
 use Rattle.law_running.proofs.ReleaseLemmas.{older_released}
-use Rattle.law_running.proofs.laws.released_law.Goals as goal
+use Rattle.law_running.proofs.releases.released_law.Goals as goal
 
 pub returns-clause-released : goal.returns-clause-released
 returns-clause-released c = keeps_released c.order_law.ensures
