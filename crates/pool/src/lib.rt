@@ -17,9 +17,9 @@ mod numbered;
 mod pool;
 mod section_calls;
 
-pub use pool::{MOST_SLOTS, Pool, TAKEN};
 pub use cells::Cells;
 pub use error::PoolError;
 pub use in_section::InSection;
 pub use numbered::{first_value, free_law};
+pub use pool::{MOST_SLOTS, Pool, TAKEN};
 pub use section_calls::{give, take};

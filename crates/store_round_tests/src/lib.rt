@@ -4,6 +4,6 @@
 #![tactic(auto)]
 
 #[cfg(test)]
-mod store_rounds;
+mod made_rounds;
 #[cfg(test)]
 mod worked_rounds;
