@@ -20,7 +20,7 @@ from pathlib import Path
 sys.dont_write_bytecode = True
 TOP = Path(__file__).resolve().parent.parent
 HEAPCTL = os.environ.get("HEAPCTL", f"{TOP}/crates/heapctl/out/heapctl")
-BENCH = os.environ.get("BENCH", f"{TOP}/crates/bench/out/bench")
+BENCH = os.environ.get("BENCH", f"{TOP}/out/measure/bench/crates/bench/out/bench")
 # "root" or "user" in a namespace of mounts of its own, which tools/tests makes.
 ALONE = os.environ.get("TESTS_ALONE")
 SEED = int(os.environ.get("SEED", random.randrange(2**32)))
@@ -49,7 +49,7 @@ IN_USE = 3
 COUNTS = collections.defaultdict(collections.Counter)
 
 needs_heapctl = unittest.skipUnless(os.path.exists(HEAPCTL), "no crates/heapctl/out/heapctl (`rt ci` or `rt run` makes it)")
-needs_bench = unittest.skipUnless(os.path.exists(BENCH), "no crates/bench/out/bench (`rt run` makes it)")
+needs_bench = unittest.skipUnless(os.path.exists(BENCH), "no bench (`tools/measure bench` makes it)")
 NO_MOUNTS = "no namespace of mounts (tools/tests makes one, where `unshare` may)"
 needs_mounts = unittest.skipUnless(ALONE, NO_MOUNTS)
 needs_root = unittest.skipUnless(ALONE == "root", "no root in a namespace of mounts (tools/tests makes one)")
