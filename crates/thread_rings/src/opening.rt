@@ -1,10 +1,9 @@
 //! How a ring begins.
 
-ghost use Rattle.std.specs.Prelude.{◌≡◌, ◌<◌, ◌^◌, [], IfOk, Some};
-ghost use Rattle.rtrb.specs.Ring.{known_free, producer_capacity};
+ghost use Rattle.std.specs.Prelude.{◌≡◌, ◌<◌, ◌^◌, IfOk};
 ghost use Rattle.monitor.specs.Seats.{IsSeatOf};
 ghost use Rattle.thread_rings.specs.Following.{whose};
-ghost use Rattle.thread_rings.specs.Rings.{IsPair, received, ring_capacity, sent, whose_received, whose_ring};
+ghost use Rattle.thread_rings.specs.Rings.{AreOf, IsNewReceiver, IsNewSender, IsPair};
 
 use crate::receiver::Receiver;
 use crate::sender::Sender;
@@ -27,10 +26,10 @@ pub fn open_ring(
     ensures seat { (seat.new.table ≡ seat.old.table) × (seat.new.view ≡ seat.old.view) }
     ensures pair { IfOk result (λ r. IsPair r.0 r.1) }
     // A new ring has sent nothing, and knows all its slots to be free: the greeting takes no room.
-    ensures sender { IfOk result (λ r. (sent r.0 ≡ []) × (known_free r.0 ≡ capacity) × (producer_capacity r.0 ≡ capacity)) }
-    ensures receiver { IfOk result (λ r. (received r.1 ≡ []) × (r.1.told ≡ []) × (ring_capacity r.1 ≡ capacity)) }
+    ensures sender { IfOk result (λ r. IsNewSender capacity r.0) }
+    ensures receiver { IfOk result (λ r. IsNewReceiver capacity r.1) }
     // Both ends of a new ring know whose it is: which table of shared words, which plan and which lane.
-    ensures whose { IfOk result (λ r. (whose_ring r.0 ≡ Some (whose seat.old)) × (whose_received r.1 ≡ Some (whose seat.old))) }
+    ensures whose { IfOk result (λ r. AreOf (whose seat.old) r.0 r.1) }
 {
     let (mut ring, mut other) = RingBuffer::with_protocol::<Global, Following>(alloc, capacity)?;
     let told = Told::of(shared.witness(seat));

@@ -1,9 +1,10 @@
 //! The helper's end of a ring.
 
 ghost use Rattle.std.specs.Prelude.{◌≡◌, ◌<◌, [], ◌∷◌, ◌++◌, IfNone, IfSome, MatchOption, length};
-ghost use Rattle.thread_rings.specs.Following.{to_release};
 ghost use Rattle.thread_rings.specs.Following as follows;
-ghost use Rattle.thread_rings.specs.Rings.{IsPair, ReceiverLooked, SameReceiver, SenderLooked, TellsLast, known_records, received, sent, whose_received};
+ghost use Rattle.thread_rings.specs.Rings.{GivesWitness, IsPair, KeepsWitness, ReceiverLooked, SameReceiver};
+ghost use Rattle.thread_rings.specs.Rings.{SameRecords, SenderLooked, Takes, TakesNext, known_records, received};
+ghost use Rattle.thread_rings.specs.Rings.{sent, whose_received};
 
 use crate::sender::Sender;
 use crate::sent::{Following, Sent};
@@ -63,7 +64,7 @@ impl Receiver {
         self.ring.slots()
     }
 
-    /// The same, beside the ring's other end: what was taken and what is left is what was sent.
+    /// The same where the ring's other end is at hand: what was taken and what is left is what was sent.
     pub fn slots_beside(&mut self, sender: &mut Sender) -> usize
         requires { IsPair sender.old self.old }
         // A look loses nothing.
@@ -76,18 +77,18 @@ impl Receiver {
         self.ring.slots_beside(&mut sender.ring)
     }
 
-    /// Takes the next record that is known to be in the ring. The witness that comes with a release it keeps, in place of the one before.
+    /// Takes the next record that is known to be in the ring. It keeps the witness that comes with a release, in place of the last one.
     #[inline(always)]
     pub fn pop_known(&mut self) -> Record
         requires { 0 < length (known_records self.old) }
         // The end stays that of the same ring.
         ensures ring { SameReceiver self.old self.new }
         // The record that is taken is the first of those that are known to be in the ring.
-        ensures received { (received self.new ≡ received self.old ++ result ∷ []) × (known_records self.old ≡ result ∷ known_records self.new) }
+        ensures received { Takes result self.old self.new }
         // The ring stays the ring of the same lane.
         ensures whose { whose_received self.new ≡ whose_received self.old }
         // Where no witness is kept, no release was taken since one was given out.
-        ensures untold { self.new.told ≡ [] → (self.old.told ≡ []) × (to_release (received self.new) ≡ to_release (received self.old)) }
+        ensures untold { KeepsWitness self.old self.new }
     {
         let Sent { entry, told } = self.ring.pop_known();
         if is_release(entry) {
@@ -97,7 +98,27 @@ impl Receiver {
         entry
     }
 
-    /// Takes the next record, if there is one, as [`pop_known`](Self::pop_known) does.
+    /// Takes the next record that is known to be in the ring, if one is, as [`pop_known`](Self::pop_known) does.
+    #[inline(always)]
+    pub fn next_known(&mut self) -> Option<Record>
+        // The end stays that of the same ring.
+        ensures ring { SameReceiver self.old self.new }
+        // The next of the records that are known to be in the ring is taken, if there is one.
+        ensures next { TakesNext self.old self.new result }
+        // The ring stays the ring of the same lane.
+        ensures whose { whose_received self.new ≡ whose_received self.old }
+        // Where no witness is kept, no release was taken since one was given out.
+        ensures untold { KeepsWitness self.old self.new }
+    {
+        let known = self.cached_slots();
+        if known == 0 {
+            return None;
+        }
+        let next = self.pop_known();
+        Some(next)
+    }
+
+    /// Takes the next record, if there is one, as [`pop_known`](Self::pop_known) does. It looks at the ring only if none is known.
     pub fn pop(&mut self) -> Option<Record>
         ensures ring { SameReceiver self.old self.new }
         ensures some { IfSome result (λ x. received self.new ≡ received self.old ++ x ∷ []) }
@@ -105,7 +126,7 @@ impl Receiver {
         // The ring stays the ring of the same lane.
         ensures whose { whose_received self.new ≡ whose_received self.old }
         // Where no witness is kept, no release was taken since one was given out.
-        ensures untold { self.new.told ≡ [] → (self.old.told ≡ []) × (to_release (received self.new) ≡ to_release (received self.old)) }
+        ensures untold { KeepsWitness self.old self.new }
     {
         if self.cached_slots() == 0 {
             if self.slots() == 0 {
@@ -119,14 +140,14 @@ impl Receiver {
     /// that release.
     pub fn take_witness(&mut self) -> Option<Witness>
         ensures ring { SameReceiver self.old self.new }
-        ensures received { (received self.new ≡ received self.old) × (known_records self.new ≡ known_records self.old) }
+        ensures received { SameRecords self.old self.new }
         // The ring stays the ring of the same lane.
         ensures whose { whose_received self.new ≡ whose_received self.old }
         // A witness that was given out is kept no more.
         ensures left { self.new.told ≡ [] }
         // A witness that is given out is that of the last release taken: its lane had logged just what was taken up to
         // that release.
-        ensures told { MatchOption result (self.old.told ≡ []) (λ w. (self.old.told ≡ w ∷ []) × TellsLast (whose_received self.old) (received self.old) w) }
+        ensures told { MatchOption result (self.old.told ≡ []) (λ w. GivesWitness w self.old) }
     {
         if !self.is_told {
             return None;

@@ -4,7 +4,7 @@ ghost use Rattle.std.specs.Prelude.{◌≡◌, ◌+◌, ◌<◌, ◌≤◌, [], 
 ghost use Rattle.rtrb.specs.Ring.{SameProducer, known_free, producer_capacity};
 ghost use Rattle.monitor.specs.Seats.{IsSeatOf};
 ghost use Rattle.thread_rings.specs.Following.{is_release, logged_in, whose};
-ghost use Rattle.thread_rings.specs.Rings.{SenderLooked, sent, whose_ring};
+ghost use Rattle.thread_rings.specs.Rings.{SenderLooked, Sends, sent, whose_ring};
 
 use crate::sent::{Following, Sent};
 use heap_model::Record;
@@ -60,7 +60,7 @@ impl Sender {
         // The end stays that of the same ring.
         ensures ring { SameProducer self.old self.new }
         // A record that is sent comes after all that was sent before, and takes one free slot.
-        ensures sent { (sent self.new ≡ sent self.old ++ entry ∷ []) × (known_free self.old ≡ known_free self.new + 1) }
+        ensures sent { Sends entry self.old self.new }
         // The ring stays the ring of the same lane.
         ensures whose { whose_ring self.new ≡ whose_ring self.old }
     {
@@ -84,7 +84,7 @@ impl Sender {
         // The end stays that of the same ring.
         ensures ring { SameProducer self.old self.new }
         // A record that is sent comes after all that was sent before, and takes one free slot.
-        ensures sent { (sent self.new ≡ sent self.old ++ entry ∷ []) × (known_free self.old ≡ known_free self.new + 1) }
+        ensures sent { Sends entry self.old self.new }
         // The ring stays the ring of the same lane.
         ensures whose { whose_ring self.new ≡ whose_ring self.old }
     {
