@@ -156,7 +156,7 @@ fn the_header_has_the_limits_and_numbers_of_the_library() {
         ("MOST_THIN_LOCKS", "steps/src/limits.rt", "THIN_LOCKS"),
         ("MOST_FAT", "lock_word/src/lock_word.rt", "FAT_SLOTS"),
         ("MOST_BYTES", "disk_deferred/src/call.rt", "MOST_BYTES"),
-        ("HEAD_BYTES", "image/src/layout.rt", "HEAD_BYTES"),
+        ("HEAD_BYTES", "image_parts/src/layout.rt", "HEAD_BYTES"),
         ("MOST_SLOTS", "pool/src/pool.rt", "MOST_SLOTS"),
         ("NO_SLOT", "zelamiku/src/pool_calls.rt", "NO_SLOT"),
         ("NOBODY", "zelamiku/src/session_calls.rt", "NOBODY"),

@@ -11,8 +11,8 @@ use Rattle.heap_model.specs.Cuts.{IsStable, counts_of}
 use Rattle.block_disk.specs.Device.{Device}
 use Rattle.block_disk.specs.Images.{LeavesOnly}
 use Rattle.block_disk.proofs.Images.{image_now, weaker}
-use Rattle.image.specs.declared.lane_row.LaneRow.{LaneRow}
-use Rattle.image.specs.declared.layout.Layout.{Layout}
+use Rattle.image_parts.specs.declared.lane_row.LaneRow.{LaneRow}
+use Rattle.image_parts.specs.declared.layout.Layout.{Layout}
 use Rattle.undo_log.specs.Dropped.{undo_logs}
 use Rattle.undo_log.specs.StandsFor.{row_of}
 use Rattle.undo_log.proofs.Back.{length_undo}

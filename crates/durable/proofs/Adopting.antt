@@ -3,11 +3,11 @@ use Rattle.std.proofs.Common.{ℕ, ◌≡◌, ◌<◌, ◌≤◌, Bool, true, fa
 use Rattle.std.proofs.lemmas.List.{get_or_default}
 use Rattle.heap_model.specs.Setting.{Setting}
 use Rattle.block_disk.specs.Device.{Device}
-use Rattle.image.specs.Guards.{no_row}
-use Rattle.image.specs.Recovered.{IsRecovered}
-use Rattle.image.specs.declared.guard_row.GuardRow.{GuardRow}
-use Rattle.image.specs.declared.layout.Layout.{Layout}
-use Rattle.image.specs.declared.slot.Slot.{Slot}
+use Rattle.image_parts.specs.Guards.{no_row}
+use Rattle.image_parts.specs.Recovered.{IsRecovered}
+use Rattle.image_parts.specs.declared.guard_row.GuardRow.{GuardRow}
+use Rattle.image_parts.specs.declared.layout.Layout.{Layout}
+use Rattle.image_parts.specs.declared.slot.Slot.{Slot}
 use Rattle.heap_model.specs.Past.{no_past}
 use Rattle.store_memory.specs.Begin.{AreFieldsOf}
 use Rattle.durable.specs.Begin.{HasRows, IsSettingOf}

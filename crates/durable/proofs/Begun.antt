@@ -10,15 +10,15 @@ use Rattle.heap_model.specs.Sections.{Earlier, Took}
 use Rattle.heap_model.specs.Cuts.{IsClosed}
 use Rattle.block_disk.specs.Device.{Device}
 use Rattle.block_disk.proofs.Images.{always_only}
-use Rattle.image.specs.Cells.{HasCell}
-use Rattle.image.specs.Control.{empty_control}
-use Rattle.image.specs.Guards.{no_row}
-use Rattle.image.specs.Recovered.{IsRecovered}
-use Rattle.image.specs.Rows.{empty_row}
-use Rattle.image.specs.declared.guard_row.GuardRow.{GuardRow}
-use Rattle.image.specs.declared.lane_row.LaneRow.{LaneRow}
-use Rattle.image.specs.declared.layout.Layout.{Layout}
-use Rattle.image.specs.declared.slot.Slot.{Slot}
+use Rattle.image_parts.specs.Cells.{HasCell}
+use Rattle.image_parts.specs.Control.{empty_control}
+use Rattle.image_parts.specs.Guards.{no_row}
+use Rattle.image_parts.specs.Recovered.{IsRecovered}
+use Rattle.image_parts.specs.Rows.{empty_row}
+use Rattle.image_parts.specs.declared.guard_row.GuardRow.{GuardRow}
+use Rattle.image_parts.specs.declared.lane_row.LaneRow.{LaneRow}
+use Rattle.image_parts.specs.declared.layout.Layout.{Layout}
+use Rattle.image_parts.specs.declared.slot.Slot.{Slot}
 use Rattle.image.proofs.Commits.{steady_now}
 use Rattle.undo_log.specs.StandsFor.{AreRowsOf, guard_in, is_transient_in}
 use Rattle.heap_model.specs.Past.{Past, IsPast, applied, no_past, after_apply}

@@ -8,7 +8,7 @@ use Rattle.heap_model.specs.KeptHeap.{kept_value}
 use Rattle.law_cuts.proofs.Next.{legal_before}
 use Rattle.block_disk.specs.Device.{Device}
 use Rattle.block_disk.specs.Images.{Always}
-use Rattle.image.specs.Cells.{HasCell}
+use Rattle.image_parts.specs.Cells.{HasCell}
 use Rattle.undo_log.specs.StandsFor.{StandsFor}
 use Rattle.heap_model.specs.Past.{Past, applied}
 use Rattle.store_image.specs.KeptHeap.{values_below, kept_heap, StandsForCut}

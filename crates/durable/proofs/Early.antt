@@ -3,7 +3,7 @@ use Rattle.std.proofs.Common.{ℕ, zero, suc, ◌≡◌, ◌<◌, ◌≤◌, ◌
 use Rattle.heap_model.specs.Setting.{Setting}
 use Rattle.block_disk.specs.Device.{Device, Moment, LeftIn, LeftSince}
 use Rattle.block_disk.specs.Images.{Continues, LeavesOnly}
-use Rattle.image.specs.declared.layout.Layout.{Layout}
+use Rattle.image_parts.specs.declared.layout.Layout.{Layout}
 use Rattle.heap_model.specs.Past.{Past}
 use Rattle.durable.specs.Calls.{MakeAll, ShowsAfterSome}
 use Rattle.durable.specs.Moments.{LeftBetween, LeftUpTo}

@@ -8,8 +8,8 @@ use Rattle.heap_model.specs.declared.record.Record.TheVariants.{Acq, Rel, WaitRe
 use Rattle.heap_model.specs.Record.{undo_of}
 use Rattle.heap_model.specs.Setting.{Setting}
 use Rattle.heap_model.specs.Log.{lane, holder, number, IsAllowed, IsLegal, IsRecordOf}
-use Rattle.image.specs.Layout.{IsLayout}
-use Rattle.image.specs.declared.layout.Layout.{Layout}
+use Rattle.image_parts.specs.Layout.{IsLayout}
+use Rattle.image_parts.specs.declared.layout.Layout.{Layout}
 use Rattle.undo_log.specs.Area.{IsLoggable}
 use Rattle.undo_log.specs.Dropped.{undo_logs}
 use Rattle.store_memory.specs.Limits.{FitsWord, FitWords}

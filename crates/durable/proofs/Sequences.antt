@@ -3,7 +3,7 @@ use Rattle.std.proofs.Common.{ℕ, ◌≡◌, ◌+◌, ◌≤◌, List, refl, sy
 use Rattle.block_disk.specs.Device.{Device}
 use Rattle.block_disk.specs.Images.{LeavesOnly}
 use Rattle.block_disk.proofs.Images.{and_then, begin, weaker}
-use Rattle.image.specs.declared.layout.Layout.{Layout}
+use Rattle.image_parts.specs.declared.layout.Layout.{Layout}
 use Rattle.store_image.specs.Sequences.{ShowsUpTo}
 use Rattle.durable.specs.Store.{Known}
 use Rattle.durable.specs.Runs.{TakesSequences}

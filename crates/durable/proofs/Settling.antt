@@ -11,7 +11,7 @@ use Rattle.heap_model.specs.Cuts.{IsStable, counts_of}
 use Rattle.heap_model.specs.declared.record.Record.{Record}
 use Rattle.block_disk.specs.Device.{Device}
 use Rattle.block_disk.specs.Images.{LeavesOnly}
-use Rattle.image.specs.declared.layout.Layout.{Layout}
+use Rattle.image_parts.specs.declared.layout.Layout.{Layout}
 use Rattle.store_image.specs.Consistent.{ShowsEither}
 use Rattle.store_image.specs.KeptHeap.{StandsForEither}
 use Rattle.store_image.specs.Steps.{MaySettle}

@@ -9,7 +9,7 @@ use Rattle.heap_model.specs.Sections.{actions}
 use Rattle.heap_model.specs.Cuts.{IsStable}
 use Rattle.law_cuts.proofs.Stays.{cut_stays}
 use Rattle.block_disk.specs.Device.{Device}
-use Rattle.image.specs.declared.layout.Layout.{Layout}
+use Rattle.image_parts.specs.declared.layout.Layout.{Layout}
 use Rattle.undo_log.specs.Dropped.{undo_logs}
 use Rattle.undo_log.specs.StandsFor.{StandsFor}
 use Rattle.heap_model.specs.Past.{Past, IsPast, applied, after_log, after_settle, after_trim}

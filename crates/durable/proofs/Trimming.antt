@@ -9,7 +9,7 @@ use Rattle.heap_model.specs.Log.{lane}
 use Rattle.heap_model.specs.Cuts.{counts_of}
 use Rattle.block_disk.specs.Device.{Device}
 use Rattle.block_disk.proofs.Images.{image_now}
-use Rattle.image.specs.declared.lane_row.LaneRow.{LaneRow}
+use Rattle.image_parts.specs.declared.lane_row.LaneRow.{LaneRow}
 use Rattle.undo_log.specs.Dropped.{undo_logs}
 use Rattle.undo_log.specs.StandsFor.{row_of}
 use Rattle.undo_log.proofs.Back.{length_undo}

@@ -1,8 +1,8 @@
 -- With what a store begins (this project's own).
 use Rattle.std.specs.Prelude.{ℕ, ◌≡◌, ◌<◌, not, List, length, slice_index, slice_index_or}
 use Rattle.heap_model.specs.Setting.{Setting}
-use Rattle.image.specs.declared.guard_row.GuardRow.{GuardRow}
-use Rattle.image.specs.declared.layout.Layout.{Layout}
+use Rattle.image_parts.specs.declared.guard_row.GuardRow.{GuardRow}
+use Rattle.image_parts.specs.declared.layout.Layout.{Layout}
 use Rattle.store_memory.specs.declared.states.FieldState.{FieldState}
 use Rattle.store_memory.specs.Memory.{field_in}
 

@@ -8,7 +8,7 @@ use Rattle.heap_model.specs.Cuts.{IsStable}
 use Rattle.block_disk.specs.Device.{Device, LeftSince}
 use Rattle.block_disk.specs.Images.{LeavesOnly}
 use Rattle.durable.specs.Moments.{LeftUpTo}
-use Rattle.image.specs.declared.layout.Layout.{Layout}
+use Rattle.image_parts.specs.declared.layout.Layout.{Layout}
 use Rattle.heap_model.specs.declared.store_error.StoreError.{StoreError}
 use Rattle.heap_model.specs.declared.store_error.StoreError.TheVariants.{Failed, Worn, Unwritten, Fault, Unfinished}
 use Rattle.store_image.specs.declared.home.Home.{Home}

@@ -5,8 +5,8 @@ use Rattle.heap_model.specs.Sections.{actions}
 use Rattle.heap_model.specs.Cuts.{IsStable}
 use Rattle.block_disk.specs.Device.{Device}
 use Rattle.block_disk.specs.Images.{Always}
-use Rattle.image.specs.Layout.{IsLayout}
-use Rattle.image.specs.declared.layout.Layout.{Layout}
+use Rattle.image_parts.specs.Layout.{IsLayout}
+use Rattle.image_parts.specs.declared.layout.Layout.{Layout}
 use Rattle.undo_log.specs.Dropped.{undo_logs, records_in}
 use Rattle.heap_model.specs.Past.{Past, IsPast, after_log, after_settle, after_trim}
 use Rattle.store_image.specs.Consistent.{TellsCut, ShowsPast, IsConsistent}

@@ -2,7 +2,7 @@
 ghost use Rattle.std.specs.Prelude.{◌≡◌, ◌≢◌, ◌⊎◌, ◌+◌, ◌-◌, ◌<◌, ◌≤◌, ◌^◌, ℕ, [], true, false, length, slice_index, Ok, IfErr, IfOk, IsErrOf, OnErr, OnOk};
 ghost use Rattle.heap_model.specs.Setting.{Setting};
 ghost use Rattle.heap_model.specs.Cuts.{counts_of};
-ghost use Rattle.image.specs.Layout.{IsLayout};
+ghost use Rattle.image_parts.specs.Layout.{IsLayout};
 ghost use Rattle.undo_log.specs.StandsFor.{row_of};
 ghost use Rattle.durable.specs.Begin.{HasRows, IsSettingOf};
 ghost use Rattle.store_memory.specs.Memory.{lane_in};

@@ -4,7 +4,7 @@ use Rattle.heap_model.specs.declared.event.Event.{Event}
 use Rattle.heap_model.specs.Cuts.{counts_of}
 use Rattle.heap_model.specs.Setting.{Setting}
 use Rattle.block_disk.specs.Device.{Device}
-use Rattle.image.specs.declared.layout.Layout.{Layout}
+use Rattle.image_parts.specs.declared.layout.Layout.{Layout}
 use Rattle.recover.specs.Recovery.{IsRecovery, OneStudyLaw, RefusesRecovery}
 use Rattle.recover.specs.declared.report.Report.{Report}
 use Rattle.heap_model.specs.Past.{Past}

@@ -6,7 +6,7 @@ use Rattle.heap_model.specs.History.{IsLegalHistory, log_of}
 use Rattle.heap_model.specs.Sections.{actions}
 use Rattle.heap_model.specs.Setting.{Setting}
 use Rattle.block_disk.specs.Device.{Device}
-use Rattle.image.specs.declared.layout.Layout.{Layout}
+use Rattle.image_parts.specs.declared.layout.Layout.{Layout}
 use Rattle.monitor.specs.Seats.{Home}
 use Rattle.thread_steps.specs.Views.{plan}
 use Rattle.store_image.specs.KeptHeap.{kept_heap}

@@ -4,14 +4,14 @@ use Rattle.block_disk.specs.Bytes.{spliced}
 use Rattle.block_disk.specs.Device.{range_of}
 use Rattle.block_disk.proofs.Bytes.{length_spliced, spliced_above, spliced_at, spliced_below}
 use Rattle.block_disk.proofs.Ranges.{part_same, spliced_same}
-use Rattle.image.specs.Control.{Spells}
-use Rattle.image.specs.Slots.{Chooses, body, gate, other, slot_at}
-use Rattle.image.specs.declared.control.Control.{Control}
-use Rattle.image.specs.declared.error.ControlError.{ControlError}
-use Rattle.image.specs.declared.error.ControlError.TheVariants.{Fault, NoControl, BadControl}
-use Rattle.image.specs.declared.layout.Layout.{Layout}
-use Rattle.image.specs.declared.slot.Slot.{Slot}
-use Rattle.image.specs.declared.slot.Slot.TheVariants.{A, B}
+use Rattle.image_parts.specs.Control.{Spells}
+use Rattle.image_parts.specs.Slots.{Chooses, body, gate, other, slot_at}
+use Rattle.image_parts.specs.declared.control.Control.{Control}
+use Rattle.image_parts.specs.declared.error.ControlError.{ControlError}
+use Rattle.image_parts.specs.declared.error.ControlError.TheVariants.{Fault, NoControl, BadControl}
+use Rattle.image_parts.specs.declared.layout.Layout.{Layout}
+use Rattle.image_parts.specs.declared.slot.Slot.{Slot}
+use Rattle.image_parts.specs.declared.slot.Slot.TheVariants.{A, B}
 use Rattle.heapctl_commands.specs.Heads.{HoldsAlone, alone_of}
 
 abbrev shut_byte : List ℕ

@@ -1,12 +1,12 @@
 -- What a slot of an image's control holds, by the image's first bytes.
 use Rattle.std.specs.Prelude.{◌≡◌, ◌≢◌, ℕ, List, Result, Ok, Err}
-use Rattle.image.specs.Control.{Spells}
-use Rattle.image.specs.Slots.{body, gate}
-use Rattle.image.specs.declared.control.Control.{Control}
-use Rattle.image.specs.declared.error.ControlError.{ControlError}
-use Rattle.image.specs.declared.error.ControlError.TheVariants.{Fault, NoControl, BadControl}
-use Rattle.image.specs.declared.layout.Layout.{Layout}
-use Rattle.image.specs.declared.slot.Slot.{Slot}
+use Rattle.image_parts.specs.Control.{Spells}
+use Rattle.image_parts.specs.Slots.{body, gate}
+use Rattle.image_parts.specs.declared.control.Control.{Control}
+use Rattle.image_parts.specs.declared.error.ControlError.{ControlError}
+use Rattle.image_parts.specs.declared.error.ControlError.TheVariants.{Fault, NoControl, BadControl}
+use Rattle.image_parts.specs.declared.layout.Layout.{Layout}
+use Rattle.image_parts.specs.declared.slot.Slot.{Slot}
 
 -- a control without the slot that it was chosen of
 abbrev pub alone_of : Result (Slot × Control) ControlError → Result Control ControlError

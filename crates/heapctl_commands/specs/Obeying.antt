@@ -9,8 +9,8 @@ use Rattle.script_lines.specs.Endings.{OfScript}
 use Rattle.script_play.specs.Runs.{Ends}
 use Rattle.inspect.specs.StudyText.{study_text}
 use Rattle.script_lines.specs.declared.error.ScriptError.{ScriptError}
-use Rattle.image.specs.declared.slot.Slot.{Slot}
-use Rattle.image.specs.declared.slot.Slot.TheVariants.{A, B}
+use Rattle.image_parts.specs.declared.slot.Slot.{Slot}
+use Rattle.image_parts.specs.declared.slot.Slot.TheVariants.{A, B}
 use Rattle.image_file.specs.declared.error.ImageFault.{ImageFault}
 use Rattle.image_file.specs.declared.error.ImageFault.TheVariants as images
 use Rattle.image_file.specs.declared.error.NamedFault.{NamedFault}

@@ -7,8 +7,8 @@ use Rattle.block_disk.specs.Memory.{Memory, device_of}
 use Rattle.thread_drive.specs.Driven.{HasDriven, HasDrivenOn, blank_device}
 use Rattle.thread_drive.specs.declared.driven.Driven.{Driven}
 use Rattle.thread_drive.specs.Schemas.{HoldsWorkers, schema_of}
-use Rattle.image.specs.Recovered.{Parts}
-use Rattle.image.specs.declared.layout.Layout.{Layout}
+use Rattle.image_parts.specs.Recovered.{Parts}
+use Rattle.image_parts.specs.declared.layout.Layout.{Layout}
 use Rattle.image_file.specs.Formatting.{IsImageFor}
 use Rattle.image_file.specs.Images.{IsThere}
 use Rattle.image_file.specs.declared.new_image.NewImage.{NewImage}

@@ -1,6 +1,6 @@
 //! The first bytes of a damaged image: its header and both slots of its control, each read by itself.
 ghost use Rattle.std.specs.Prelude.{◌≡◌, IfOk};
-ghost use Rattle.image.specs.Slots.{Chooses};
+ghost use Rattle.image_parts.specs.Slots.{Chooses};
 ghost use Rattle.heapctl_commands.specs.Heads.{HoldsAlone, alone_of};
 
 use block_disk::{Disk, put};

@@ -1,9 +1,9 @@
 -- The schema of numbered objects and fields is the image's.
 use Rattle.std.proofs.Common.{ℕ, ◌≡◌, ◌+◌, ◌<◌, List, length, sym, ◌∙◌, arith}
-use Rattle.image.specs.declared.guard_row.GuardRow.{GuardRow}
-use Rattle.image.specs.declared.layout.Layout.{Layout}
-use Rattle.image.proofs.Numbered.{objects_are, fields_are, guard_at, mark_at}
-use Rattle.image.specs.NumberedRows.{numbered}
+use Rattle.image_parts.specs.declared.guard_row.GuardRow.{GuardRow}
+use Rattle.image_parts.specs.declared.layout.Layout.{Layout}
+use Rattle.image_parts.proofs.Numbered.{objects_are, fields_are, guard_at, mark_at}
+use Rattle.image_parts.specs.NumberedRows.{numbered}
 use Rattle.trim_helper.specs.Opening.{FitsSchema}
 
 -- a schema that is made of an image's guard rows fits the image

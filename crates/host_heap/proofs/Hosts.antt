@@ -6,9 +6,9 @@ use Rattle.disk_deferred.specs.Deferred.{Deferred}
 use Rattle.disk_deferred.specs.Host.{Host, IsHostOf, host_name}
 use Rattle.disk_deferred.proofs.Names.{consumer_name}
 use Rattle.store_rounds.specs.Store.{Known}
-use Rattle.image.specs.Calls.{Call, Write, Sync, after, after_one}
-use Rattle.image.specs.Recovered.{Parts as Recovered}
-use Rattle.image.specs.declared.layout.Layout.{Layout}
+use Rattle.image_parts.specs.Calls.{Call, Write, Sync, after, after_one}
+use Rattle.image_parts.specs.Recovered.{Parts as Recovered}
+use Rattle.image_parts.specs.declared.layout.Layout.{Layout}
 use Rattle.monitor.specs.Seats.{Helping, Home}
 use Rattle.recover.specs.Ending.{end_calls}
 use Rattle.recover.specs.Putting.{put_calls}

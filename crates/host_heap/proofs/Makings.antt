@@ -2,10 +2,10 @@
 use Rattle.std.proofs.Common.{ℕ, ◌≡◌, ◌≤◌, List, length, arith}
 use Rattle.block_disk.specs.Device.{Device}
 use Rattle.guards.specs.Schema.{Declarations}
-use Rattle.image.specs.Layout.{size_of}
-use Rattle.image.specs.declared.error.ImageError.{ImageError}
-use Rattle.image.specs.declared.error.ImageError.TheVariants.{Fault, BadHeader, Worn, TooSmall, NoMemory}
-use Rattle.image.specs.declared.guard_row.GuardRow.{GuardRow}
+use Rattle.image_parts.specs.Layout.{size_of}
+use Rattle.image_parts.specs.declared.error.ImageError.{ImageError}
+use Rattle.image_parts.specs.declared.error.ImageError.TheVariants.{Fault, BadHeader, Worn, TooSmall, NoMemory}
+use Rattle.image_parts.specs.declared.guard_row.GuardRow.{GuardRow}
 use Rattle.store_image.specs.Formatting.{RefusesFormat, layout_with}
 use Rattle.host_heap.specs.Opening.{RefusesMaking}
 use Rattle.host_heap.specs.declared.error.HostError.TheVariants.{Image}

@@ -3,8 +3,8 @@ use Rattle.std.specs.Prelude.{ℕ, ◌≡◌, ◌≤◌, List, All, length}
 use Rattle.std.specs.List.{range_with_len}
 use Rattle.disk_deferred.specs.Deferred.{Deferred}
 use Rattle.disk_deferred.specs.Host.{Host, IsHostOf}
-use Rattle.image.specs.Layout.{IsLayout}
-use Rattle.image.specs.declared.layout.Layout.{Layout}
+use Rattle.image_parts.specs.Layout.{IsLayout}
+use Rattle.image_parts.specs.declared.layout.Layout.{Layout}
 use Rattle.monitor.specs.Seats.{Home}
 use Rattle.thread_heap.specs.Joined.{IsHelping}
 use Rattle.trim_helper.specs.Parts.{Parts}

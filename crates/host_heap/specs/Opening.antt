@@ -9,12 +9,12 @@ use Rattle.disk_deferred.specs.Host.{Host, IsHostOf, host_name}
 use Rattle.guards.specs.Schema.{Declarations}
 use Rattle.guards.specs.declared.error.SchemaError.TheVariants as schemas
 use Rattle.heap_model.specs.declared.limits.TheConstants.{LAST_NUMBER}
-use Rattle.image.specs.Calls.{after}
-use Rattle.image.specs.Format.{format_calls}
-use Rattle.image.specs.Layout.{size_of}
-use Rattle.image.specs.Recovered.{Parts}
-use Rattle.image.specs.declared.error.ImageError.TheVariants as images
-use Rattle.image.specs.declared.guard_row.GuardRow.{GuardRow}
+use Rattle.image_parts.specs.Calls.{after}
+use Rattle.image_parts.specs.Format.{format_calls}
+use Rattle.image_parts.specs.Layout.{size_of}
+use Rattle.image_parts.specs.Recovered.{Parts}
+use Rattle.image_parts.specs.declared.error.ImageError.TheVariants as images
+use Rattle.image_parts.specs.declared.guard_row.GuardRow.{GuardRow}
 use Rattle.recover.specs.Recovery.{IsOnTheWay, IsRecovery, IsTooOld, RefusesOf}
 use Rattle.recover.specs.Study.{IsStudyOf}
 use Rattle.recover.specs.declared.studied.Study.{Study}
@@ -26,7 +26,7 @@ use Rattle.store_image.specs.Formatting.{AreLimits, layout_with}
 use Rattle.heap_model.specs.Past.{no_past}
 use Rattle.trim_helper.specs.Parts.{IsServing}
 use Rattle.host_heap.specs.Hosting.{Hosting, hosted_device}
-use Rattle.image.specs.NumberedRows.{RefusesRows, numbered}
+use Rattle.image_parts.specs.NumberedRows.{RefusesRows, numbered}
 use Rattle.host_heap.specs.declared.error.HostError.{HostError}
 use Rattle.host_heap.specs.declared.error.HostError.TheVariants.{NoMemory, Schema, Image, Recover}
 

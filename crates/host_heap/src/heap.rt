@@ -67,7 +67,7 @@ impl HostedHeap {
     ghost use Rattle.host_heap.specs.Failing.{HasTold, failed_call};
     ghost use Rattle.host_heap.specs.declared.error.FailedCall.TheVariants as FailedCalls;
     ghost use Rattle.host_heap.specs.declared.error.AcknowledgedError.TheVariants.{BadLane, CallsLeft};
-    ghost use Rattle.image.specs.Layout.{size_of};
+    ghost use Rattle.image_parts.specs.Layout.{size_of};
     ghost use Rattle.thread_steps.specs.Views.{plan};
     ghost use Rattle.heap_model.specs.Past.{Past, applied};
     ghost use Rattle.store_helper_sections.specs.Image.{ShowsCutOf};

@@ -7,20 +7,18 @@ use Rattle.block_disk.specs.Device.{Range, Device, Moment, Image, SameOutside, S
 use Rattle.block_disk.proofs.Bytes.{get_or_part, part_part, part_spliced, spliced_at}
 use Rattle.block_disk.proofs.Images.{always_only, image_now, besides_then, besides_none, now_too, weaker, follows}
 use Rattle.block_disk.specs.Bytes.{part, spliced}
-use Rattle.image.specs.Control.{Spells}
-use Rattle.image.specs.Slots.{other, slot_at, gate, body, sequence_of, Shows, slot_range, body_at}
-use Rattle.image.specs.declared.layout.Layout.{Layout}
-use Rattle.image.specs.declared.control.Control.{Control}
-use Rattle.image.specs.declared.slot.Slot.{Slot}
-use Rattle.image.specs.declared.slot.Slot.TheVariants.{A, B}
+use Rattle.image_parts.specs.Control.{Spells}
+use Rattle.image_parts.specs.Slots.{other, slot_at, gate, body, sequence_of, Shows, slot_range, body_at}
+use Rattle.image_parts.specs.declared.layout.Layout.{Layout}
+use Rattle.image_parts.specs.declared.control.Control.{Control}
+use Rattle.image_parts.specs.declared.slot.Slot.{Slot}
+use Rattle.image_parts.specs.declared.slot.Slot.TheVariants.{A, B}
 use Rattle.block_disk.specs.Images.{ImageBut, LeavesOnly, Always, IsApart, Survives}
 use Rattle.block_disk.proofs.Ranges.{part_same, outside_wider, outside_none, outside_refl}
+use Rattle.image_parts.proofs.SlotLemmas.{sequence_spelled, gate_clear, body_clear, shows_survives}
+use Rattle.image_parts.proofs.CallLemmas.{after-append}
 use Rattle.image.specs.Commit.{IsSteady, OldOrNew, ClosedOrSame, closing_calls, body_calls, commit_calls}
-use Rattle.image.specs.Calls.{Call, Write, Sync, after, after_one}
-
-pub sequence_spelled : (l : Layout) (bytes : List ℕ) (c : Control) → Spells l bytes c → sequence_of bytes ≡ c.sequence
-unfolding sequence_of
-sequence_spelled l bytes c s = ap (λ (b : List ℕ). from_be_bytes w64 (part 0 8 b)) s.bytes ∙ from_be_bytes-to_be_bytes_8 c.sequence s.valid.sequence.1
+use Rattle.image_parts.specs.Calls.{Call, Write, Sync, after, after_one}
 
 -- bytes that are all on the disk
 abbrev pub whole : List ℕ → Moment
@@ -226,33 +224,6 @@ steady_now l d s c none shows = record {
   gate = always_only d (λ image. gate (other s) image ≡ gate (other s) d.now.bytes) none refl;
 }
 
--- bytes outside of the slots
-
-gate_clear : (s : Slot) (rs : List Range) (xs ys : List ℕ) → IsApart 64 2096 rs → SameOutside rs xs ys → 2160 ≤ length xs → gate s ys ≡ gate s xs
-gate_clear A rs xs ys apart same room =
-    let is = part_same 64 2096 rs xs ys same apart (omega arith) in
-    sym (get_or_part 64 2096 ys 0 (omega arith)) ∙ ap (λ (b : List ℕ). get_or b 0 0) is ∙ get_or_part 64 2096 xs 0 (omega arith)
-gate_clear B rs xs ys apart same room =
-    let is = part_same 64 2096 rs xs ys same apart (omega arith) in
-    sym (get_or_part 64 2096 ys 1048 (omega arith)) ∙ ap (λ (b : List ℕ). get_or b 1048 0) is ∙ get_or_part 64 2096 xs 1048 (omega arith)
-
-body_clear : (s : Slot) (rs : List Range) (xs ys : List ℕ) → IsApart 64 2096 rs → SameOutside rs xs ys → 2160 ≤ length xs → body s ys ≡ body s xs
-body_clear A rs xs ys apart same room =
-    let is = part_same 64 2096 rs xs ys same apart (omega arith) in
-    sym (part_part 8 1040 64 2096 ys (omega arith)) ∙ ap (part 8 1040) is ∙ part_part 8 1040 64 2096 xs (omega arith)
-body_clear B rs xs ys apart same room =
-    let is = part_same 64 2096 rs xs ys same apart (omega arith) in
-    sym (part_part 1056 1040 64 2096 ys (omega arith)) ∙ ap (part 1056 1040) is ∙ part_part 1056 1040 64 2096 xs (omega arith)
-
-pub shows_survives : (l : Layout) (s : Slot) (c : Control) (rs : List Range) → IsApart 64 2096 rs → Survives rs (λ image. Shows l image s c)
-shows_survives l s c rs apart xs ys shows same = record {
-  room = omega (arith, shows.room, same.size);
-  is_open = gate_clear s rs xs ys apart same shows.room ∙ shows.is_open;
-  greater = λ is. subst (λ (b : List ℕ). sequence_of b < c.sequence) (sym (body_clear (other s) rs xs ys apart same shows.room))
-      (shows.greater (sym (gate_clear (other s) rs xs ys apart same shows.room) ∙ is));
-  spells = subst (λ (b : List ℕ). Spells l b c) (sym (body_clear s rs xs ys apart same shows.room)) shows.spells;
-}
-
 -- calls that write elsewhere leave the control steady
 pub steady_stays : (l : Layout) (d e : Device) (s : Slot) (c : Control) (rs : List Range) → IsApart 64 2096 rs → IsSteady l d s c → Always e (ImageBut d rs) → IsSteady l e s c
 steady_stays l d e s c rs apart steady left =
@@ -274,12 +245,7 @@ closing_open at d is = ap (λ (b : Bool). after (cond b (Write at (0 ∷ []) ∷
 pub closing_shut : (at : ℕ) (d : Device) → (get_or d.now.bytes at 0 ≡ 165 → ⊥) → after (closing_calls at d.now.bytes) d ≡ d
 closing_shut at d not = ap (λ (b : Bool). after (cond b (Write at (0 ∷ []) ∷ Sync ∷ []) []) d) (ne_eqb _ _ not)
 
--- calls, and then others
-pub after-append : (xs ys : List Call) (d : Device) → after (xs ++ ys) d ≡ after ys (after xs d)
-after-append [] ys d = refl
-after-append (x ∷ xs) ys d = after-append xs ys (after_one x d)
-
--- the calls of a commit, one behind the other
+-- the calls of a commit, one after the other
 pub commit_made : (s : Slot) (bytes : List ℕ) (d0 d1 d2 d3 : Device) (at place : ℕ) → at ≡ slot_at (other s) → place ≡ body_at (other s)
     → d1 ≡ after (closing_calls at d0.now.bytes) d0 → d2 ≡ synced (written place bytes d1) → d3 ≡ synced (written at (165 ∷ []) d2)
     → d3 ≡ after (commit_calls s d0.now.bytes bytes) d0

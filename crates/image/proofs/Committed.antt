@@ -4,15 +4,15 @@ use Rattle.block_disk.specs.Device.{Device}
 use Rattle.block_disk.specs.Images.{Always, LeavesOnly}
 use Rattle.block_disk.specs.Since.{HasCauseSince}
 use Rattle.block_disk.proofs.Images.{besides_none, now_too}
-use Rattle.image.specs.Calls.{Call, after}
+use Rattle.image_parts.specs.Calls.{Call, after}
 use Rattle.image.specs.Commit.{IsSteady, OldOrDurable, OldOrTurned, slots_range}
 use Rattle.image.specs.Commits.{Commits}
-use Rattle.image.specs.Slots.{other, slot_range}
-use Rattle.image.specs.declared.control.Control.{Control}
-use Rattle.image.specs.declared.error.ImageError.{ImageError}
-use Rattle.image.specs.declared.error.ImageError.TheVariants.{Fault}
-use Rattle.image.specs.declared.layout.Layout.{Layout}
-use Rattle.image.specs.declared.slot.Slot.{Slot}
+use Rattle.image_parts.specs.Slots.{other, slot_range}
+use Rattle.image_parts.specs.declared.control.Control.{Control}
+use Rattle.image_parts.specs.declared.error.ImageError.{ImageError}
+use Rattle.image_parts.specs.declared.error.ImageError.TheVariants.{Fault}
+use Rattle.image_parts.specs.declared.layout.Layout.{Layout}
+use Rattle.image_parts.specs.declared.slot.Slot.{Slot}
 
 -- before a commit each image shows the old control, and that is among what the commit may leave
 abbrev pub Starts : (Layout → Device → Slot → Control → Control → List ℕ → Type 0) → Type 0

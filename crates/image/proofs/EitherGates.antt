@@ -7,17 +7,17 @@ use Rattle.block_disk.specs.Device.{Device, SameOutside}
 use Rattle.block_disk.specs.Images.{LeavesOnly}
 use Rattle.block_disk.proofs.Images.{weaker}
 use Rattle.block_disk.proofs.Ranges.{outside_wider}
-use Rattle.image.specs.Calls.{Call, after}
-use Rattle.image.specs.Choice.{HeadOf}
+use Rattle.image_parts.specs.Calls.{Call, after}
+use Rattle.image_parts.specs.Choice.{HeadOf}
 use Rattle.image.specs.Commit.{IsSteady, OldOrDurable, OldOrTurned, body_calls, pending_calls, slots_range, turned_calls, turned_sequence, turning_calls}
-use Rattle.image.specs.Control.{AreRows, Spells, control_bytes, control_of}
-use Rattle.image.specs.Slots.{other, slot_range, body_at, gate, body, sequence_of}
-use Rattle.image.specs.declared.choice.Head.{Head}
-use Rattle.image.specs.declared.control.Control.{Control}
-use Rattle.image.specs.declared.error.ImageError.{ImageError}
-use Rattle.image.specs.declared.lane_row.LaneRow.{LaneRow}
-use Rattle.image.specs.declared.layout.Layout.{Layout}
-use Rattle.image.specs.declared.slot.Slot.{Slot}
+use Rattle.image_parts.specs.Control.{AreRows, Spells, control_bytes, control_of}
+use Rattle.image_parts.specs.Slots.{other, slot_range, body_at, gate, body, sequence_of}
+use Rattle.image_parts.specs.declared.choice.Head.{Head}
+use Rattle.image_parts.specs.declared.control.Control.{Control}
+use Rattle.image_parts.specs.declared.error.ImageError.{ImageError}
+use Rattle.image_parts.specs.declared.lane_row.LaneRow.{LaneRow}
+use Rattle.image_parts.specs.declared.layout.Layout.{Layout}
+use Rattle.image_parts.specs.declared.slot.Slot.{Slot}
 use Rattle.image.proofs.Turning.{high, low}
 
 -- the three cases

@@ -1,17 +1,6 @@
-pub mod Numbers
-pub mod Comparisons
-pub mod Controls
 pub mod Committed
 pub mod Commits
 pub mod Spares
 pub mod Turning
 pub mod Opening
-pub mod Choices
 pub mod EitherGates
-pub mod GuardLemmas
-pub mod Puts
-pub mod Fresh
-pub mod Reading
-pub mod Places
-pub mod Heads
-pub mod Numbered

@@ -5,14 +5,15 @@ use Rattle.block_disk.specs.Device.{Range, Device, SameOutside, written, synced}
 use Rattle.block_disk.specs.Images.{Always, ImageBut, LeavesOnly}
 use Rattle.block_disk.proofs.Images.{after_sync, and_then, besides_none, besides_only, image_now, now_too, weaker}
 use Rattle.block_disk.proofs.Ranges.{outside_refl, outside_trans, outside_wider, part_same, spliced_same}
-use Rattle.image.specs.Calls.{Write, Sync, after}
+use Rattle.image_parts.specs.Calls.{Write, Sync, after}
 use Rattle.image.specs.Commit.{ClosedOrSame, IsSteady, OldOrDurable, OldOrNew, StillShows, body_calls, closing_calls, commit_calls, pending_calls, shutting_calls}
-use Rattle.image.specs.Control.{Spells}
-use Rattle.image.specs.Slots.{other, slot_at, slot_range, body, sequence_of, Shows}
-use Rattle.image.specs.declared.layout.Layout.{Layout}
-use Rattle.image.specs.declared.control.Control.{Control}
-use Rattle.image.specs.declared.slot.Slot.{Slot}
-use Rattle.image.proofs.Commits.{after-append, body_apart, closing_shut, gate_apart, room, steady_now}
+use Rattle.image_parts.specs.Control.{Spells}
+use Rattle.image_parts.specs.Slots.{other, slot_at, slot_range, body, sequence_of, Shows}
+use Rattle.image_parts.specs.declared.layout.Layout.{Layout}
+use Rattle.image_parts.specs.declared.control.Control.{Control}
+use Rattle.image_parts.specs.declared.slot.Slot.{Slot}
+use Rattle.image.proofs.Commits.{body_apart, closing_shut, gate_apart, room, steady_now}
+use Rattle.image_parts.proofs.CallLemmas.{after-append}
 
 -- writing a closed gate over one that is open, and leaving one alone that is closed
 pub shutting_open : (at : ℕ) (d : Device) → get_or d.now.bytes at 0 ≡ 165 → after (shutting_calls at d.now.bytes) d ≡ written at (0 ∷ []) d

@@ -9,16 +9,17 @@ use Rattle.block_disk.specs.Images.{Always, ImageBut, LeavesOnly}
 use Rattle.block_disk.proofs.Bytes.{part_part, part_spliced, spliced_at}
 use Rattle.block_disk.proofs.Images.{and_then, besides_none, image_now, now_too, weaker}
 use Rattle.block_disk.proofs.Ranges.{outside_trans, outside_wider, part_same, spliced_same}
-use Rattle.image.specs.Calls.{Write, Sync, after}
+use Rattle.image_parts.specs.Calls.{Write, Sync, after}
 use Rattle.image.specs.Commit.{IsSteady, OldOrTurned, slots_range}
-use Rattle.image.specs.Control.{Spells}
-use Rattle.image.specs.Slots.{other, slot_at, body_at, slot_range, gate, body, sequence_of, Shows}
-use Rattle.image.specs.declared.layout.Layout.{Layout}
-use Rattle.image.specs.declared.control.Control.{Control}
-use Rattle.image.specs.declared.slot.Slot.{Slot}
-use Rattle.image.specs.declared.slot.Slot.TheVariants.{A, B}
-use Rattle.image.proofs.Commits.{body_apart, gate_apart, only, room, sequence_spelled, whole}
-use Rattle.image.proofs.Numbers.{cut}
+use Rattle.image_parts.specs.Control.{Spells}
+use Rattle.image_parts.specs.Slots.{other, slot_at, body_at, slot_range, gate, body, sequence_of, Shows}
+use Rattle.image_parts.specs.declared.layout.Layout.{Layout}
+use Rattle.image_parts.specs.declared.control.Control.{Control}
+use Rattle.image_parts.specs.declared.slot.Slot.{Slot}
+use Rattle.image_parts.specs.declared.slot.Slot.TheVariants.{A, B}
+use Rattle.image.proofs.Commits.{body_apart, gate_apart, only, room, whole}
+use Rattle.image_parts.proofs.SlotLemmas.{sequence_spelled}
+use Rattle.image_parts.proofs.Numbers.{cut}
 
 pub twice : (s : Slot) → other (other s) ≡ s
 twice A = refl

@@ -2,12 +2,12 @@
 use Rattle.std.specs.Prelude.{◌≡◌, ◌≢◌, ◌⊎◌, ◌==◌, ℕ, ◌+◌, ◌≤◌, List, [], ◌∷◌, ◌++◌, length, slice_index, drop, if◌then◌else◌}
 use Rattle.block_disk.specs.Device.{Device, Range, SameOutside}
 use Rattle.block_disk.specs.Images.{ImageBut, Always}
-use Rattle.image.specs.Calls.{Call, Write, Sync}
-use Rattle.image.specs.Control.{control_bytes}
-use Rattle.image.specs.Slots.{other, slot_at, body_at, slot_range, gate, body, sequence_of, Shows}
-use Rattle.image.specs.declared.layout.Layout.{Layout}
-use Rattle.image.specs.declared.control.Control.{Control}
-use Rattle.image.specs.declared.slot.Slot.{Slot}
+use Rattle.image_parts.specs.Calls.{Call, Write, Sync}
+use Rattle.image_parts.specs.Control.{control_bytes}
+use Rattle.image_parts.specs.Slots.{other, slot_at, body_at, slot_range, gate, body, sequence_of, Shows}
+use Rattle.image_parts.specs.declared.layout.Layout.{Layout}
+use Rattle.image_parts.specs.declared.control.Control.{Control}
+use Rattle.image_parts.specs.declared.slot.Slot.{Slot}
 
 -- closing a gate: one that reads closed is left alone, since a crash may leave any byte that is written
 abbrev pub closing_calls : ℕ → List ℕ → List Call

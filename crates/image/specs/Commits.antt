@@ -4,16 +4,16 @@ use Rattle.block_disk.specs.Bytes.{part}
 use Rattle.block_disk.specs.Device.{Device}
 use Rattle.block_disk.specs.Images.{Always, LeavesOnly}
 use Rattle.block_disk.specs.Since.{HasCauseSince}
-use Rattle.image.specs.Calls.{Call, after}
+use Rattle.image_parts.specs.Calls.{Call, after}
 use Rattle.image.specs.Commit.{IsSteady, OldOrDurable, OldOrNew, OldOrTurned, body_calls, commit_calls, pending_calls, turned_calls, turned_sequence, turning_calls}
-use Rattle.image.specs.Control.{Spells, control_bytes, control_of}
-use Rattle.image.specs.Slots.{body_at, other}
-use Rattle.image.specs.declared.control.Control.{Control}
-use Rattle.image.specs.declared.error.ImageError.{ImageError}
-use Rattle.image.specs.declared.error.ImageError.TheVariants.{Fault}
-use Rattle.image.specs.declared.lane_row.LaneRow.{LaneRow}
-use Rattle.image.specs.declared.layout.Layout.{Layout}
-use Rattle.image.specs.declared.slot.Slot.{Slot}
+use Rattle.image_parts.specs.Control.{Spells, control_bytes, control_of}
+use Rattle.image_parts.specs.Slots.{body_at, other}
+use Rattle.image_parts.specs.declared.control.Control.{Control}
+use Rattle.image_parts.specs.declared.error.ImageError.{ImageError}
+use Rattle.image_parts.specs.declared.error.ImageError.TheVariants.{Fault}
+use Rattle.image_parts.specs.declared.lane_row.LaneRow.{LaneRow}
+use Rattle.image_parts.specs.declared.layout.Layout.{Layout}
+use Rattle.image_parts.specs.declared.slot.Slot.{Slot}
 
 -- A commit of the control `next`. `chosen` is the slot that counts before it, `Was` is what is known of the control there,
 -- `planned` are the calls of a success, and `Left` is what a crash may leave.

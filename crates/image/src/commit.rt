@@ -2,21 +2,19 @@
 ghost use Rattle.std.specs.Prelude.{◌≡◌, ◌⊎◌, ◌↔◌, ◌-◌, ◌<◌, ◌^◌, Err, IfErr, IfOk, OnOk, length, slice_index};
 ghost use Rattle.block_disk.specs.Images.{Always, LeavesOnly};
 ghost use Rattle.block_disk.specs.Since.{HasCauseSince, SameSize};
-ghost use Rattle.image.specs.Calls.{after};
+ghost use Rattle.image_parts.specs.Calls.{after};
 ghost use Rattle.image.specs.Commit.{ClosedOrSame, closing_calls};
 ghost use Rattle.image.specs.Commits.{CommitsApart, CommitsBytes, HasSequence, IsReady, IsReadyFor};
-ghost use Rattle.image.specs.Control.{AreRows};
-ghost use Rattle.image.specs.Layout.{IsLayout};
-ghost use Rattle.image.specs.Slots.{IsBody, IsShut, other};
-ghost use Rattle.image.specs.declared.error.ImageError.TheVariants.{Fault, Worn};
+ghost use Rattle.image_parts.specs.Control.{AreRows};
+ghost use Rattle.image_parts.specs.Layout.{IsLayout};
+ghost use Rattle.image_parts.specs.Slots.{IsBody, IsShut, other};
+ghost use Rattle.image_parts.specs.declared.error.ImageError.TheVariants.{Fault, Worn};
 
-use crate::control::{BODY_BYTES, Control, ROWS, VERSION, encode_control};
-use crate::error::ImageError;
-use crate::header::{CLOSED, OPEN};
-use crate::lane_row::LaneRow;
-use crate::layout::Layout;
-use crate::slot::Slot;
 use block_disk::{Disk, read_within, write_through};
+use image_parts::{
+    BODY_BYTES, CLOSED, Control, ImageError, LaneRow, Layout, OPEN, ROWS, Slot, VERSION,
+    encode_control,
+};
 
 /// Commits a control with these rows and the next sequence into the slot that isn't chosen, and answers that slot.
 ///

@@ -4,21 +4,19 @@ ghost use Rattle.std.specs.Int.{to_be_bytes, w64};
 ghost use Rattle.block_disk.specs.Bytes.{part};
 ghost use Rattle.image.specs.Commit.{IsSteady, turned_sequence};
 ghost use Rattle.image.specs.Commits.{ClosesChosen, CommitsByTurning, HasSequence, IsBefore, IsReady, OpensSpare, RewritesSpare};
-ghost use Rattle.image.specs.Control.{AreRows, control_bytes, control_of};
-ghost use Rattle.image.specs.Layout.{IsLayout};
-ghost use Rattle.image.specs.Slots.{IsOpen, IsShut, body_at, other, slot_at};
-ghost use Rattle.image.specs.declared.control.Control.{Control as Content};
-ghost use Rattle.image.specs.declared.error.ImageError.TheVariants.{Fault, Worn};
+ghost use Rattle.image_parts.specs.Control.{AreRows, control_bytes, control_of};
+ghost use Rattle.image_parts.specs.Layout.{IsLayout};
+ghost use Rattle.image_parts.specs.Slots.{IsOpen, IsShut, body_at, other, slot_at};
+ghost use Rattle.image_parts.specs.declared.control.Control.{Control as Content};
+ghost use Rattle.image_parts.specs.declared.error.ImageError.TheVariants.{Fault, Worn};
 
-use crate::ImageError;
-use crate::choice::read_head;
-use crate::control::{BODY_BYTES, Control, ROWS, VERSION, encode_control};
-use crate::lane_row::LaneRow;
-use crate::layout::Layout;
 use crate::one_gate::{commit_by_closing, commit_by_opening};
 use crate::pending::commit_pending;
-use crate::slot::Slot;
 use block_disk::Disk;
+use image_parts::{
+    BODY_BYTES, Control, ImageError, LaneRow, Layout, ROWS, Slot, VERSION, encode_control,
+    read_head,
+};
 
 /// Makes all that was written durable, and then commits a control with these rows by turning one gate; both by two syncs.
 /// Answers the slot in which it stands, which is the one that isn't chosen, and its sequence.

@@ -2,15 +2,12 @@
 ghost use Rattle.std.specs.Prelude.{◌≡◌, IfErr, IfOk, length};
 ghost use Rattle.image.specs.Commit.{IsSteady};
 ghost use Rattle.image.specs.Commits.{CommitsByClosing, CommitsByOpening, IsReadyFor};
-ghost use Rattle.image.specs.Slots.{IsBody, IsOpen, IsShut, other, slot_at};
-ghost use Rattle.image.specs.declared.control.Control.{Control as Content};
-ghost use Rattle.image.specs.declared.error.ImageError.TheVariants.{Fault};
+ghost use Rattle.image_parts.specs.Slots.{IsBody, IsOpen, IsShut, other, slot_at};
+ghost use Rattle.image_parts.specs.declared.control.Control.{Control as Content};
+ghost use Rattle.image_parts.specs.declared.error.ImageError.TheVariants.{Fault};
 
-use crate::ImageError;
-use crate::header::{CLOSED, OPEN};
-use crate::layout::Layout;
-use crate::slot::Slot;
 use block_disk::{Disk, write_through};
+use image_parts::{CLOSED, ImageError, Layout, OPEN, Slot};
 
 /// Makes all that was written durable, and then commits the control that these 1,040 bytes spell by opening the gate of the
 /// slot that isn't chosen, which reads closed; both by two syncs. It answers that slot.

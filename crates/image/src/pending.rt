@@ -2,23 +2,18 @@
 ghost use Rattle.std.specs.Prelude.{◌≡◌, ◌⊎◌, ◌↔◌, ◌-◌, ◌<◌, ◌^◌, Err, IfErr, IfOk, OnOk, length};
 ghost use Rattle.block_disk.specs.Images.{LeavesOnly};
 ghost use Rattle.block_disk.specs.Since.{HasCauseSince};
-ghost use Rattle.image.specs.Calls.{after};
+ghost use Rattle.image_parts.specs.Calls.{after};
 ghost use Rattle.image.specs.Commit.{ClosedOrSame, IsSteady, StillShows, shutting_calls};
 ghost use Rattle.image.specs.Commits.{CommitsPending, HasSequence, IsReady};
-ghost use Rattle.image.specs.Control.{AreRows};
-ghost use Rattle.image.specs.Layout.{IsLayout};
-ghost use Rattle.image.specs.Slots.{IsShut, other, slot_at};
-ghost use Rattle.image.specs.declared.control.Control.{Control as Content};
-ghost use Rattle.image.specs.declared.error.ImageError.TheVariants.{Fault, Worn};
+ghost use Rattle.image_parts.specs.Control.{AreRows};
+ghost use Rattle.image_parts.specs.Layout.{IsLayout};
+ghost use Rattle.image_parts.specs.Slots.{IsShut, other, slot_at};
+ghost use Rattle.image_parts.specs.declared.control.Control.{Control as Content};
+ghost use Rattle.image_parts.specs.declared.error.ImageError.TheVariants.{Fault, Worn};
 
-use crate::ImageError;
 use crate::commit::commit_control;
-use crate::control::ROWS;
-use crate::header::{CLOSED, OPEN};
-use crate::lane_row::LaneRow;
-use crate::layout::Layout;
-use crate::slot::Slot;
 use block_disk::{Disk, make_durable, read_within, write_within};
+use image_parts::{CLOSED, ImageError, LaneRow, Layout, OPEN, ROWS, Slot};
 
 /// Makes all that was written durable, and then commits a control with these rows and the next sequence into the slot that
 /// isn't chosen, and answers that slot. A closing of that slot's gate becomes durable together with what was written before,

@@ -6,8 +6,8 @@ use Rattle.script_declarations.specs.declared.schema_fault.SchemaFault.{SchemaFa
 use Rattle.script_declarations.specs.declared.schema_fault.SchemaFaultKind.{SchemaFaultKind}
 use Rattle.script_declarations.specs.declared.schema_fault.SchemaFaultKind.TheVariants as kinds
 use Rattle.guards.specs.Schema.{Declarations}
-use Rattle.image.specs.Layout.{IsLayoutOf, size_of}
-use Rattle.image.specs.declared.layout.Layout.{Layout}
+use Rattle.image_parts.specs.Layout.{IsLayoutOf, size_of}
+use Rattle.image_parts.specs.declared.layout.Layout.{Layout}
 use Rattle.image_file.specs.Formatting.{IsBeforeFile, MayBlameNumbers, PrintsLess, PrintsLessOf, RefusesImage, told_by_kind, told_of_schema}
 use Rattle.image_file.specs.declared.error.FormatError.{FormatError}
 use Rattle.image_file.specs.declared.error.FormatError.TheVariants as errors

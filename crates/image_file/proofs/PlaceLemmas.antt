@@ -5,7 +5,7 @@ use Rattle.block_disk.specs.Device.{Device, Image, LeftSince, SameMoments, new_d
 use Rattle.block_disk.specs.Images.{LeavesOnly}
 use Rattle.block_disk.proofs.Images.{only_now}
 use Rattle.guards.specs.Schema.{Declarations}
-use Rattle.image.specs.declared.layout.Layout.{Layout}
+use Rattle.image_parts.specs.declared.layout.Layout.{Layout}
 use Rattle.recover.specs.Recovery.{IsOnTheWay, LeavesOnTheWay}
 use Rattle.recover.specs.Study.{IsStudyOf}
 use Rattle.recover.specs.declared.studied.Study.{Study}

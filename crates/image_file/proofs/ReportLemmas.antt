@@ -1,8 +1,8 @@
 -- The report on a recovery.
 use Rattle.std.proofs.Common.{ℕ, ◌≡◌, ◌∙◌, List}
 use Rattle.block_disk.specs.Device.{Device}
-use Rattle.image.specs.Recovered.{Parts}
-use Rattle.image.specs.declared.layout.Layout.{Layout}
+use Rattle.image_parts.specs.Recovered.{Parts}
+use Rattle.image_parts.specs.declared.layout.Layout.{Layout}
 use Rattle.inspect.specs.ReportText.{report_text}
 use Rattle.recover.specs.Recovery.{IsRecovery}
 use Rattle.recover.specs.declared.report.Report.{Report}

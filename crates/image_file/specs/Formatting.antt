@@ -10,10 +10,10 @@ use Rattle.disk_sectors.specs.declared.error.PlacesError.TheVariants as places
 use Rattle.disk_sectors.specs.declared.size.SectorSize.{SectorSize}
 use Rattle.disk_sector_file.specs.ImageDisks.{room_for}
 use Rattle.guards.specs.Schema.{Declarations}
-use Rattle.image.specs.Calls.{after}
-use Rattle.image.specs.Format.{format_calls}
-use Rattle.image.specs.Layout.{size_of}
-use Rattle.image.specs.declared.layout.Layout.{Layout}
+use Rattle.image_parts.specs.Calls.{after}
+use Rattle.image_parts.specs.Format.{format_calls}
+use Rattle.image_parts.specs.Layout.{size_of}
+use Rattle.image_parts.specs.declared.layout.Layout.{Layout}
 use Rattle.inspect.specs.Pieces.{line}
 use Rattle.inspect.specs.Written.{AppendsPart}
 use Rattle.store_image.specs.Formatting.{AreLimits, layout_with}

@@ -2,7 +2,7 @@
 ghost use Rattle.std.specs.Prelude.{◌≡◌, [], IfErr, IfOk, IfSome, OnErr, OnOk};
 ghost use Rattle.std.specs.Io.KnownBytes.{Appends};
 ghost use Rattle.script_declarations.specs.SchemaFiles.{DeclaresSchema};
-ghost use Rattle.image.specs.Layout.{size_of};
+ghost use Rattle.image_parts.specs.Layout.{size_of};
 ghost use Rattle.inspect.specs.Written.{AppendsPart};
 ghost use Rattle.image_file.specs.declared.error.FormatError.TheVariants.{BadHeader, Fault};
 ghost use Rattle.store_image.specs.Formatting.{AreLimits, layout_with};

@@ -1,7 +1,7 @@
 -- From the study by a slot to the image in which that slot stands alone.
 use Rattle.std.proofs.Common.{ℕ, Option, List, Result, Ok, Err, IfErr, sym, subst}
 use Rattle.guards.specs.Schema.{Declarations}
-use Rattle.image.specs.declared.slot.Slot.{Slot}
+use Rattle.image_parts.specs.declared.slot.Slot.{Slot}
 use Rattle.recover.specs.Reading.{RefusesImage}
 use Rattle.recover.specs.Study.{IsStudyOf}
 use Rattle.recover.specs.declared.studied.Study.{Study as Studied}

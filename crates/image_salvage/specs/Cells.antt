@@ -3,14 +3,14 @@ use Rattle.std.specs.Prelude.{ℕ, ◌≡◌, Option, None, Some, List, []}
 use Rattle.std.specs.Io.KnownBytes.{Appends}
 use Rattle.script_declarations.specs.SchemaText.{beginning_with}
 use Rattle.guards.specs.Schema.{Declarations}
-use Rattle.image.specs.Cells.{HasHomes}
-use Rattle.image.specs.declared.guard_row.GuardRow.{GuardRow}
-use Rattle.image.specs.declared.layout.Layout.{Layout}
+use Rattle.image_parts.specs.Cells.{HasHomes}
+use Rattle.image_parts.specs.declared.guard_row.GuardRow.{GuardRow}
+use Rattle.image_parts.specs.declared.layout.Layout.{Layout}
 use Rattle.image_schema.specs.OfImage.{FitsImage}
 use Rattle.image_schema.specs.declared.error.DumpError.{DumpError}
 use Rattle.image_schema.specs.declared.error.DumpError.TheVariants as dump_error
 use Rattle.inspect.specs.Written.{AppendsPart}
-use Rattle.image.specs.NumberedRows.{numbered}
+use Rattle.image_parts.specs.NumberedRows.{numbered}
 use Rattle.recover.specs.Reading.{HasBadHeader, HasFront, RefusesLayout}
 use Rattle.recover.specs.declared.error.RecoverError.{RecoverError}
 use Rattle.recover.specs.declared.error.RecoverError.TheVariants.{Fault, NotFormatted, BadHeader, TooSmall, NoMemory}

@@ -3,8 +3,8 @@ use Rattle.std.specs.Prelude.{ℕ, List, codes, ◌++◌}
 use Rattle.script_declarations.specs.SchemaText.{ended, schema_text}
 use Rattle.script_declarations.specs.SchemaFiles.{DeclaresLines}
 use Rattle.guards.specs.Schema.{Declarations}
-use Rattle.image.specs.declared.slot.Slot.{Slot}
-use Rattle.image.specs.declared.slot.Slot.TheVariants.{A, B}
+use Rattle.image_parts.specs.declared.slot.Slot.{Slot}
+use Rattle.image_parts.specs.declared.slot.Slot.TheVariants.{A, B}
 use Rattle.script_lines.specs.Lines.{lines_of}
 
 -- of home cells

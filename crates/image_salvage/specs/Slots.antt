@@ -2,8 +2,8 @@
 use Rattle.std.specs.Prelude.{ℕ, ◌≡◌, Option, List, [], slice_set}
 use Rattle.std.specs.Io.KnownBytes.{Appends}
 use Rattle.guards.specs.Schema.{Declarations}
-use Rattle.image.specs.Slots.{other, slot_at}
-use Rattle.image.specs.declared.slot.Slot.{Slot}
+use Rattle.image_parts.specs.Slots.{other, slot_at}
+use Rattle.image_parts.specs.declared.slot.Slot.{Slot}
 use Rattle.image_schema.specs.Dumping.{dumped}
 use Rattle.image_schema.specs.OfImage.{FitsImage, named_as}
 use Rattle.image_schema.specs.declared.error.DumpError.{DumpError}

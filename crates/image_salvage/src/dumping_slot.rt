@@ -1,7 +1,7 @@
 //! The schema file that the heap of an image makes by one slot of its control.
 ghost use Rattle.std.specs.Prelude.{◌≡◌, IfErr, OnOk, slice_set};
 ghost use Rattle.block_disk.specs.Device.{new_device};
-ghost use Rattle.image.specs.Slots.{slot_at};
+ghost use Rattle.image_parts.specs.Slots.{slot_at};
 ghost use Rattle.image_schema.specs.OfImage.{IsStudied};
 ghost use Rattle.image_salvage.specs.Slots.{DumpsSlot, DumpsStudied, RefusesSlot, RefusesStudied, alone};
 

@@ -2,8 +2,8 @@
 ghost use Rattle.std.specs.Prelude.{◌≤◌, MatchResult, length};
 ghost use Rattle.block_disk.specs.Device.{SameMoments};
 ghost use Rattle.block_disk.specs.Since.{HasCauseSince};
-ghost use Rattle.image.specs.Guards.{HasGuards};
-ghost use Rattle.image.specs.Layout.{IsLayout, size_of};
+ghost use Rattle.image_parts.specs.Guards.{HasGuards};
+ghost use Rattle.image_parts.specs.Layout.{IsLayout, size_of};
 ghost use Rattle.recover.specs.Reading.{HasFront, HasLayout, RefusesLayout, RefusesRows};
 ghost use Rattle.recover.specs.declared.error.RecoverError.TheVariants.{Fault};
 ghost use Rattle.image_salvage.specs.Cells.{RefusesToRead};

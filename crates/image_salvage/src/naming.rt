@@ -2,7 +2,7 @@
 ghost use Rattle.std.specs.Prelude.{◌≡◌, ◌↔◌, IfOk, IsErrOf, length};
 ghost use Rattle.image_schema.specs.OfImage.{FitsImage};
 ghost use Rattle.image_schema.specs.declared.error.NamingError.TheVariants.{OtherSchema};
-ghost use Rattle.image.specs.NumberedRows.{numbered};
+ghost use Rattle.image_parts.specs.NumberedRows.{numbered};
 ghost use Rattle.image_salvage.specs.Cells.{named_by};
 
 use crate::fitting::fits_rows;

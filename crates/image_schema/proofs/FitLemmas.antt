@@ -4,11 +4,11 @@ use Rattle.std.specs.Prelude.{slice_get}
 use Rattle.std.proofs.lemmas.Bool.{cases_eq, eq-eqb}
 use Rattle.std.proofs.lemmas.Option.{slice_get-get_or}
 use Rattle.guards.specs.Schema.{Declarations, field_count, guard_of, is_transient_of, owner_of}
-use Rattle.image.specs.Guards.{no_row}
-use Rattle.image.specs.declared.guard_row.GuardRow.{GuardRow}
-use Rattle.image.specs.declared.layout.Layout.{Layout}
-use Rattle.image.specs.NumberedRows.{numbered}
-use Rattle.image.proofs.Numbered.{fields_are, guard_at, mark_at, objects_are, owner_at}
+use Rattle.image_parts.specs.Guards.{no_row}
+use Rattle.image_parts.specs.declared.guard_row.GuardRow.{GuardRow}
+use Rattle.image_parts.specs.declared.layout.Layout.{Layout}
+use Rattle.image_parts.specs.NumberedRows.{numbered}
+use Rattle.image_parts.proofs.Numbered.{fields_are, guard_at, mark_at, objects_are, owner_at}
 use Rattle.recover.specs.declared.studied.Study.{Study}
 use Rattle.image_schema.specs.OfImage.{FitsImage, IsStudied, fits_row, is_row_of, is_same_mark}
 

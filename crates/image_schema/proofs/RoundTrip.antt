@@ -9,12 +9,12 @@ use Rattle.std.proofs.lemmas.Fmt.{decimal_is_IsNumeral, length-decimal-le}
 use Rattle.std.proofs.lemmas.Str.Parse.{digit_from_value}
 use Rattle.guards.specs.Schema.{Declarations, Field, IsSchema, IsWithinLimits, field_count, firsts_of, guards_of, names_of, nothing, object_count, owners_of}
 use Rattle.heap_model.specs.declared.limits.TheConstants.{MOST_FIELDS, MOST_OBJECTS}
-use Rattle.image.specs.Guards.{HasGuards, NamesObjects, no_row}
-use Rattle.image.specs.Layout.{IsLayout}
-use Rattle.image.specs.declared.guard_row.GuardRow.{GuardRow}
-use Rattle.image.specs.declared.layout.Layout.{Layout}
-use Rattle.image.specs.NumberedRows.{field_name, fields_from, names_below, numbered, object_name}
-use Rattle.image.proofs.Numbered.{field_is_new, fields_are, fields_more, guard_at, object_is_new, objects_are, owner_at}
+use Rattle.image_parts.specs.Guards.{HasGuards, NamesObjects, no_row}
+use Rattle.image_parts.specs.Layout.{IsLayout}
+use Rattle.image_parts.specs.declared.guard_row.GuardRow.{GuardRow}
+use Rattle.image_parts.specs.declared.layout.Layout.{Layout}
+use Rattle.image_parts.specs.NumberedRows.{field_name, fields_from, names_below, numbered, object_name}
+use Rattle.image_parts.proofs.Numbered.{field_is_new, fields_are, fields_more, guard_at, object_is_new, objects_are, owner_at}
 use Rattle.recover.specs.Study.{IsStudyOf}
 use Rattle.recover.specs.declared.studied.Study.{Study}
 use Rattle.script_lines.specs.Grammar.{is_name, is_name_byte, IsName}

@@ -1,9 +1,9 @@
 -- Which schema is that of an image (this project's own).
 use Rattle.std.specs.Prelude.{ℕ, ◌≡◌, ◌<◌, ◌==◌, ◌&&◌, Bool, true, false, not, IsTrue, Option, None, Some, List, slice_get}
 use Rattle.guards.specs.Schema.{Declarations, object_count, field_count, guard_of, owner_of, is_transient_of}
-use Rattle.image.specs.declared.guard_row.GuardRow.{GuardRow}
-use Rattle.image.specs.declared.layout.Layout.{Layout}
-use Rattle.image.specs.NumberedRows.{numbered}
+use Rattle.image_parts.specs.declared.guard_row.GuardRow.{GuardRow}
+use Rattle.image_parts.specs.declared.layout.Layout.{Layout}
+use Rattle.image_parts.specs.NumberedRows.{numbered}
 use Rattle.recover.specs.Study.{IsStudyOf}
 use Rattle.recover.specs.declared.studied.Study.{Study}
 

@@ -2,7 +2,7 @@
 ghost use Rattle.std.specs.Prelude.{◌≡◌, ◌↔◌, IfOk, IsErrOf};
 ghost use Rattle.image_schema.specs.OfImage.{FitsImage, IsStudied, named_as};
 ghost use Rattle.image_schema.specs.declared.error.NamingError.TheVariants.{OtherSchema};
-ghost use Rattle.image.specs.NumberedRows.{numbered};
+ghost use Rattle.image_parts.specs.NumberedRows.{numbered};
 
 use crate::error::NamingError;
 use crate::fitting::fits;

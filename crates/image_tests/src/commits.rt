@@ -2,10 +2,10 @@
 ghost use Rattle.std.specs.Prelude.{◌≤◌, ◌+◌, OnOk};
 ghost use Rattle.block_disk.specs.Memory.{device_of};
 ghost use Rattle.image.specs.Commit.{IsSteady};
-ghost use Rattle.image.specs.Control.{empty_control};
-ghost use Rattle.image.specs.Layout.{IsLayout};
-ghost use Rattle.image.specs.Slots.{other};
-ghost use Rattle.image.specs.declared.slot.Slot.TheVariants.{A};
+ghost use Rattle.image_parts.specs.Control.{empty_control};
+ghost use Rattle.image_parts.specs.Layout.{IsLayout};
+ghost use Rattle.image_parts.specs.Slots.{other};
+ghost use Rattle.image_parts.specs.declared.slot.Slot.TheVariants.{A};
 
 use crate::images::steady;
 use crate::reading::study;

@@ -1,9 +1,9 @@
 //! Controls by their documented bytes: as they are read, and as they are committed.
 ghost use Rattle.block_disk.specs.Memory.{device_of};
 ghost use Rattle.image.specs.Commit.{IsSteady};
-ghost use Rattle.image.specs.Control.{empty_control};
-ghost use Rattle.image.specs.Layout.{IsLayout};
-ghost use Rattle.image.specs.declared.slot.Slot.TheVariants.{A};
+ghost use Rattle.image_parts.specs.Control.{empty_control};
+ghost use Rattle.image_parts.specs.Layout.{IsLayout};
+ghost use Rattle.image_parts.specs.declared.slot.Slot.TheVariants.{A};
 
 use crate::images::{fresh_disk, has, put, steady};
 use crate::reading::study_with;

@@ -1,7 +1,7 @@
 //! Faults of the device and want of memory: where an image is made, where it is read, and at a cell.
 ghost use Rattle.std.specs.Prelude.{◌≤◌, ◌<◌, length};
 ghost use Rattle.block_disk.specs.Memory.{device_of};
-ghost use Rattle.image.specs.Layout.{IsLayout, IsLayoutOf, size_of};
+ghost use Rattle.image_parts.specs.Layout.{IsLayout, IsLayoutOf, size_of};
 
 use crate::images::{common_schema, fresh_disk, put, steady};
 use crate::reading::study;

@@ -2,10 +2,10 @@
 ghost use Rattle.std.specs.Prelude.{◌≡◌, ◌≤◌, [], length, IfSome, OnSome};
 ghost use Rattle.block_disk.specs.Memory.{device_of};
 ghost use Rattle.image.specs.Commit.{IsSteady};
-ghost use Rattle.image.specs.Control.{empty_control};
-ghost use Rattle.image.specs.Format.{IsFresh};
-ghost use Rattle.image.specs.Layout.{IsLayout, IsLayoutOf, size_of};
-ghost use Rattle.image.specs.declared.slot.Slot.TheVariants.{A};
+ghost use Rattle.image_parts.specs.Control.{empty_control};
+ghost use Rattle.image_parts.specs.Format.{IsFresh};
+ghost use Rattle.image_parts.specs.Layout.{IsLayout, IsLayoutOf, size_of};
+ghost use Rattle.image_parts.specs.declared.slot.Slot.TheVariants.{A};
 
 use crate::schemas::{built, field, object};
 use block_disk::{Disk, MemDisk};

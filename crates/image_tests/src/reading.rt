@@ -1,8 +1,8 @@
 //! What the readers say of an image: with other bytes it is refused.
 ghost use Rattle.std.specs.Prelude.{◌≤◌, length, IfOk};
 ghost use Rattle.block_disk.specs.Memory.{device_of};
-ghost use Rattle.image.specs.Header.{HasHeader};
-ghost use Rattle.image.specs.Layout.{size_of};
+ghost use Rattle.image_parts.specs.Header.{HasHeader};
+ghost use Rattle.image_parts.specs.Layout.{size_of};
 
 use crate::images::{fresh_disk, put};
 use crate::unread::{BAD_CONTROL, BAD_HEADER, BAD_ROW, Unread};

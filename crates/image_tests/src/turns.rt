@@ -1,5 +1,5 @@
 //! Commits that turn one gate each, at each of their stops.
-ghost use Rattle.image.specs.Layout.{IsLayout};
+ghost use Rattle.image_parts.specs.Layout.{IsLayout};
 
 use crate::commits::shown;
 use crate::images::{put, steady};

@@ -1,7 +1,7 @@
 -- The live sections of a lane (Atlas), told record by record. Lists of records have their newest record first.
 use Rattle.std.specs.Prelude.{ℕ, zero, suc, ◌+◌, ◌-◌, ◌==◌, if◌then◌else◌, true, false, List, [], ◌∷◌, ◌++◌, reverse, take}
 use Rattle.heap_model.specs.declared.record.UndoRecord.{UndoRecord}
-use Rattle.image.specs.declared.lane_row.LaneRow.{LaneRow}
+use Rattle.image_parts.specs.declared.lane_row.LaneRow.{LaneRow}
 use Rattle.recover_logs.specs.Lanes.{count_of, ends_at}
 use Rattle.recover_logs.specs.declared.lane_count.LaneCount.{LaneCount}
 use Rattle.undo_log.specs.StandsFor.{row_of}

@@ -2,12 +2,12 @@
 use Rattle.std.specs.Prelude.{ℕ, ◌+◌, List, [], ◌∷◌, codes, take, reverse}
 use Rattle.std.specs.Fmt.{decimal}
 use Rattle.std.specs.List.{flat_map, concat}
-use Rattle.image.specs.Layout.{size_of}
-use Rattle.image.specs.declared.control.Control.{Control}
-use Rattle.image.specs.declared.lane_row.LaneRow.{LaneRow}
-use Rattle.image.specs.declared.layout.Layout.{Layout}
-use Rattle.image.specs.declared.slot.Slot.{Slot}
-use Rattle.image.specs.declared.slot.Slot.TheVariants.{A, B}
+use Rattle.image_parts.specs.Layout.{size_of}
+use Rattle.image_parts.specs.declared.control.Control.{Control}
+use Rattle.image_parts.specs.declared.lane_row.LaneRow.{LaneRow}
+use Rattle.image_parts.specs.declared.layout.Layout.{Layout}
+use Rattle.image_parts.specs.declared.slot.Slot.{Slot}
+use Rattle.image_parts.specs.declared.slot.Slot.TheVariants.{A, B}
 use Rattle.undo_log.specs.StandsFor.{row_of}
 use Rattle.recover.specs.Logs.{records_of}
 use Rattle.recover.specs.declared.studied.Study.{Study}

@@ -5,7 +5,7 @@ ghost use Rattle.inspect.specs.Inspection.{Inspects, IsNotShown, Refuses};
 ghost use Rattle.recover.specs.Fits.{FitsNumbers};
 ghost use Rattle.inspect.specs.StudyText.{study_text};
 ghost use Rattle.inspect.specs.WholeGraph.{graph_text};
-ghost use Rattle.image.specs.Layout.{IsLayout};
+ghost use Rattle.image_parts.specs.Layout.{IsLayout};
 ghost use Rattle.std.specs.Io.KnownBytes.{Appends};
 ghost use Rattle.inspect.specs.declared.error.InspectError.TheVariants as kinds;
 ghost use Rattle.recover.specs.declared.error.RecoverError.TheVariants.{Fault};

@@ -1,7 +1,7 @@
 //! The lines of a study (docs/SCRIPTS.md, "The inspector's lines").
 ghost use Rattle.std.specs.Prelude.{◌≡◌, ◌+◌, ◌<◌, ◌^◌, OnOk, OnErr, IfErr, IfOk, length, []};
 ghost use Rattle.std.specs.Io.KnownBytes.{Appends};
-ghost use Rattle.image.specs.Layout.{IsLayout};
+ghost use Rattle.image_parts.specs.Layout.{IsLayout};
 ghost use Rattle.inspect.specs.Written.{AppendsPart};
 ghost use Rattle.recover.specs.Fits.{FitsNumbers};
 ghost use Rattle.inspect.specs.StudyText.{study_text, head_text, image_line, control_line, slot_text, lane_lines, lane_line, sections_text, lane_sections, links_text, end_text};

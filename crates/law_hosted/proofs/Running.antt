@@ -6,7 +6,7 @@ use Rattle.disk_deferred.specs.Deferred.{Deferred, onto}
 use Rattle.disk_deferred.specs.Host.{Host}
 use Rattle.disk_deferred.specs.Syncs.{syncs_in}
 use Rattle.disk_deferred.proofs.Moments.{left_since_then}
-use Rattle.image.specs.declared.layout.Layout.{Layout}
+use Rattle.image_parts.specs.declared.layout.Layout.{Layout}
 use Rattle.store_rounds.specs.Runs.{HasRun}
 use Rattle.store_rounds.proofs.Running.{run_on}
 use Rattle.thread_heap.specs.Life.{ClosedLifeLaw}

@@ -8,7 +8,7 @@ use Rattle.disk_deferred.specs.declared.call.DeviceCall.{DeviceCall}
 use Rattle.disk_deferred.specs.declared.call.DeviceCall.TheVariants.{Write, Sync}
 use Rattle.disk_deferred.proofs.Moments.{left_since_then}
 use Rattle.block_disk.specs.Memory.{Stop}
-use Rattle.image.specs.declared.layout.Layout.{Layout}
+use Rattle.image_parts.specs.declared.layout.Layout.{Layout}
 use Rattle.heap_model.specs.Setting.{Setting}
 use Rattle.monitor.specs.Seats.{Home}
 use Rattle.store_rounds.specs.Runs.{HasRun}

@@ -12,8 +12,8 @@ use Rattle.disk_deferred.specs.Host.{HaveMet, Host}
 use Rattle.disk_deferred.specs.Syncs.{durable_moments, moments_of, syncs_in}
 use Rattle.disk_deferred.specs.declared.call.DeviceCall.{DeviceCall}
 use Rattle.guards.specs.Schema.{Declarations}
-use Rattle.image.specs.Recovered.{Parts as Recovered}
-use Rattle.image.specs.declared.layout.Layout.{Layout}
+use Rattle.image_parts.specs.Recovered.{Parts as Recovered}
+use Rattle.image_parts.specs.declared.layout.Layout.{Layout}
 use Rattle.monitor.specs.Seats.{Home}
 use Rattle.recover.specs.Recovery.{IsOnTheWay}
 use Rattle.recover.specs.Study.{IsStudyOf}

@@ -11,9 +11,9 @@ use Rattle.heap_model.specs.Record.{undo_of}
 use Rattle.heap_model.specs.Setting.{Setting}
 use Rattle.heap_model.specs.Log.{lane, IsLegal, IsRecordOf}
 use Rattle.heap_model.specs.Sections.{holding, ended, undo_action}
-use Rattle.image.specs.declared.guard_row.GuardRow.{GuardRow}
-use Rattle.image.specs.declared.lane_row.LaneRow.{LaneRow}
-use Rattle.image.specs.declared.layout.Layout.{Layout}
+use Rattle.image_parts.specs.declared.guard_row.GuardRow.{GuardRow}
+use Rattle.image_parts.specs.declared.lane_row.LaneRow.{LaneRow}
+use Rattle.image_parts.specs.declared.layout.Layout.{Layout}
 use Rattle.undo_log.specs.Area.{IsOfImage, HasRecord, HasRecords}
 use Rattle.undo_log.specs.Dropped.{undo_logs}
 use Rattle.undo_log.specs.StandsFor.{row_of, row_in, is_transient_in, settled_of}

@@ -6,7 +6,7 @@ use Rattle.heap_model.specs.History.{log_of}
 use Rattle.heap_model.specs.Log.{IsLaneWisePrefix}
 use Rattle.heap_model.specs.Setting.{Setting}
 use Rattle.law_histories.specs.Laws.{LogLaw, OrderLaw}
-use Rattle.image.specs.declared.layout.Layout.{Layout}
+use Rattle.image_parts.specs.declared.layout.Layout.{Layout}
 use Rattle.store_helper_sections.specs.Image.{ShowsCutOf, kept_by}
 use Rattle.heap_model.specs.Past.{IsPast}
 use Rattle.law_survival.specs.History.{KeepsHistory}

@@ -5,7 +5,7 @@ use Rattle.heap_model.specs.declared.record.Record.{Record}
 use Rattle.heap_model.specs.History.{IsLegalHistory, log_of}
 use Rattle.heap_model.specs.Log.{IsLaneWisePrefix}
 use Rattle.heap_model.specs.Setting.{Setting}
-use Rattle.image.specs.declared.layout.Layout.{Layout}
+use Rattle.image_parts.specs.declared.layout.Layout.{Layout}
 use Rattle.store_helper_sections.specs.Image.{ShowsCutOf}
 use Rattle.heap_model.specs.Past.{Past}
 use Rattle.law_survival.specs.Running.{KeepsIn, KeepsOfHistory}

@@ -5,7 +5,7 @@ use Rattle.heap_model.specs.declared.record.Record.{Record}
 use Rattle.heap_model.specs.declared.record.UndoRecord.{UndoRecord}
 use Rattle.heap_model.specs.Cuts.{counts_of}
 use Rattle.heap_model.specs.Setting.{Setting}
-use Rattle.image.specs.declared.layout.Layout.{Layout}
+use Rattle.image_parts.specs.declared.layout.Layout.{Layout}
 use Rattle.undo_log.specs.StandsFor.{row_of}
 use Rattle.store_image.specs.KeptHeap.{values_below}
 use Rattle.heap_model.specs.Past.{Past}

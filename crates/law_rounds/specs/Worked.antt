@@ -8,7 +8,7 @@ use Rattle.heap_model.specs.declared.record.Record.{Record}
 use Rattle.heap_model.specs.declared.record.Record.TheVariants.{Acq, Rel, Put}
 use Rattle.heap_model.specs.Base.{records_since}
 use Rattle.heap_model.specs.Setting.{Setting}
-use Rattle.image.specs.declared.layout.Layout.{Layout}
+use Rattle.image_parts.specs.declared.layout.Layout.{Layout}
 use Rattle.store_helper_sections.specs.HelperSections.{ArePreceding, HelperSection}
 use Rattle.store_helper_sections.specs.Image.{IsRoundOf, kept_by}
 

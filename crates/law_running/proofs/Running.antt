@@ -7,7 +7,7 @@ use Rattle.heap_model.specs.Setting.{Setting}
 use Rattle.block_disk.specs.Device.{Device}
 use Rattle.store_helper_sections.specs.Image.{ShowsCutOf, kept_by}
 use Rattle.law_histories.specs.Laws.{LogLaw, OwnLogLaw, SentLaw}
-use Rattle.image.specs.declared.layout.Layout.{Layout}
+use Rattle.image_parts.specs.declared.layout.Layout.{Layout}
 use Rattle.monitor.specs.Views.{GoesOn}
 use Rattle.law_running.specs.Released.{IsReleasedPrefix, OlderLaw, ReleasedLaw}
 use Rattle.store_rounds.specs.Runs.{HasRun}

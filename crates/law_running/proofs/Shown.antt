@@ -2,7 +2,7 @@
 use Rattle.std.proofs.Common.{ℕ, length, ⊎_elim, subst, arith}
 use Rattle.block_disk.proofs.Images.{left_now}
 use Rattle.store_helper_sections.specs.Image.{ShowsCutOf}
-use Rattle.image.specs.declared.layout.Layout.{Layout}
+use Rattle.image_parts.specs.declared.layout.Layout.{Layout}
 use Rattle.store_rounds.proofs.Shown.{shows_more}
 use Rattle.heap_model.specs.Past.{applied}
 use Rattle.law_running.specs.Runs.{RunShowsLaw}

@@ -5,7 +5,7 @@ use Rattle.heap_model.specs.History.{IsLegalHistory}
 use Rattle.heap_model.specs.Setting.{Setting}
 use Rattle.block_disk.specs.Device.{Device}
 use Rattle.law_histories.proofs.Own.{by_test}
-use Rattle.image.specs.declared.layout.Layout.{Layout}
+use Rattle.image_parts.specs.declared.layout.Layout.{Layout}
 use Rattle.monitor.specs.Posts.{ArePublished, NeverFall, WasPublished}
 use Rattle.monitor.specs.Seats.{Helping, Home, Sitting}
 use Rattle.monitor.specs.Views.{lane_of, noted}

@@ -4,7 +4,7 @@ use Rattle.heap_model.specs.declared.event.Event.{Event}
 use Rattle.heap_model.specs.History.{IsLegalHistory}
 use Rattle.heap_model.specs.Setting.{Setting}
 use Rattle.block_disk.specs.Device.{Device}
-use Rattle.image.specs.declared.layout.Layout.{Layout}
+use Rattle.image_parts.specs.declared.layout.Layout.{Layout}
 use Rattle.monitor.specs.Seats.{Helping, Home}
 use Rattle.monitor.specs.Views.{GoesOn}
 use Rattle.thread_steps.specs.Views.{plan}

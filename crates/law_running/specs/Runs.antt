@@ -3,7 +3,7 @@ use Rattle.std.specs.Prelude.{ℕ, ◌≡◌, List}
 use Rattle.heap_model.specs.Setting.{Setting}
 use Rattle.block_disk.specs.Device.{Device}
 use Rattle.store_helper_sections.specs.Image.{ShowsCutOf}
-use Rattle.image.specs.declared.layout.Layout.{Layout}
+use Rattle.image_parts.specs.declared.layout.Layout.{Layout}
 use Rattle.store_rounds.specs.Runs.{HasRun}
 use Rattle.store_rounds.specs.Store.{HasPast, Known}
 use Rattle.heap_model.specs.Past.{Past, applied}

@@ -8,7 +8,7 @@ use Rattle.heap_model.specs.Cuts.{counts_of}
 use Rattle.heap_model.specs.History.{IsLegalHistory}
 use Rattle.heap_model.specs.Log.{lane}
 use Rattle.block_disk.specs.Device.{Device}
-use Rattle.image.specs.declared.layout.Layout.{Layout}
+use Rattle.image_parts.specs.declared.layout.Layout.{Layout}
 use Rattle.monitor.specs.Rule.{Kept}
 use Rattle.monitor.specs.Seats.{Helping, Home, Sitting}
 use Rattle.monitor.specs.Views.{GoesOn, lane_of}

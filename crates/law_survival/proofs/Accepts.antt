@@ -19,20 +19,20 @@ use Rattle.law_cuts.proofs.Chain.{In, holds_in}
 use Rattle.law_cuts.proofs.Next.{legal_before}
 use Rattle.law_histories.proofs.Rebase.{until_ends}
 use Rattle.law_histories.proofs.Reorder.{rest_after_until}
-use Rattle.image.specs.Guards.{HasGuards, no_row}
-use Rattle.image.specs.Header.{HasHeader, ReadsHeader}
-use Rattle.image.specs.Layout.{size_of}
-use Rattle.image.specs.Slots.{Shows}
-use Rattle.image.specs.declared.control.Control.{Control}
-use Rattle.image.specs.declared.error.ControlError.{ControlError}
-use Rattle.image.specs.declared.error.ControlError.TheVariants as control_error
-use Rattle.image.specs.declared.error.HeaderError.{HeaderError}
-use Rattle.image.specs.declared.error.HeaderError.TheVariants as header_error
-use Rattle.image.specs.declared.guard_row.GuardRow.{GuardRow}
-use Rattle.image.specs.declared.lane_row.LaneRow.{LaneRow}
-use Rattle.image.specs.declared.layout.Layout.{Layout}
-use Rattle.image.specs.declared.slot.Slot.{Slot}
-use Rattle.image.proofs.Reading.{one_layout, header_is_read, control_is_chosen, guards_are_read}
+use Rattle.image_parts.specs.Guards.{HasGuards, no_row}
+use Rattle.image_parts.specs.Header.{HasHeader, ReadsHeader}
+use Rattle.image_parts.specs.Layout.{size_of}
+use Rattle.image_parts.specs.Slots.{Shows}
+use Rattle.image_parts.specs.declared.control.Control.{Control}
+use Rattle.image_parts.specs.declared.error.ControlError.{ControlError}
+use Rattle.image_parts.specs.declared.error.ControlError.TheVariants as control_error
+use Rattle.image_parts.specs.declared.error.HeaderError.{HeaderError}
+use Rattle.image_parts.specs.declared.error.HeaderError.TheVariants as header_error
+use Rattle.image_parts.specs.declared.guard_row.GuardRow.{GuardRow}
+use Rattle.image_parts.specs.declared.lane_row.LaneRow.{LaneRow}
+use Rattle.image_parts.specs.declared.layout.Layout.{Layout}
+use Rattle.image_parts.specs.declared.slot.Slot.{Slot}
+use Rattle.image_parts.proofs.Reading.{one_layout, header_is_read, control_is_chosen, guards_are_read}
 use Rattle.undo_log.specs.Area.{IsOfImage, HasRecord, HasRecords}
 use Rattle.undo_log.specs.Dropped.{undo_logs, records_in}
 use Rattle.undo_log.specs.StandsFor.{row_of, row_in, is_transient_in, settled_of, AreRowsOf, HasLive, ShowsCut, StandsFor}

@@ -13,16 +13,16 @@ use Rattle.undo_log.specs.Area.{HasRecords, HasSpan}
 use Rattle.undo_log.specs.Runs.{IsFull}
 use Rattle.undo_log.specs.StandsFor.{HasLive, row_of, is_transient_in, settled_of}
 use Rattle.undo_log.proofs.Runs.{span_append}
-use Rattle.image.specs.Header.{HasHeader}
-use Rattle.image.specs.Layout.{IsLayout, size_of}
-use Rattle.image.specs.Rows.{IsRow, empty_row}
-use Rattle.image.specs.Slots.{Shows, gate}
-use Rattle.image.specs.declared.control.Control.{Control}
-use Rattle.image.specs.declared.guard_row.GuardRow.{GuardRow}
-use Rattle.image.specs.declared.lane_row.LaneRow.{LaneRow}
-use Rattle.image.specs.declared.layout.Layout.{Layout}
-use Rattle.image.specs.declared.slot.Slot.{Slot}
-use Rattle.image.specs.declared.slot.Slot.TheVariants.{A, B}
+use Rattle.image_parts.specs.Header.{HasHeader}
+use Rattle.image_parts.specs.Layout.{IsLayout, size_of}
+use Rattle.image_parts.specs.Rows.{IsRow, empty_row}
+use Rattle.image_parts.specs.Slots.{Shows, gate}
+use Rattle.image_parts.specs.declared.control.Control.{Control}
+use Rattle.image_parts.specs.declared.guard_row.GuardRow.{GuardRow}
+use Rattle.image_parts.specs.declared.lane_row.LaneRow.{LaneRow}
+use Rattle.image_parts.specs.declared.layout.Layout.{Layout}
+use Rattle.image_parts.specs.declared.slot.Slot.{Slot}
+use Rattle.image_parts.specs.declared.slot.Slot.TheVariants.{A, B}
 use Rattle.recover_logs.specs.First.{IsLowered, IsLowestOf, lowered}
 use Rattle.recover_logs.specs.Replay.{IsDone, IsReplay, Replays}
 use Rattle.recover_logs.specs.Settled.{TakesUnsettled}

@@ -4,7 +4,7 @@ use Rattle.std.proofs.lemmas.Bool.{cases_lt}
 use Rattle.heap_model.specs.Setting.{Setting}
 use Rattle.heap_model.specs.Sections.{actions}
 use Rattle.heap_model.specs.Cuts.{IsStable, counts_of}
-use Rattle.image.specs.Recovered.{Parts}
+use Rattle.image_parts.specs.Recovered.{Parts}
 use Rattle.store_image.specs.declared.home.Home.{Home}
 use Rattle.store_image.specs.declared.home.Home.TheVariants.{Wrote, Done}
 use Rattle.store_memory.specs.Begin.{IsLeastDirtyOf}

@@ -7,11 +7,11 @@ use Rattle.std.proofs.Math.Seq.{get_or-append_seam}
 use Rattle.heap_model.specs.declared.ids.FieldId.{FieldId}
 use Rattle.heap_model.specs.declared.record.UndoRecord.{UndoRecord}
 use Rattle.block_disk.specs.Bytes.{part}
-use Rattle.image.specs.Cells.{HasCell, HasHome}
-use Rattle.image.specs.Layout.{IsLayout, cell_at, size_of}
-use Rattle.image.specs.Rows.{IsRow, empty_row}
-use Rattle.image.specs.declared.lane_row.LaneRow.{LaneRow}
-use Rattle.image.proofs.Numbers.{AreBytes, bytes-part, is_64}
+use Rattle.image_parts.specs.Cells.{HasCell, HasHome}
+use Rattle.image_parts.specs.Layout.{IsLayout, cell_at, size_of}
+use Rattle.image_parts.specs.Rows.{IsRow, empty_row}
+use Rattle.image_parts.specs.declared.lane_row.LaneRow.{LaneRow}
+use Rattle.image_parts.proofs.Numbers.{AreBytes, bytes-part, is_64}
 use Rattle.undo_log.specs.StandsFor.{StandsFor, first_in, is_transient_in, row_in, row_of, guard_in, settled_of}
 use Rattle.store_image.specs.KeptHeap.{values_below}
 use Rattle.recover.specs.Heap.{first_old, IsOldOrHome}

@@ -21,7 +21,7 @@ use Rattle.durable.specs.declared.store_call.StoreCall.{StoreCall}
 use Rattle.durable.specs.declared.store_call.StoreCall.TheVariants.{Apply, Log, Home as HomeStep, Settle, Trim}
 use Rattle.store_image.specs.declared.home.Home.TheVariants.{Wrote, Done}
 use Rattle.store_image.proofs.Stands.{same_heap}
-use Rattle.image.specs.declared.layout.Layout.{Layout}
+use Rattle.image_parts.specs.declared.layout.Layout.{Layout}
 use Rattle.store_image.specs.KeptHeap.{kept_heap}
 use Rattle.heap_model.specs.Past.{Past, IsPast, applied}
 use Rattle.law_survival.specs.History.{AppliesHistory, HistoryLaw, KeepsHistory, applied_by}

@@ -1,7 +1,7 @@
 -- What recovery says by itself, of either answer.
 use Rattle.std.proofs.Common.{Result, Ok, Err, IfErr, IfOk, MatchResult}
 use Rattle.block_disk.specs.Device.{Device}
-use Rattle.image.specs.Recovered.{Parts}
+use Rattle.image_parts.specs.Recovered.{Parts}
 use Rattle.recover.specs.Recovery.{IsRecovery, RefusesRecovery, RefusesUpgrade}
 use Rattle.recover.specs.declared.error.RecoverError.{RecoverError}
 use Rattle.recover.specs.declared.report.Report.{Report}

@@ -8,8 +8,8 @@ use Rattle.heap_model.specs.Cuts.{IsStable}
 use Rattle.heap_model.specs.declared.ids.FieldId.{FieldId}
 use Rattle.heap_model.specs.declared.record.UndoRecord.{UndoRecord}
 use Rattle.law_cuts.proofs.Existence.{stable_exists}
-use Rattle.image.specs.declared.guard_row.GuardRow.{GuardRow}
-use Rattle.image.specs.declared.lane_row.LaneRow.{LaneRow}
+use Rattle.image_parts.specs.declared.guard_row.GuardRow.{GuardRow}
+use Rattle.image_parts.specs.declared.lane_row.LaneRow.{LaneRow}
 use Rattle.undo_log.specs.StandsFor.{guard_in}
 use Rattle.recover_logs.specs.Replay.{Replays}
 use Rattle.recover.specs.Dropping.{acts_in, live_sections, sections_after, settled_sections, trimmed_sections, unsettled_sections, AreDropped, AreEntriesOf, IsEntryOf}

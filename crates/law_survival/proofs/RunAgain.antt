@@ -4,9 +4,9 @@ use Rattle.heap_model.specs.Setting.{Setting}
 use Rattle.block_disk.specs.Device.{Device, Moment, synced}
 use Rattle.block_disk.specs.Images.{Always, LeavesOnly}
 use Rattle.block_disk.proofs.Images.{after_sync, always_now, always_only, and_then, leaves_synced, left_now, now_too, stays, weaker}
-use Rattle.image.specs.Recovered.{Parts}
-use Rattle.image.specs.declared.control.Control.{Control}
-use Rattle.image.specs.declared.layout.Layout.{Layout}
+use Rattle.image_parts.specs.Recovered.{Parts}
+use Rattle.image_parts.specs.declared.control.Control.{Control}
+use Rattle.image_parts.specs.declared.layout.Layout.{Layout}
 use Rattle.heap_model.specs.Past.{Past}
 use Rattle.recover.specs.Recovery.{AreAlike, IsCutOff, IsEnded, IsOnTheWay, IsRecovery, OneStudyLaw, SameReports, StudiedLaw}
 use Rattle.recover.specs.declared.error.RecoverError.{RecoverError}

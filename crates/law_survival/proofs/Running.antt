@@ -12,7 +12,7 @@ use Rattle.durable.specs.Runs.{HasRun, IsCut}
 use Rattle.durable.specs.Store.{HasPast, Known}
 use Rattle.durable.specs.declared.store_call.StoreCall.{StoreCall}
 use Rattle.durable.specs.declared.store_call.StoreCall.TheVariants.{Apply, Log, Home as HomeStep, Settle, Trim}
-use Rattle.image.specs.declared.layout.Layout.{Layout}
+use Rattle.image_parts.specs.declared.layout.Layout.{Layout}
 use Rattle.heap_model.specs.Past.{Past, applied}
 use Rattle.law_survival.specs.Again.{ByStore, HasStudyLaw}
 use Rattle.law_survival.specs.History.{KeepsHistory, applied_by}

@@ -6,10 +6,10 @@ use Rattle.std.proofs.lemmas.List.{length-reverse}
 use Rattle.heap_model.specs.declared.ids.FieldId.{FieldId}
 use Rattle.heap_model.specs.declared.record.UndoRecord.{UndoRecord}
 use Rattle.heap_model.specs.Setting.{Setting}
-use Rattle.image.specs.Layout.{IsLayout}
-use Rattle.image.specs.Rows.{IsRow, empty_row}
-use Rattle.image.specs.declared.lane_row.LaneRow.{LaneRow}
-use Rattle.image.specs.declared.layout.Layout.{Layout}
+use Rattle.image_parts.specs.Layout.{IsLayout}
+use Rattle.image_parts.specs.Rows.{IsRow, empty_row}
+use Rattle.image_parts.specs.declared.lane_row.LaneRow.{LaneRow}
+use Rattle.image_parts.specs.declared.layout.Layout.{Layout}
 use Rattle.undo_log.specs.StandsFor.{row_of, settled_of, HasLive}
 use Rattle.heap_model.specs.Past.{Past}
 use Rattle.store_image.specs.KeptHeap.{kept_heap}

@@ -1,7 +1,7 @@
 -- Calls with no settling leave what was acknowledged before them.
 use Rattle.std.proofs.Common.{ℕ, zero, suc, ◌≡◌, ◌≢◌, List, [], ◌∷◌, Some, None, take, true, slice_get, refl, sym, ap, ◌∙◌, subst, inl, inr}
 use Rattle.heap_model.specs.Setting.{Setting}
-use Rattle.image.specs.declared.layout.Layout.{Layout}
+use Rattle.image_parts.specs.declared.layout.Layout.{Layout}
 use Rattle.store_image.specs.KeptHeap.{kept_heap}
 use Rattle.store_image.specs.declared.home.Home.TheVariants.{Wrote, Done}
 use Rattle.heap_model.specs.Past.{Past, IsPast}

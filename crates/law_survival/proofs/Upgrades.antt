@@ -4,8 +4,8 @@ use Rattle.heap_model.specs.History.{log_of}
 use Rattle.heap_model.specs.Setting.{Setting}
 use Rattle.block_disk.specs.Device.{Device}
 use Rattle.law_histories.specs.Laws.{LogLaw, OrderLaw}
-use Rattle.image.specs.Recovered.{Parts}
-use Rattle.image.specs.declared.layout.Layout.{Layout}
+use Rattle.image_parts.specs.Recovered.{Parts}
+use Rattle.image_parts.specs.declared.layout.Layout.{Layout}
 use Rattle.recover.specs.Recovery.{IsRecovery, RefusesUpgrade}
 use Rattle.recover.specs.Study.{IsStudyOf}
 use Rattle.recover.specs.declared.error.RecoverError.{RecoverError}

@@ -6,8 +6,8 @@ use Rattle.heap_model.specs.Cuts.{IsWhole, IsClosed, IsStable, counts_of}
 use Rattle.block_disk.specs.Device.{Device, LeftSince}
 use Rattle.block_disk.specs.Images.{LeavesOnly}
 use Rattle.block_disk.proofs.Images.{left_now}
-use Rattle.image.specs.Recovered.{Parts}
-use Rattle.image.specs.declared.layout.Layout.{Layout}
+use Rattle.image_parts.specs.Recovered.{Parts}
+use Rattle.image_parts.specs.declared.layout.Layout.{Layout}
 use Rattle.std.specs.Prelude.{drop}
 use Rattle.durable.specs.Calls.{IsClean, MakeAll, Makes, Reached, ShowsAfterSome}
 use Rattle.durable.specs.Moments.{LeftUpTo}

@@ -5,7 +5,7 @@ use Rattle.heap_model.specs.Cuts.{counts_of}
 use Rattle.heap_model.specs.Setting.{Setting}
 use Rattle.block_disk.specs.Device.{Device}
 use Rattle.block_disk.specs.Images.{Always}
-use Rattle.image.specs.declared.layout.Layout.{Layout}
+use Rattle.image_parts.specs.declared.layout.Layout.{Layout}
 use Rattle.store_image.specs.KeptHeap.{kept_heap}
 use Rattle.heap_model.specs.Past.{Past}
 use Rattle.recover.specs.Reading.{IsOfOldVersion, RefusesImage}

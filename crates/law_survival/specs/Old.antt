@@ -1,10 +1,10 @@
 -- Images that a store of version 1 left, which had no transient fields (this project's own).
 use Rattle.std.specs.Prelude.{ℕ, ◌≡◌, ◌<◌, ◌≤◌, true, List, []}
 use Rattle.heap_model.specs.Setting.{Setting}
-use Rattle.image.specs.Slots.{Shows}
-use Rattle.image.specs.declared.control.Control.{Control}
-use Rattle.image.specs.declared.layout.Layout.{Layout}
-use Rattle.image.specs.declared.slot.Slot.{Slot}
+use Rattle.image_parts.specs.Slots.{Shows}
+use Rattle.image_parts.specs.declared.control.Control.{Control}
+use Rattle.image_parts.specs.declared.layout.Layout.{Layout}
+use Rattle.image_parts.specs.declared.slot.Slot.{Slot}
 use Rattle.undo_log.specs.Dropped.{undo_logs}
 use Rattle.store_image.specs.Consistent.{HasParts, TellsCut}
 use Rattle.heap_model.specs.Past.{Past, IsPast}

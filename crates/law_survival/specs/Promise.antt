@@ -5,7 +5,7 @@ use Rattle.block_disk.specs.Device.{Device, HasFailed, SameMoments, synced}
 use Rattle.block_disk.specs.Images.{LeavesOnly}
 use Rattle.heap_model.specs.Cuts.{counts_of}
 use Rattle.heap_model.specs.Setting.{Setting}
-use Rattle.image.specs.Recovered.{Parts as Restored}
+use Rattle.image_parts.specs.Recovered.{Parts as Restored}
 use Rattle.durable.specs.Calls.{Reached, made_of}
 use Rattle.durable.specs.Moments.{LeftUpTo}
 use Rattle.durable.specs.Steps.{IsPastOf}

@@ -6,8 +6,8 @@ use Rattle.heap_model.specs.History.{IsLegalHistory, log_of}
 use Rattle.heap_model.specs.Log.{IsLaneWisePrefix}
 use Rattle.heap_model.specs.Setting.{Setting}
 use Rattle.block_disk.specs.Device.{Device}
-use Rattle.image.specs.Header.{HasHeader}
-use Rattle.image.specs.declared.layout.Layout.{Layout}
+use Rattle.image_parts.specs.Header.{HasHeader}
+use Rattle.image_parts.specs.declared.layout.Layout.{Layout}
 use Rattle.durable.specs.Runs.{HasRun, TakesSequences}
 use Rattle.durable.specs.Store.{Known, HasPast}
 use Rattle.heap_model.specs.Past.{Past, applied}

@@ -7,7 +7,7 @@ use Rattle.heap_model.specs.History.{IsLegalHistory, log_of}
 use Rattle.heap_model.specs.Log.{IsLaneWisePrefix}
 use Rattle.heap_model.specs.Sections.{actions}
 use Rattle.heap_model.specs.Setting.{Setting}
-use Rattle.image.specs.declared.layout.Layout.{Layout}
+use Rattle.image_parts.specs.declared.layout.Layout.{Layout}
 use Rattle.recover.specs.Recovery.{IsCutOff, IsRecovery, RefusesUpgrade}
 use Rattle.recover.specs.Study.{IsStudyOf}
 use Rattle.recover.specs.declared.error.RecoverError.TheVariants.{Fault, Worn}

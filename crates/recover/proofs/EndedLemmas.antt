@@ -5,16 +5,16 @@ use Rattle.heap_model.specs.Cuts.{counts_of, IsStable}
 use Rattle.heap_model.specs.Sections.{Section, DependsOn, Earlier, Took, undo_action, holding, ended}
 use Rattle.heap_model.specs.declared.ids.ObjectId.{ObjectId}
 use Rattle.heap_model.specs.declared.record.UndoRecord.{UndoRecord}
-use Rattle.image.specs.Cells.{HasHomes}
-use Rattle.image.specs.Guards.{no_row}
-use Rattle.image.specs.Control.{empty_control}
-use Rattle.image.specs.Rows.{empty_row}
-use Rattle.image.specs.Slots.{Shows, other}
-use Rattle.image.specs.declared.control.Control.{Control}
-use Rattle.image.specs.declared.guard_row.GuardRow.{GuardRow}
-use Rattle.image.specs.declared.lane_row.LaneRow.{LaneRow}
-use Rattle.image.specs.declared.layout.Layout.{Layout}
-use Rattle.image.specs.declared.slot.Slot.{Slot}
+use Rattle.image_parts.specs.Cells.{HasHomes}
+use Rattle.image_parts.specs.Guards.{no_row}
+use Rattle.image_parts.specs.Control.{empty_control}
+use Rattle.image_parts.specs.Rows.{empty_row}
+use Rattle.image_parts.specs.Slots.{Shows, other}
+use Rattle.image_parts.specs.declared.control.Control.{Control}
+use Rattle.image_parts.specs.declared.guard_row.GuardRow.{GuardRow}
+use Rattle.image_parts.specs.declared.lane_row.LaneRow.{LaneRow}
+use Rattle.image_parts.specs.declared.layout.Layout.{Layout}
+use Rattle.image_parts.specs.declared.slot.Slot.{Slot}
 use Rattle.undo_log.specs.OldValues.{OldValue, HasOld, NothingBack}
 use Rattle.undo_log.specs.StandsFor.{HasLive, row_of, settled_of, guard_in}
 use Rattle.recover.specs.declared.report.Dropped.{Dropped}

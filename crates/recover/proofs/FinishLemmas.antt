@@ -5,18 +5,18 @@ use Rattle.heap_model.specs.declared.ids.FieldId.{FieldId}
 use Rattle.block_disk.specs.Device.{Range, Device, SameOutside, synced}
 use Rattle.block_disk.specs.Images.{Always, ImageBut, IsApart, LeavesOnly}
 use Rattle.block_disk.proofs.Images.{always_only, and_then, besides_none, besides_only, besides_survives, image_now, now_too, survives, survives_none, weaker}
-use Rattle.image.specs.Cells.{HasCell, HasHomes}
+use Rattle.image_parts.specs.Cells.{HasCell, HasHomes}
 use Rattle.image.specs.Commit.{OldOrNew}
-use Rattle.image.specs.Control.{empty_control}
-use Rattle.image.specs.Layout.{IsLayout, cell_at, record_at}
-use Rattle.image.specs.Recovered.{IsRecovered}
-use Rattle.image.specs.Slots.{Shows, other, slot_range}
-use Rattle.image.specs.declared.control.Control.{Control}
-use Rattle.image.specs.declared.layout.Layout.{Layout}
-use Rattle.image.specs.declared.slot.Slot.{Slot}
-use Rattle.image.specs.declared.slot.Slot.TheVariants.{A, B}
-use Rattle.image.specs.declared.guard_row.GuardRow.{GuardRow}
-use Rattle.image.proofs.Places.{home_survives}
+use Rattle.image_parts.specs.Control.{empty_control}
+use Rattle.image_parts.specs.Layout.{IsLayout, cell_at, record_at}
+use Rattle.image_parts.specs.Recovered.{IsRecovered}
+use Rattle.image_parts.specs.Slots.{Shows, other, slot_range}
+use Rattle.image_parts.specs.declared.control.Control.{Control}
+use Rattle.image_parts.specs.declared.layout.Layout.{Layout}
+use Rattle.image_parts.specs.declared.slot.Slot.{Slot}
+use Rattle.image_parts.specs.declared.slot.Slot.TheVariants.{A, B}
+use Rattle.image_parts.specs.declared.guard_row.GuardRow.{GuardRow}
+use Rattle.image_parts.proofs.Places.{home_survives}
 use Rattle.undo_log.specs.OldValues.{NothingBack, FirstBack}
 use Rattle.undo_log.specs.StandsFor.{row_in}
 use Rattle.recover.specs.declared.studied.Study.{Study}

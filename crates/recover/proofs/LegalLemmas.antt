@@ -2,7 +2,7 @@
 use Rattle.std.proofs.Common.{ℕ, ◌+◌, ◌≤◌, List, refl, arith, Option}
 use Rattle.heap_model.specs.declared.ids.ObjectId.{ObjectId}
 use Rattle.heap_model.specs.declared.record.UndoRecord.{UndoRecord}
-use Rattle.image.specs.declared.lane_row.LaneRow.{LaneRow}
+use Rattle.image_parts.specs.declared.lane_row.LaneRow.{LaneRow}
 use Rattle.undo_log.specs.StandsFor.{row_of, settled_of}
 use Rattle.recover_logs.specs.Settled as logs
 use Rattle.recover.specs.Settled.{IsIllegalAt, Stuck, Restless, Crossing, kept_of}

@@ -6,10 +6,10 @@ use Rattle.heap_model.specs.Sections.{Action, Takes, Frees, Stores, undo_action,
 use Rattle.heap_model.specs.declared.record.UndoRecord.{UndoRecord}
 use Rattle.law_cuts.proofs.Stores.{ended_rises}
 use Rattle.dependence.proofs.Counted.{without_length}
-use Rattle.image.specs.Control.{AreRows}
-use Rattle.image.specs.Rows.{empty_row}
-use Rattle.image.specs.declared.layout.Layout.{Layout}
-use Rattle.image.specs.declared.lane_row.LaneRow.{LaneRow}
+use Rattle.image_parts.specs.Control.{AreRows}
+use Rattle.image_parts.specs.Rows.{empty_row}
+use Rattle.image_parts.specs.declared.layout.Layout.{Layout}
+use Rattle.image_parts.specs.declared.lane_row.LaneRow.{LaneRow}
 use Rattle.undo_log.specs.StandsFor.{row_of, settled_of}
 use Rattle.recover.specs.declared.live_sections.LiveSections.{LiveSections}
 use Rattle.recover.specs.Logs.{records_of, lanes_of}

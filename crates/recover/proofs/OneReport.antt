@@ -12,11 +12,11 @@ use Rattle.heap_model.specs.declared.ids.Lane.{Lane}
 use Rattle.heap_model.specs.declared.record.UndoRecord.{UndoRecord}
 use Rattle.dependence.specs.Next.{IsBelow, IsNext}
 use Rattle.dependence.specs.Reason.{IsReason, Previous, Releaser, TookFrom, TookInside}
-use Rattle.image.specs.declared.lane_row.LaneRow.{LaneRow}
+use Rattle.image_parts.specs.declared.lane_row.LaneRow.{LaneRow}
 use Rattle.recover.specs.Dropping.{acts_in, trimmed_sections, unsettled_sections, AreDropped, AreEntriesOf, IsAfter, IsCalled, IsEntryOf, IsWhy}
 use Rattle.recover.specs.Heap.{AreFields}
-use Rattle.image.specs.declared.guard_row.GuardRow.{GuardRow}
-use Rattle.image.specs.declared.layout.Layout.{Layout}
+use Rattle.image_parts.specs.declared.guard_row.GuardRow.{GuardRow}
+use Rattle.image_parts.specs.declared.layout.Layout.{Layout}
 use Rattle.recover.specs.Live.{ArePushable}
 use Rattle.recover.specs.Recovery.{SameReports}
 use Rattle.recover.specs.Study.{IsReportOf}

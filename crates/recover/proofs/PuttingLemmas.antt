@@ -9,11 +9,11 @@ use Rattle.block_disk.specs.Device.{Device, IsClear, SameOutside, written}
 use Rattle.block_disk.specs.Images.{Always, ImageBut, IsApart, LeavesOnly}
 use Rattle.block_disk.proofs.Images.{besides_then, besides_wider, follows, now_too, weaker}
 use Rattle.block_disk.proofs.Ranges.{outside_more, spliced_same}
-use Rattle.image.specs.Calls.{after}
-use Rattle.image.specs.Cells.{HasCell, cell_range}
-use Rattle.image.specs.Layout.{cell_at, size_of}
-use Rattle.image.specs.declared.layout.Layout.{Layout}
-use Rattle.image.proofs.Places.{cell_survives}
+use Rattle.image_parts.specs.Calls.{after}
+use Rattle.image_parts.specs.Cells.{HasCell, cell_range}
+use Rattle.image_parts.specs.Layout.{cell_at, size_of}
+use Rattle.image_parts.specs.declared.layout.Layout.{Layout}
+use Rattle.image_parts.proofs.Places.{cell_survives}
 use Rattle.recover.specs.Putting.{cell_ranges, put_calls}
 
 -- one write more

@@ -7,17 +7,17 @@ use Rattle.block_disk.specs.Bytes.{spliced}
 use Rattle.block_disk.specs.Device.{Device, Moment, SameMoments, range_of, synced}
 use Rattle.block_disk.specs.Images.{LeavesOnly}
 use Rattle.block_disk.proofs.Images.{and_then, stays, weaker}
-use Rattle.image.specs.Calls.{Call, Write, Sync, after, after_one}
-use Rattle.image.specs.Control.{empty_control}
-use Rattle.image.specs.Header.{HasHeader}
-use Rattle.image.specs.Guards.{HasGuards}
-use Rattle.image.specs.Slots.{Shows, other}
-use Rattle.image.specs.declared.control.Control.{Control}
-use Rattle.image.specs.declared.guard_row.GuardRow.{GuardRow}
-use Rattle.image.specs.declared.lane_row.LaneRow.{LaneRow}
-use Rattle.image.specs.declared.layout.Layout.{Layout}
-use Rattle.image.specs.declared.slot.Slot.{Slot}
-use Rattle.image.proofs.Reading.{guards_are_read, one_layout}
+use Rattle.image_parts.specs.Calls.{Call, Write, Sync, after, after_one}
+use Rattle.image_parts.specs.Control.{empty_control}
+use Rattle.image_parts.specs.Header.{HasHeader}
+use Rattle.image_parts.specs.Guards.{HasGuards}
+use Rattle.image_parts.specs.Slots.{Shows, other}
+use Rattle.image_parts.specs.declared.control.Control.{Control}
+use Rattle.image_parts.specs.declared.guard_row.GuardRow.{GuardRow}
+use Rattle.image_parts.specs.declared.lane_row.LaneRow.{LaneRow}
+use Rattle.image_parts.specs.declared.layout.Layout.{Layout}
+use Rattle.image_parts.specs.declared.slot.Slot.{Slot}
+use Rattle.image_parts.proofs.Reading.{guards_are_read, one_layout}
 use Rattle.undo_log.specs.StandsFor.{HasLive, StandsFor}
 use Rattle.undo_log.proofs.OneHeap.{one_heap}
 use Rattle.recover.specs.declared.error.RecoverError.{RecoverError}

@@ -12,11 +12,11 @@ use Rattle.heap_model.specs.declared.record.UndoRecord.TheVariants.{Acq, Rel, Wa
 use Rattle.law_cuts.proofs.Lanes.{lane_append}
 use Rattle.dependence.specs.Next.{IsObjectBelow}
 use Rattle.dependence.specs.Trace.{Trace}
-use Rattle.image.specs.Layout.{IsLayout}
-use Rattle.image.specs.Control.{AreRows}
-use Rattle.image.specs.Rows.{IsRow, empty_row}
-use Rattle.image.specs.declared.layout.Layout.{Layout}
-use Rattle.image.specs.declared.lane_row.LaneRow.{LaneRow}
+use Rattle.image_parts.specs.Layout.{IsLayout}
+use Rattle.image_parts.specs.Control.{AreRows}
+use Rattle.image_parts.specs.Rows.{IsRow, empty_row}
+use Rattle.image_parts.specs.declared.layout.Layout.{Layout}
+use Rattle.image_parts.specs.declared.lane_row.LaneRow.{LaneRow}
 use Rattle.undo_log.specs.Area.{IsLoggable}
 use Rattle.undo_log.specs.StandsFor.{row_of}
 use Rattle.recover.specs.declared.live_sections.LiveSections.{LiveSections}

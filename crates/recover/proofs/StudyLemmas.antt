@@ -8,10 +8,10 @@ use Rattle.heap_model.specs.declared.ids.FieldId.{FieldId}
 use Rattle.heap_model.specs.declared.record.UndoRecord.{UndoRecord}
 use Rattle.block_disk.specs.Device.{HasCause}
 use Rattle.block_disk.proofs.Failures.{failed_since}
-use Rattle.image.specs.Cells.{HasHome}
-use Rattle.image.specs.declared.control.Control.{Control}
-use Rattle.image.specs.declared.layout.Layout.{Layout}
-use Rattle.image.specs.declared.guard_row.GuardRow.{GuardRow}
+use Rattle.image_parts.specs.Cells.{HasHome}
+use Rattle.image_parts.specs.declared.control.Control.{Control}
+use Rattle.image_parts.specs.declared.layout.Layout.{Layout}
+use Rattle.image_parts.specs.declared.guard_row.GuardRow.{GuardRow}
 use Rattle.undo_log.specs.OldValues.{TakesBack, IsUnsettled}
 use Rattle.undo_log.specs.StandsFor.{StandsFor, settled_of, guard_in, row_in}
 use Rattle.recover.specs.declared.logged_image.LoggedImage.{LoggedImage}

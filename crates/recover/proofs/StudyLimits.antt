@@ -2,9 +2,9 @@
 use Rattle.std.proofs.Common.{ℕ, ◌≡◌, ◌+◌, ◌-◌, ◌<◌, ◌≤◌, ◌^◌, List, length, reverse, subst, arith, length-take}
 use Rattle.std.proofs.lemmas.List.{get_or-take, length-reverse}
 use Rattle.heap_model.specs.declared.record.UndoRecord.{UndoRecord}
-use Rattle.image.specs.Control.{AreRows}
-use Rattle.image.specs.Layout.{IsLayout}
-use Rattle.image.specs.Rows.{IsRow, empty_row}
+use Rattle.image_parts.specs.Control.{AreRows}
+use Rattle.image_parts.specs.Layout.{IsLayout}
+use Rattle.image_parts.specs.Rows.{IsRow, empty_row}
 use Rattle.undo_log.specs.StandsFor.{row_of}
 use Rattle.recover.specs.Logs.{records_of}
 use Rattle.recover.specs.Fits.{StudyLimitsLaw, StudyNumbersLaw}

@@ -8,20 +8,20 @@ use Rattle.heap_model.specs.declared.ids.FieldId.{FieldId}
 use Rattle.heap_model.specs.declared.record.UndoRecord.{UndoRecord}
 use Rattle.block_disk.specs.Device.{Range, SameOutside}
 use Rattle.block_disk.specs.Images.{IsApart, Survives}
-use Rattle.image.specs.Cells.{HasCell, HasHome, HasHomes}
-use Rattle.image.specs.Laws.{AreApart}
-use Rattle.image.specs.Layout.{IsLayout, area_at, cell_at, record_at}
-use Rattle.image.specs.Slots.{Shows}
-use Rattle.image.specs.declared.control.Control.{Control}
-use Rattle.image.specs.declared.error.ControlError.{ControlError}
-use Rattle.image.specs.declared.error.ControlError.TheVariants.{Fault}
-use Rattle.image.specs.declared.guard_row.GuardRow.{GuardRow}
-use Rattle.image.specs.declared.lane_row.LaneRow.{LaneRow}
-use Rattle.image.specs.declared.layout.Layout.{Layout}
-use Rattle.image.specs.declared.slot.Slot.{Slot}
-use Rattle.image.proofs.Commits.{shows_survives}
-use Rattle.image.proofs.Places.{places, header_survives, guards_survive, home_survives}
-use Rattle.image.proofs.Reading.{control_is_chosen, guards_are_read}
+use Rattle.image_parts.specs.Cells.{HasCell, HasHome, HasHomes}
+use Rattle.image_parts.specs.Laws.{AreApart}
+use Rattle.image_parts.specs.Layout.{IsLayout, area_at, cell_at, record_at}
+use Rattle.image_parts.specs.Slots.{Shows}
+use Rattle.image_parts.specs.declared.control.Control.{Control}
+use Rattle.image_parts.specs.declared.error.ControlError.{ControlError}
+use Rattle.image_parts.specs.declared.error.ControlError.TheVariants.{Fault}
+use Rattle.image_parts.specs.declared.guard_row.GuardRow.{GuardRow}
+use Rattle.image_parts.specs.declared.lane_row.LaneRow.{LaneRow}
+use Rattle.image_parts.specs.declared.layout.Layout.{Layout}
+use Rattle.image_parts.specs.declared.slot.Slot.{Slot}
+use Rattle.image_parts.proofs.SlotLemmas.{shows_survives}
+use Rattle.image_parts.proofs.Places.{places, header_survives, guards_survive, home_survives}
+use Rattle.image_parts.proofs.Reading.{control_is_chosen, guards_are_read}
 use Rattle.undo_log.specs.OldValues.{OldValue, HasOld, TakesBack, NothingBack, FirstBack, IsUnsettled}
 use Rattle.undo_log.specs.StandsFor.{HasLive, StandsFor, row_of, settled_of, guard_in, is_transient_in, row_in}
 use Rattle.undo_log.proofs.Frames.{records_survive}

@@ -4,18 +4,18 @@ use Rattle.heap_model.specs.Log.{lane}
 use Rattle.heap_model.specs.declared.ids.ObjectId.{ObjectId}
 use Rattle.heap_model.specs.declared.record.UndoRecord.{UndoRecord}
 use Rattle.heap_model.specs.declared.record.UndoRecord.TheVariants as undo
-use Rattle.image.specs.Guards.{HasGuards}
-use Rattle.image.specs.Header.{HasHeader, ReadsHeader}
-use Rattle.image.specs.Layout.{size_of}
-use Rattle.image.specs.Slots.{Shows}
-use Rattle.image.specs.declared.control.Control.{Control}
-use Rattle.image.specs.declared.error.HeaderError.{HeaderError}
-use Rattle.image.specs.declared.error.HeaderError.TheVariants as header_error
-use Rattle.image.specs.declared.guard_row.GuardRow.{GuardRow}
-use Rattle.image.specs.declared.lane_row.LaneRow.{LaneRow}
-use Rattle.image.specs.declared.layout.Layout.{Layout}
-use Rattle.image.specs.declared.slot.Slot.{Slot}
-use Rattle.image.proofs.Reading.{header_is_read, guards_are_read}
+use Rattle.image_parts.specs.Guards.{HasGuards}
+use Rattle.image_parts.specs.Header.{HasHeader, ReadsHeader}
+use Rattle.image_parts.specs.Layout.{size_of}
+use Rattle.image_parts.specs.Slots.{Shows}
+use Rattle.image_parts.specs.declared.control.Control.{Control}
+use Rattle.image_parts.specs.declared.error.HeaderError.{HeaderError}
+use Rattle.image_parts.specs.declared.error.HeaderError.TheVariants as header_error
+use Rattle.image_parts.specs.declared.guard_row.GuardRow.{GuardRow}
+use Rattle.image_parts.specs.declared.lane_row.LaneRow.{LaneRow}
+use Rattle.image_parts.specs.declared.layout.Layout.{Layout}
+use Rattle.image_parts.specs.declared.slot.Slot.{Slot}
+use Rattle.image_parts.proofs.Reading.{header_is_read, guards_are_read}
 use Rattle.undo_log.specs.Area.{HasRecord, HasRecords}
 use Rattle.undo_log.specs.StandsFor.{is_transient_in, row_of, HasLive}
 use Rattle.recover.specs.Logs.{AreLogs, IsBadAt, lanes_of, logged_guard_in}

@@ -6,7 +6,7 @@ use Rattle.heap_model.specs.declared.record.UndoRecord.{UndoRecord}
 use Rattle.heap_model.specs.Log.{lane}
 use Rattle.heap_model.specs.Sections.{Action, undo_action, holding, ended, Section}
 use Rattle.heap_model.specs.Cuts.{Counts, IsStable}
-use Rattle.image.specs.declared.lane_row.LaneRow.{LaneRow}
+use Rattle.image_parts.specs.declared.lane_row.LaneRow.{LaneRow}
 use Rattle.undo_log.specs.StandsFor.{row_of}
 use Rattle.dependence.specs.Reason.{IsLeftOut, IsReason}
 use Rattle.recover.specs.declared.report.Dropped.{Dropped}

@@ -2,13 +2,13 @@
 use Rattle.std.specs.Prelude.{ℕ, ◌+◌, ◌⊎◌, List, [], ◌∷◌}
 use Rattle.block_disk.specs.Device.{Device, synced}
 use Rattle.block_disk.specs.Images.{Always, ImageBut}
-use Rattle.image.specs.Calls.{Call, Sync}
+use Rattle.image_parts.specs.Calls.{Call, Sync}
 use Rattle.image.specs.Commit.{OldOrNew, commit_calls}
-use Rattle.image.specs.Control.{control_bytes, empty_control}
-use Rattle.image.specs.Slots.{Shows}
-use Rattle.image.specs.declared.control.Control.{Control}
-use Rattle.image.specs.declared.layout.Layout.{Layout}
-use Rattle.image.specs.declared.slot.Slot.{Slot}
+use Rattle.image_parts.specs.Control.{control_bytes, empty_control}
+use Rattle.image_parts.specs.Slots.{Shows}
+use Rattle.image_parts.specs.declared.control.Control.{Control}
+use Rattle.image_parts.specs.declared.layout.Layout.{Layout}
+use Rattle.image_parts.specs.declared.slot.Slot.{Slot}
 
 -- a sync, and a commit of the control with empty logs and the next sequence
 abbrev pub end_calls : (chosen : Slot) → (sequence : ℕ) → (image : List ℕ) → List Call

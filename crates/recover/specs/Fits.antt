@@ -1,6 +1,6 @@
 -- The numbers of a study: those of an image's study are within the image's limits, and its sections' below 2^64.
 use Rattle.std.specs.Prelude.{ℕ, ◌+◌, ◌<◌, ◌≤◌, ◌^◌, List, length}
-use Rattle.image.specs.Layout.{IsLayout}
+use Rattle.image_parts.specs.Layout.{IsLayout}
 use Rattle.undo_log.specs.StandsFor.{row_of}
 use Rattle.recover.specs.Logs.{records_of}
 use Rattle.recover.specs.Study.{IsStudyOf}

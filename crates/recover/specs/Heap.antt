@@ -7,10 +7,10 @@ use Rattle.heap_model.specs.Log.{lane}
 use Rattle.heap_model.specs.declared.ids.FieldId.{FieldId}
 use Rattle.heap_model.specs.declared.record.UndoRecord.{UndoRecord}
 use Rattle.heap_model.specs.declared.record.UndoRecord.TheVariants.{Acq, Rel, WaitRel, Put}
-use Rattle.image.specs.Cells.{HasHome}
-use Rattle.image.specs.declared.guard_row.GuardRow.{GuardRow}
-use Rattle.image.specs.declared.lane_row.LaneRow.{LaneRow}
-use Rattle.image.specs.declared.layout.Layout.{Layout}
+use Rattle.image_parts.specs.Cells.{HasHome}
+use Rattle.image_parts.specs.declared.guard_row.GuardRow.{GuardRow}
+use Rattle.image_parts.specs.declared.lane_row.LaneRow.{LaneRow}
+use Rattle.image_parts.specs.declared.layout.Layout.{Layout}
 use Rattle.undo_log.specs.OldValues.{OldValue, HasOld, IsUnsettled, TakesBack}
 use Rattle.undo_log.specs.StandsFor.{guard_in, row_in, settled_of}
 use Rattle.recover.specs.declared.error.RecoverError.{RecoverError}

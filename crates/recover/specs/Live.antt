@@ -4,7 +4,7 @@ use Rattle.heap_model.specs.declared.record.UndoRecord.{UndoRecord}
 use Rattle.heap_model.specs.Log.{lane}
 use Rattle.heap_model.specs.Sections.{Action, holding, ended, Section, Did}
 use Rattle.heap_model.specs.Cuts.{IsStable}
-use Rattle.image.specs.declared.lane_row.LaneRow.{LaneRow}
+use Rattle.image_parts.specs.declared.lane_row.LaneRow.{LaneRow}
 use Rattle.dependence.specs.Trace.{Trace, base_of}
 use Rattle.dependence.specs.Next.{IsNext}
 use Rattle.recover.specs.declared.live_sections.LiveSections.{LiveSections}

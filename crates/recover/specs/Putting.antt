@@ -3,10 +3,10 @@ use Rattle.std.specs.Prelude.{ℕ, List, map, slice_index}
 use Rattle.std.specs.Int.{to_be_bytes, w64}
 use Rattle.heap_model.specs.declared.ids.FieldId.{FieldId}
 use Rattle.block_disk.specs.Device.{Range}
-use Rattle.image.specs.Calls.{Call, Write}
-use Rattle.image.specs.Cells.{cell_range}
-use Rattle.image.specs.Layout.{cell_at}
-use Rattle.image.specs.declared.layout.Layout.{Layout}
+use Rattle.image_parts.specs.Calls.{Call, Write}
+use Rattle.image_parts.specs.Cells.{cell_range}
+use Rattle.image_parts.specs.Layout.{cell_at}
+use Rattle.image_parts.specs.declared.layout.Layout.{Layout}
 
 -- the bytes of these fields' home cells
 abbrev pub cell_ranges : Layout → List FieldId → List Range

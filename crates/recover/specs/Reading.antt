@@ -2,15 +2,15 @@
 use Rattle.std.specs.Prelude.{ℕ, ◌≡◌, ◌<◌, ◌≤◌, ◌⊎◌, true, false, List, length, Err, Vec}
 use Rattle.std.specs.declared.alloc.Global.{Global}
 use Rattle.heap_model.specs.declared.record.UndoRecord.{UndoRecord}
-use Rattle.image.specs.Layout.{size_of}
-use Rattle.image.specs.Header.{IsFormatted, HasHeader}
-use Rattle.image.specs.Guards.{HasGuards}
-use Rattle.image.specs.Slots.{Shows, Chooses}
-use Rattle.image.specs.declared.layout.Layout.{Layout}
-use Rattle.image.specs.declared.slot.Slot.{Slot}
-use Rattle.image.specs.declared.control.Control.{Control}
-use Rattle.image.specs.declared.guard_row.GuardRow.{GuardRow}
-use Rattle.image.specs.declared.error.ControlError.TheVariants as control_error
+use Rattle.image_parts.specs.Layout.{size_of}
+use Rattle.image_parts.specs.Header.{IsFormatted, HasHeader}
+use Rattle.image_parts.specs.Guards.{HasGuards}
+use Rattle.image_parts.specs.Slots.{Shows, Chooses}
+use Rattle.image_parts.specs.declared.layout.Layout.{Layout}
+use Rattle.image_parts.specs.declared.slot.Slot.{Slot}
+use Rattle.image_parts.specs.declared.control.Control.{Control}
+use Rattle.image_parts.specs.declared.guard_row.GuardRow.{GuardRow}
+use Rattle.image_parts.specs.declared.error.ControlError.TheVariants as control_error
 use Rattle.undo_log.specs.StandsFor.{is_transient_in}
 use Rattle.recover.specs.declared.logged_image.LoggedImage.{LoggedImage}
 use Rattle.recover.specs.declared.error.RecoverError.{RecoverError}

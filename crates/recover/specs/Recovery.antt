@@ -4,14 +4,14 @@ use Rattle.heap_model.specs.Cuts.{counts_of}
 use Rattle.heap_model.specs.declared.ids.FieldId.{FieldId}
 use Rattle.block_disk.specs.Device.{Device, SameMoments, synced}
 use Rattle.block_disk.specs.Images.{LeavesOnly}
-use Rattle.image.specs.Calls.{after}
-use Rattle.image.specs.Control.{empty_control}
-use Rattle.image.specs.Recovered.{IsRecovered, Parts}
-use Rattle.image.specs.Slots.{other}
-use Rattle.image.specs.declared.control.Control.{Control}
-use Rattle.image.specs.declared.guard_row.GuardRow.{GuardRow}
-use Rattle.image.specs.declared.layout.Layout.{Layout}
-use Rattle.image.specs.declared.slot.Slot.{Slot}
+use Rattle.image_parts.specs.Calls.{after}
+use Rattle.image_parts.specs.Control.{empty_control}
+use Rattle.image_parts.specs.Recovered.{IsRecovered, Parts}
+use Rattle.image_parts.specs.Slots.{other}
+use Rattle.image_parts.specs.declared.control.Control.{Control}
+use Rattle.image_parts.specs.declared.guard_row.GuardRow.{GuardRow}
+use Rattle.image_parts.specs.declared.layout.Layout.{Layout}
+use Rattle.image_parts.specs.declared.slot.Slot.{Slot}
 use Rattle.recover.specs.declared.error.RecoverError.{RecoverError}
 use Rattle.recover.specs.declared.error.RecoverError.TheVariants.{Fault, NotFormatted, BadHeader, TooSmall, NoControl, BadControl, OldVersion, Worn, BadRecord, IllegalLog, NoMemory}
 use Rattle.recover.specs.declared.report.Report.{Report}

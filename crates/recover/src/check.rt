@@ -1,7 +1,7 @@
 //! Whether an image's live records are logs that threads can have left.
 ghost use Rattle.std.specs.Prelude.{◌≡◌, ◌-◌, ℕ, All, IfErr, IfOk, MatchResult};
-ghost use Rattle.image.specs.Control.{AreRows};
-ghost use Rattle.image.specs.Layout.{IsLayout};
+ghost use Rattle.image_parts.specs.Control.{AreRows};
+ghost use Rattle.image_parts.specs.Layout.{IsLayout};
 ghost use Rattle.undo_log.specs.StandsFor.{settled_of};
 ghost use Rattle.recover_logs.specs.Logs.{guard_in as guard_among, count_of};
 ghost use Rattle.recover_logs.specs.Replay.{Replays};

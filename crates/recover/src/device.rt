@@ -3,8 +3,8 @@ ghost use Rattle.std.specs.Prelude.{◌≡◌, ◌<◌, ◌≤◌, [], ◌∷◌
 ghost use Rattle.std.specs.Int.{to_be_bytes, w64};
 ghost use Rattle.block_disk.specs.Device.{SameMoments, synced, written};
 ghost use Rattle.block_disk.specs.Since.{HasCauseSince, LeavesBut};
-ghost use Rattle.image.specs.Cells.{HasCell, cell_range};
-ghost use Rattle.image.specs.Layout.{cell_at, size_of};
+ghost use Rattle.image_parts.specs.Cells.{HasCell, cell_range};
+ghost use Rattle.image_parts.specs.Layout.{cell_at, size_of};
 ghost use Rattle.recover.specs.declared.error.RecoverError.TheVariants.{Fault};
 
 use crate::error::RecoverError;

@@ -1,8 +1,8 @@
 //! Which live sections recovery drops, and why.
 ghost use Rattle.std.specs.Prelude.{◌≡◌, ◌+◌, ◌<◌, ◌≤◌, ℕ, IfOk, IfErr, MatchResult};
 ghost use Rattle.heap_model.specs.Cuts.{IsStable};
-ghost use Rattle.image.specs.Control.{AreRows};
-ghost use Rattle.image.specs.Layout.{IsLayout};
+ghost use Rattle.image_parts.specs.Control.{AreRows};
+ghost use Rattle.image_parts.specs.Layout.{IsLayout};
 ghost use Rattle.recover.specs.Logs.{AreGuards, AreLoggable, lanes_of, logged_guard_in};
 ghost use Rattle.recover_logs.specs.Replay.{Replays};
 ghost use Rattle.recover.specs.Settled.{AreLegal};

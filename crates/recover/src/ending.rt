@@ -2,11 +2,11 @@
 ghost use Rattle.std.specs.Prelude.{◌≡◌, ◌+◌, ◌-◌, ◌<◌, ◌^◌, [], IfErr, IfOk, OnOk};
 ghost use Rattle.block_disk.specs.Images.{LeavesOnly};
 ghost use Rattle.block_disk.specs.Since.{HasCauseSince};
-ghost use Rattle.image.specs.Calls.{after};
-ghost use Rattle.image.specs.Control.{empty_control};
-ghost use Rattle.image.specs.Layout.{IsLayout};
-ghost use Rattle.image.specs.Slots.{Shows, other};
-ghost use Rattle.image.specs.declared.control.Control.{Control as Content};
+ghost use Rattle.image_parts.specs.Calls.{after};
+ghost use Rattle.image_parts.specs.Control.{empty_control};
+ghost use Rattle.image_parts.specs.Layout.{IsLayout};
+ghost use Rattle.image_parts.specs.Slots.{Shows, other};
+ghost use Rattle.image_parts.specs.declared.control.Control.{Control as Content};
 ghost use Rattle.recover.specs.Ending.{AlwaysShows, IsEnding, end_calls};
 ghost use Rattle.recover.specs.declared.error.RecoverError.TheVariants.{Fault};
 

@@ -2,8 +2,8 @@
 ghost use Rattle.std.specs.Prelude.{◌≡◌, ◌≢◌, ◌+◌, ◌-◌, ◌<◌, ◌≤◌, ◌^◌, ℕ, All, if◌then◌else◌, nat_lt, IfErr, IfOk, None, Some, length, slice_index, slice_index_or, slice_set};
 ghost use Rattle.block_disk.specs.Device.{SameMoments};
 ghost use Rattle.block_disk.specs.Since.{HasCauseSince};
-ghost use Rattle.image.specs.Cells.{HasHome};
-ghost use Rattle.image.specs.Layout.{size_of};
+ghost use Rattle.image_parts.specs.Cells.{HasHome};
+ghost use Rattle.image_parts.specs.Layout.{size_of};
 ghost use Rattle.undo_log.specs.StandsFor.{guard_in, row_in, settled_of};
 ghost use Rattle.recover.specs.Heap.{AreFields, IsOldOrHome, IsUndone, RefusesHeap, TakesAllBack, earlier, first_old, stored};
 ghost use Rattle.recover.specs.Logs.{lanes_of, logged_guard_in};

@@ -1,7 +1,7 @@
 //! The lanes' live sections, counted.
 ghost use Rattle.std.specs.Prelude.{◌≡◌, ◌<◌, ◌≤◌, ℕ, length, take};
 ghost use Rattle.undo_log.specs.StandsFor.{row_of, settled_of};
-ghost use Rattle.image.specs.Rows.{empty_row};
+ghost use Rattle.image_parts.specs.Rows.{empty_row};
 ghost use Rattle.recover.specs.Logs.{records_of, lanes_of};
 ghost use Rattle.heap_model.specs.Sections.{ended};
 ghost use Rattle.recover.specs.Settled.{IsAtRest};

@@ -2,9 +2,9 @@
 ghost use Rattle.std.specs.Prelude.{◌<◌, ◌≤◌, MatchResult, length};
 ghost use Rattle.block_disk.specs.Device.{SameMoments};
 ghost use Rattle.block_disk.specs.Since.{HasCauseSince};
-ghost use Rattle.image.specs.Control.{AreRows};
-ghost use Rattle.image.specs.Layout.{IsLayout, size_of};
-ghost use Rattle.image.specs.Rows.{IsRow};
+ghost use Rattle.image_parts.specs.Control.{AreRows};
+ghost use Rattle.image_parts.specs.Layout.{IsLayout, size_of};
+ghost use Rattle.image_parts.specs.Rows.{IsRow};
 ghost use Rattle.undo_log.specs.Area.{HasSpan};
 ghost use Rattle.recover.specs.Logs.{AreLogs, RefusesLane, RefusesLogs};
 ghost use Rattle.recover.specs.declared.error.RecoverError.TheVariants.{Fault};

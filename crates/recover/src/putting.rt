@@ -1,9 +1,9 @@
 //! Old values go back to their home cells.
 ghost use Rattle.std.specs.Prelude.{◌≡◌, ◌<◌, ◌≤◌, All, length, slice_index, IfErr, OnOk};
 ghost use Rattle.block_disk.specs.Since.{HasCauseSince, LeavesBut};
-ghost use Rattle.image.specs.Calls.{after};
-ghost use Rattle.image.specs.Cells.{HasCell};
-ghost use Rattle.image.specs.Layout.{size_of};
+ghost use Rattle.image_parts.specs.Calls.{after};
+ghost use Rattle.image_parts.specs.Cells.{HasCell};
+ghost use Rattle.image_parts.specs.Layout.{size_of};
 ghost use Rattle.recover.specs.Putting.{cell_ranges, put_calls};
 ghost use Rattle.recover.specs.declared.error.RecoverError.TheVariants.{Fault};
 

@@ -2,9 +2,9 @@
 ghost use Rattle.std.specs.Prelude.{◌≡◌, ◌≤◌, All, IfOk, MatchResult, length};
 ghost use Rattle.block_disk.specs.Device.{SameMoments};
 ghost use Rattle.block_disk.specs.Since.{HasCauseSince};
-ghost use Rattle.image.specs.Guards.{HasGuards};
-ghost use Rattle.image.specs.Layout.{IsLayout, size_of};
-ghost use Rattle.image.specs.Slots.{Shows};
+ghost use Rattle.image_parts.specs.Guards.{HasGuards};
+ghost use Rattle.image_parts.specs.Layout.{IsLayout, size_of};
+ghost use Rattle.image_parts.specs.Slots.{Shows};
 ghost use Rattle.recover.specs.Logs.{lanes_of, logged_guard_in};
 ghost use Rattle.recover.specs.Reading.{HasControl, HasLayout, Holds, RefusesControl, RefusesFront, RefusesLayout, RefusesLive, RefusesRows};
 ghost use Rattle.recover_logs.specs.Replay.{Replays};

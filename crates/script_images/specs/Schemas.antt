@@ -1,7 +1,7 @@
 -- Which schema a script over an image may name its objects and fields by (docs/SCRIPTS.md, "A script over an image file").
 use Rattle.std.specs.Prelude.{ℕ, ◌≡◌, ◌<◌, ◌==◌, Bool, true, false, IsTrue, Option, None, Some, List, slice_get}
 use Rattle.guards.specs.Schema.{Declarations, field_count, first_of, is_transient_of}
-use Rattle.image.specs.declared.guard_row.GuardRow.{GuardRow}
+use Rattle.image_parts.specs.declared.guard_row.GuardRow.{GuardRow}
 use Rattle.image_schema.specs.OfImage.{FitsImage, named_as}
 use Rattle.recover.specs.Study.{IsStudyOf}
 use Rattle.recover.specs.declared.studied.Study.{Study}

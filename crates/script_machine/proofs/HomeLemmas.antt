@@ -5,7 +5,7 @@ use Rattle.std.proofs.lemmas.Bool.Decides.{eqb_tells}
 use Rattle.heap_model.specs.Setting.{Setting}
 use Rattle.store_memory.specs.Begin.{IsLeastDirtyOf}
 use Rattle.heap_model.specs.Past.{Past, after_home}
-use Rattle.image.specs.declared.layout.Layout.{Layout}
+use Rattle.image_parts.specs.declared.layout.Layout.{Layout}
 use Rattle.store_image.specs.Consistent.{ShowsPast}
 
 -- where no field below k is dirty, none below the next is once the least dirty one is at home

@@ -10,17 +10,17 @@ use Rattle.block_disk.proofs.Bytes.{get_or_part, length_spliced, spliced_at}
 use Rattle.block_disk.proofs.Images.{after_sync, always_now, always_only, and_then, begin, besides_only, leaves_synced, leaves_written, left_now, passes, survives, weaker}
 use Rattle.block_disk.proofs.Ranges.{outside_none, spliced_same}
 use Rattle.guards.specs.Schema.{Declarations, first_of}
-use Rattle.image.specs.Calls.{Sync, Write, after}
-use Rattle.image.specs.Format.{IsFresh, all_field_calls, closed_slot, field_calls, format_calls, fresh_slot, name_calls, slot_calls}
-use Rattle.image.specs.Guards.{HasGuards, guard_bytes, guard_row_of}
-use Rattle.image.specs.Header.{HasHeader, header_bytes}
-use Rattle.image.specs.Layout.{IsLayoutOf, cell_at, guard_at, size_of}
-use Rattle.image.specs.declared.guard_row.GuardRow.{GuardRow}
-use Rattle.image.specs.declared.layout.Layout.{Layout}
-use Rattle.image.proofs.Commits.{after-append}
-use Rattle.image.proofs.Fresh.{fresh_made}
-use Rattle.image.proofs.GuardLemmas.{one_row_there}
-use Rattle.image.proofs.Reading.{one_layout}
+use Rattle.image_parts.specs.Calls.{Sync, Write, after}
+use Rattle.image_parts.specs.Format.{IsFresh, all_field_calls, closed_slot, field_calls, format_calls, fresh_slot, name_calls, slot_calls}
+use Rattle.image_parts.specs.Guards.{HasGuards, guard_bytes, guard_row_of}
+use Rattle.image_parts.specs.Header.{HasHeader, header_bytes}
+use Rattle.image_parts.specs.Layout.{IsLayoutOf, cell_at, guard_at, size_of}
+use Rattle.image_parts.specs.declared.guard_row.GuardRow.{GuardRow}
+use Rattle.image_parts.specs.declared.layout.Layout.{Layout}
+use Rattle.image_parts.proofs.CallLemmas.{after-append}
+use Rattle.image_parts.proofs.Fresh.{fresh_made}
+use Rattle.image_parts.proofs.GuardLemmas.{one_row_there}
+use Rattle.image_parts.proofs.Reading.{one_layout}
 
 -- so many bytes, and a zero at this place
 record HasZero (n at : ℕ) (image : List ℕ) : Type 0 where

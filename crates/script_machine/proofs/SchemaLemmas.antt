@@ -11,14 +11,14 @@ use Rattle.block_disk.specs.Device.{Device, LeftIn, LeftSince, Moment, SameMomen
 use Rattle.block_disk.specs.Images.{LeavesOnly}
 use Rattle.block_disk.specs.Memory.{Memory, device_of, fresh}
 use Rattle.block_disk.proofs.Images.{always_now, image_now, left_now, left_since, only_now}
-use Rattle.image.specs.Calls.{after}
-use Rattle.image.specs.Format.{format_calls}
-use Rattle.image.specs.Guards.{HasGuards, no_row}
-use Rattle.image.specs.Layout.{IsLayoutOf, size_of}
-use Rattle.image.specs.declared.guard_row.GuardRow.{GuardRow}
-use Rattle.image.specs.declared.layout.Layout.{Layout}
-use Rattle.image.proofs.GuardLemmas.{one_row_there}
-use Rattle.image.proofs.Reading.{guards_are_read, one_layout}
+use Rattle.image_parts.specs.Calls.{after}
+use Rattle.image_parts.specs.Format.{format_calls}
+use Rattle.image_parts.specs.Guards.{HasGuards, no_row}
+use Rattle.image_parts.specs.Layout.{IsLayoutOf, size_of}
+use Rattle.image_parts.specs.declared.guard_row.GuardRow.{GuardRow}
+use Rattle.image_parts.specs.declared.layout.Layout.{Layout}
+use Rattle.image_parts.proofs.GuardLemmas.{one_row_there}
+use Rattle.image_parts.proofs.Reading.{guards_are_read, one_layout}
 use Rattle.heap_model.specs.Past.{Past, after_log, after_settle, after_trim, no_past}
 use Rattle.store_image.specs.Consistent.{HasParts}
 use Rattle.durable.specs.Store.{FitsImage, Parts, ShowsStep}

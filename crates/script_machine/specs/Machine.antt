@@ -22,7 +22,7 @@ use Rattle.block_disk.specs.Device.{Image, SameMoments}
 use Rattle.block_disk.specs.Images.{LeavesOnly}
 use Rattle.block_disk.specs.Memory.{Memory, fresh, device_of, moment_after}
 use Rattle.block_disk.specs.declared.crash.Fill.{Fill}
-use Rattle.image.specs.Layout.{size_of}
+use Rattle.image_parts.specs.Layout.{size_of}
 use Rattle.store_memory.specs.Apply.{Answers}
 use Rattle.durable.specs.Calls.{IsClean, RefusesApply, RefusesLog, RefusesSettle, RefusesTrim}
 use Rattle.store_image.specs.Formatting.{layout_with}

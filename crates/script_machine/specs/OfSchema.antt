@@ -3,11 +3,11 @@ use Rattle.std.specs.Prelude.{ℕ, ◌≡◌, ◌<◌, true, List, replicate, sl
 use Rattle.guards.specs.Schema.{Declarations, object_count, field_count, first_of, guard_of, is_transient_of}
 use Rattle.block_disk.specs.Device.{Device, LeftSince}
 use Rattle.block_disk.specs.Memory.{Memory, device_of, fresh}
-use Rattle.image.specs.Calls.{after}
-use Rattle.image.specs.Format.{format_calls}
-use Rattle.image.specs.Layout.{size_of}
-use Rattle.image.specs.declared.guard_row.GuardRow.{GuardRow}
-use Rattle.image.specs.declared.layout.Layout.{Layout}
+use Rattle.image_parts.specs.Calls.{after}
+use Rattle.image_parts.specs.Format.{format_calls}
+use Rattle.image_parts.specs.Layout.{size_of}
+use Rattle.image_parts.specs.declared.guard_row.GuardRow.{GuardRow}
+use Rattle.image_parts.specs.declared.layout.Layout.{Layout}
 use Rattle.recover.specs.Reading.{HasFront}
 
 -- the image has the schema's objects and fields, each field the schema's guard, and a transient one its mark and its first

@@ -5,11 +5,11 @@ use Rattle.block_disk.specs.Device.{SameMoments, synced}
 use Rattle.block_disk.specs.Images.{LeavesOnly}
 use Rattle.block_disk.specs.Memory.{Memory, device_of}
 use Rattle.heap_model.specs.declared.limits.TheConstants.{LAST_NUMBER}
-use Rattle.image.specs.Layout.{IsLayout}
+use Rattle.image_parts.specs.Layout.{IsLayout}
 use Rattle.durable.specs.Begin.{IsSettingOf}
 use Rattle.heap_model.specs.Past.{no_past}
 use Rattle.durable.specs.Store.{Parts}
-use Rattle.image.specs.Recovered as image
+use Rattle.image_parts.specs.Recovered as image
 use Rattle.recover.specs.declared.report.Report as recover
 use Rattle.recover.specs.declared.error.RecoverError.{RecoverError}
 use Rattle.recover.specs.declared.studied.Study.{Study}

@@ -1,7 +1,7 @@
 //! A store over a device in memory: of a new image, and of one that was recovered.
 ghost use Rattle.std.specs.Prelude.{◌≡◌, false, IfOk, OnOk};
 ghost use Rattle.block_disk.specs.Memory.{device_of};
-ghost use Rattle.image.specs.Layout.{size_of};
+ghost use Rattle.image_parts.specs.Layout.{size_of};
 ghost use Rattle.store_image.specs.Formatting.{layout_with};
 ghost use Rattle.heap_model.specs.Past.{no_past};
 ghost use Rattle.recover.specs.Recovery.{IsTooOld};

@@ -12,9 +12,9 @@ use Rattle.block_disk.specs.Images.{LeavesOnly, Always}
 use Rattle.block_disk.specs.Memory.{Memory, Stop, device_of, fresh, moments_before}
 use Rattle.block_disk.specs.declared.crash.Fill.{Fill}
 use Rattle.block_disk.proofs.Images.{begin, left_now, weaker}
-use Rattle.image.specs.Header.{HasHeader}
-use Rattle.image.specs.declared.layout.Layout.{Layout}
-use Rattle.image.proofs.Reading.{one_layout, control_is_chosen}
+use Rattle.image_parts.specs.Header.{HasHeader}
+use Rattle.image_parts.specs.declared.layout.Layout.{Layout}
+use Rattle.image_parts.proofs.Reading.{one_layout, control_is_chosen}
 use Rattle.store_memory.specs.Fresh.{IsOfLanes}
 use Rattle.heap_model.specs.Past.{Past, applied, after_settle}
 use Rattle.store_image.specs.KeptHeap.{kept_heap, StandsForCut, StandsForEither}
@@ -35,11 +35,11 @@ use Rattle.script_machine.specs.declared.answer.Refusal.{Refusal}
 use Rattle.script_machine.specs.declared.answer.Refusal.TheVariants.{Worn}
 use Rattle.script_machine.specs.Answers.{acknowledged_in}
 use Rattle.script_machine.specs.Agreement.{setting_from}
-use Rattle.image.specs.declared.control.Control.{Control}
-use Rattle.image.specs.declared.error.ControlError.{ControlError}
-use Rattle.image.specs.declared.error.ControlError.TheVariants as control_error
-use Rattle.image.specs.declared.slot.Slot.{Slot}
-use Rattle.image.specs.Slots.{Shows as ShowsControl}
+use Rattle.image_parts.specs.declared.control.Control.{Control}
+use Rattle.image_parts.specs.declared.error.ControlError.{ControlError}
+use Rattle.image_parts.specs.declared.error.ControlError.TheVariants as control_error
+use Rattle.image_parts.specs.declared.slot.Slot.{Slot}
+use Rattle.image_parts.specs.Slots.{Shows as ShowsControl}
 use Rattle.undo_log.specs.StandsFor.{row_of, StandsFor}
 use Rattle.undo_log.proofs.OneHeap.{one_heap}
 use Rattle.store_image.proofs.Stands.{stands_always}

@@ -19,7 +19,7 @@ use Rattle.block_disk.specs.Images.{Continues, LeavesOnly}
 use Rattle.block_disk.specs.Memory.{Memory, device_of, moments_before}
 use Rattle.block_disk.specs.declared.crash.Fill.{Fill}
 use Rattle.block_disk.proofs.Images.{begin, grows_then, left_now, weaker}
-use Rattle.image.specs.declared.layout.Layout.{Layout}
+use Rattle.image_parts.specs.declared.layout.Layout.{Layout}
 use Rattle.store_image.specs.KeptHeap.{StandsForCut, kept_heap}
 use Rattle.heap_model.specs.Past.{Past, applied, no_past, after_home, after_log, after_settle, after_trim}
 use Rattle.durable.specs.Store.{Parts, ShowsStep}

@@ -15,8 +15,8 @@ use Rattle.heap_model.specs.Sections.{Action, Takes, actions, Section, Did, ende
 use Rattle.heap_model.specs.Cuts.{IsWhole, IsClosed, is_counted}
 use Rattle.heap_model.specs.KeptHeap.{kept_value}
 use Rattle.law_cuts.proofs.Lanes.{lane_append}
-use Rattle.image.specs.Cells.{HasHome}
-use Rattle.image.specs.declared.layout.Layout.{Layout}
+use Rattle.image_parts.specs.Cells.{HasHome}
+use Rattle.image_parts.specs.declared.layout.Layout.{Layout}
 use Rattle.undo_log.specs.OldValues.{OldValue, HasOld, TakesBack, IsUnsettled, IsBeyond}
 use Rattle.undo_log.specs.Dropped.{undo_logs, IsDropped}
 use Rattle.undo_log.specs.StandsFor.{settled_of, row_in, guard_in, is_transient_in, StandsFor}

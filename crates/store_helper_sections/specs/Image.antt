@@ -7,16 +7,16 @@ use Rattle.heap_model.specs.KeptHeap.{kept_value}
 use Rattle.heap_model.specs.Log.{IsLegal, IsOfLanes}
 use Rattle.heap_model.specs.Sections.{actions}
 use Rattle.heap_model.specs.Setting.{Setting}
-use Rattle.image.specs.Cells.{HasCell}
-use Rattle.image.specs.Guards.{HasGuards}
-use Rattle.image.specs.Header.{HasHeader}
-use Rattle.image.specs.Layout.{size_of}
-use Rattle.image.specs.Slots.{Shows}
-use Rattle.image.specs.declared.control.Control.{Control}
-use Rattle.image.specs.declared.guard_row.GuardRow.{GuardRow}
-use Rattle.image.specs.declared.lane_row.LaneRow.{LaneRow}
-use Rattle.image.specs.declared.layout.Layout.{Layout}
-use Rattle.image.specs.declared.slot.Slot.{Slot}
+use Rattle.image_parts.specs.Cells.{HasCell}
+use Rattle.image_parts.specs.Guards.{HasGuards}
+use Rattle.image_parts.specs.Header.{HasHeader}
+use Rattle.image_parts.specs.Layout.{size_of}
+use Rattle.image_parts.specs.Slots.{Shows}
+use Rattle.image_parts.specs.declared.control.Control.{Control}
+use Rattle.image_parts.specs.declared.guard_row.GuardRow.{GuardRow}
+use Rattle.image_parts.specs.declared.lane_row.LaneRow.{LaneRow}
+use Rattle.image_parts.specs.declared.layout.Layout.{Layout}
+use Rattle.image_parts.specs.declared.slot.Slot.{Slot}
 use Rattle.undo_log.specs.Dropped.{undo_logs}
 use Rattle.undo_log.specs.StandsFor.{AreRowsOf, HasLive, row_of}
 use Rattle.heap_model.specs.Past.{has_store}

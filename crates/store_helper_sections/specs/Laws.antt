@@ -6,7 +6,7 @@ use Rattle.heap_model.specs.Cuts.{IsClosed, IsWhole}
 use Rattle.heap_model.specs.Log.{IsLegal, IsOfLanes}
 use Rattle.heap_model.specs.Sections.{actions}
 use Rattle.heap_model.specs.Setting.{Setting}
-use Rattle.image.specs.declared.layout.Layout.{Layout}
+use Rattle.image_parts.specs.declared.layout.Layout.{Layout}
 use Rattle.undo_log.specs.StandsFor.{StandsFor}
 use Rattle.store_helper_sections.specs.Going.{GoesOn, from_heap}
 use Rattle.store_helper_sections.specs.HelperSections.{ArePreceding, HelperSection, helper_log}

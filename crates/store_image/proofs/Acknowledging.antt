@@ -10,13 +10,13 @@ use Rattle.law_cuts.proofs.Next.{legal_before}
 use Rattle.block_disk.specs.Device.{Device, synced}
 use Rattle.block_disk.specs.Images.{Always, ImageBut, LeavesOnly}
 use Rattle.block_disk.proofs.Images.{after_sync, and_then, always_now, image_now, now_too, weaker, leaves_synced, besides_none}
-use Rattle.image.specs.Cells.{HasCell}
+use Rattle.image_parts.specs.Cells.{HasCell}
 use Rattle.image.specs.Commit.{IsSteady, OldOrNew}
-use Rattle.image.specs.Control.{AreRows, control_of}
-use Rattle.image.specs.Slots.{other}
-use Rattle.image.specs.declared.control.Control.{Control}
-use Rattle.image.specs.declared.lane_row.LaneRow.{LaneRow}
-use Rattle.image.specs.declared.layout.Layout.{Layout}
+use Rattle.image_parts.specs.Control.{AreRows, control_of}
+use Rattle.image_parts.specs.Slots.{other}
+use Rattle.image_parts.specs.declared.control.Control.{Control}
+use Rattle.image_parts.specs.declared.lane_row.LaneRow.{LaneRow}
+use Rattle.image_parts.specs.declared.layout.Layout.{Layout}
 use Rattle.image.proofs.Commits.{steady_stays}
 use Rattle.undo_log.specs.Dropped.{IsDropped}
 use Rattle.undo_log.specs.StandsFor.{row_of}

@@ -6,11 +6,11 @@ use Rattle.block_disk.specs.Device.{Range, Device, IsClear, SameOutside, written
 use Rattle.block_disk.specs.Images.{Always, ImageBut, IsApart, LeavesOnly}
 use Rattle.block_disk.proofs.Images.{begin, besides_then, besides_wider, follows, now_too}
 use Rattle.block_disk.proofs.Ranges.{clear_left, clear_right, outside_both, outside_more, outside_refl, outside_trans, spliced_same}
-use Rattle.image.specs.Calls.{after}
-use Rattle.image.specs.Layout.{IsLayout, area_at, record_at, size_of}
-use Rattle.image.specs.Rows.{IsRow}
-use Rattle.image.specs.declared.lane_row.LaneRow.{LaneRow}
-use Rattle.image.specs.declared.layout.Layout.{Layout}
+use Rattle.image_parts.specs.Calls.{after}
+use Rattle.image_parts.specs.Layout.{IsLayout, area_at, record_at, size_of}
+use Rattle.image_parts.specs.Rows.{IsRow}
+use Rattle.image_parts.specs.declared.lane_row.LaneRow.{LaneRow}
+use Rattle.image_parts.specs.declared.layout.Layout.{Layout}
 use Rattle.undo_log.specs.Area.{HasRecords, record_range, record_ranges, record_writes}
 use Rattle.undo_log.specs.Frames.{Spares}
 use Rattle.undo_log.specs.RecordBytes.{record_bytes}

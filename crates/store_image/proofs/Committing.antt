@@ -5,16 +5,16 @@ use Rattle.heap_model.specs.Setting.{Setting}
 use Rattle.block_disk.specs.Device.{Range, Device}
 use Rattle.block_disk.specs.Images.{Always, ImageBut, IsApart, LeavesOnly}
 use Rattle.block_disk.proofs.Images.{always_only, besides_only, besides_survives, image_now, now_too, weaker}
-use Rattle.image.specs.Cells.{HasCell}
+use Rattle.image_parts.specs.Cells.{HasCell}
 use Rattle.image.specs.Commit.{IsSteady, OldOrNew}
-use Rattle.image.specs.Layout.{cell_at, record_at}
-use Rattle.image.specs.Slots.{other, slot_range}
-use Rattle.image.specs.declared.control.Control.{Control}
-use Rattle.image.specs.declared.layout.Layout.{Layout}
-use Rattle.image.specs.declared.slot.Slot.{Slot}
-use Rattle.image.specs.declared.slot.Slot.TheVariants.{A, B}
+use Rattle.image_parts.specs.Layout.{cell_at, record_at}
+use Rattle.image_parts.specs.Slots.{other, slot_range}
+use Rattle.image_parts.specs.declared.control.Control.{Control}
+use Rattle.image_parts.specs.declared.layout.Layout.{Layout}
+use Rattle.image_parts.specs.declared.slot.Slot.{Slot}
+use Rattle.image_parts.specs.declared.slot.Slot.TheVariants.{A, B}
 use Rattle.image.proofs.Commits.{steady_before}
-use Rattle.image.proofs.Places.{cell_survives}
+use Rattle.image_parts.proofs.Places.{cell_survives}
 use Rattle.heap_model.specs.Past.{Past}
 use Rattle.store_image.specs.Consistent.{TellsCut, HasParts, ShowsPast}
 use Rattle.store_image.proofs.Parts.{Spared, parts_survive}

@@ -15,13 +15,13 @@ use Rattle.block_disk.specs.Device.{Device, SameOutside}
 use Rattle.block_disk.specs.Images.{Always, LeavesOnly}
 use Rattle.block_disk.proofs.Images.{image_now, now_too, weaker}
 use Rattle.image.specs.Commit.{IsSteady, OldOrNew}
-use Rattle.image.specs.Control.{AreRows, control_of}
-use Rattle.image.specs.Layout.{cell_at}
-use Rattle.image.specs.Slots.{other, slot_range}
-use Rattle.image.specs.declared.control.Control.{Control}
-use Rattle.image.specs.declared.lane_row.LaneRow.{LaneRow}
-use Rattle.image.specs.declared.layout.Layout.{Layout}
-use Rattle.image.proofs.Places.{cell_survives}
+use Rattle.image_parts.specs.Control.{AreRows, control_of}
+use Rattle.image_parts.specs.Layout.{cell_at}
+use Rattle.image_parts.specs.Slots.{other, slot_range}
+use Rattle.image_parts.specs.declared.control.Control.{Control}
+use Rattle.image_parts.specs.declared.lane_row.LaneRow.{LaneRow}
+use Rattle.image_parts.specs.declared.layout.Layout.{Layout}
+use Rattle.image_parts.proofs.Places.{cell_survives}
 use Rattle.undo_log.specs.Area.{HasRecords}
 use Rattle.undo_log.specs.Dropped.{undo_logs, records_in}
 use Rattle.undo_log.specs.StandsFor.{row_of}

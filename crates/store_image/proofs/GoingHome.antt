@@ -9,13 +9,14 @@ use Rattle.block_disk.specs.Device.{Range, Device, SameOutside, written}
 use Rattle.block_disk.specs.Images.{Always, ImageBut, IsApart, LeavesOnly}
 use Rattle.block_disk.proofs.Images.{besides_none, besides_survives, now_too, weaker}
 use Rattle.block_disk.proofs.Ranges.{spliced_same}
-use Rattle.image.specs.Cells.{HasCell, cell_range}
-use Rattle.image.specs.Control.{control_of}
-use Rattle.image.specs.Laws.{AreApart}
-use Rattle.image.specs.Layout.{cell_at}
-use Rattle.image.specs.declared.layout.Layout.{Layout}
-use Rattle.image.proofs.Commits.{shows_survives, steady_stays}
-use Rattle.image.proofs.Places.{places, cell_survives}
+use Rattle.image_parts.specs.Cells.{HasCell, cell_range}
+use Rattle.image_parts.specs.Control.{control_of}
+use Rattle.image_parts.specs.Laws.{AreApart}
+use Rattle.image_parts.specs.Layout.{cell_at}
+use Rattle.image_parts.specs.declared.layout.Layout.{Layout}
+use Rattle.image.proofs.Commits.{steady_stays}
+use Rattle.image_parts.proofs.SlotLemmas.{shows_survives}
+use Rattle.image_parts.proofs.Places.{places, cell_survives}
 use Rattle.undo_log.specs.Dropped.{IsDropped}
 use Rattle.heap_model.specs.Past.{Past, after_home}
 use Rattle.store_image.specs.Consistent.{HasParts, ShowsPast, IsConsistent}

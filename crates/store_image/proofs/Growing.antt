@@ -17,7 +17,7 @@ use Rattle.law_cuts.proofs.Stores.{HasStore, has_more, has_less, ended_rises}
 use Rattle.law_histories.proofs.Order.{kept_is_last, last_elsewhere, last_once}
 use Rattle.law_cuts.proofs.Next.{legal_before}
 use Rattle.law_cuts.proofs.Lanes.{ended_in_lane, ended_grown, lane_append}
-use Rattle.image.specs.declared.layout.Layout.{Layout}
+use Rattle.image_parts.specs.declared.layout.Layout.{Layout}
 use Rattle.undo_log.specs.Area.{HasRecords}
 use Rattle.undo_log.specs.Dropped.{undo_logs, records_in, IsDropped}
 use Rattle.undo_log.specs.OldValues.{OldValue, HasOld}

@@ -7,9 +7,9 @@ use Rattle.heap_model.specs.KeptHeap.{kept_value}
 use Rattle.heap_model.specs.Base.{records_since}
 use Rattle.block_disk.specs.Device.{Range}
 use Rattle.block_disk.specs.Images.{IsApart, Survives}
-use Rattle.image.specs.Layout.{cell_at, record_at}
-use Rattle.image.specs.declared.layout.Layout.{Layout}
-use Rattle.image.proofs.Places.{header_survives, guards_survive, cell_survives}
+use Rattle.image_parts.specs.Layout.{cell_at, record_at}
+use Rattle.image_parts.specs.declared.layout.Layout.{Layout}
+use Rattle.image_parts.proofs.Places.{header_survives, guards_survive, cell_survives}
 use Rattle.undo_log.specs.Dropped.{undo_logs, records_in, IsDropped}
 use Rattle.undo_log.proofs.Frames.{records_survive}
 use Rattle.store_image.specs.Consistent.{HasParts}

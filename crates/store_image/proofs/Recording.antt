@@ -10,17 +10,18 @@ use Rattle.law_cuts.proofs.Stays.{cut_stays}
 use Rattle.block_disk.specs.Device.{Range, Device, SameOutside, synced}
 use Rattle.block_disk.specs.Images.{Always, ImageBut, IsApart, LeavesOnly}
 use Rattle.block_disk.proofs.Images.{after_sync, always_now, and_then, besides_none, besides_survives, image_now, leaves_synced, now_too, weaker}
-use Rattle.image.specs.Cells.{HasCell}
+use Rattle.image_parts.specs.Cells.{HasCell}
 use Rattle.image.specs.Commit.{IsSteady, OldOrNew, OldOrTurned, slots_range}
-use Rattle.image.specs.Control.{AreRows, control_of}
-use Rattle.image.specs.Layout.{cell_at}
-use Rattle.image.specs.Rows.{IsRow}
-use Rattle.image.specs.Slots.{other}
-use Rattle.image.specs.declared.control.Control.{Control}
-use Rattle.image.specs.declared.lane_row.LaneRow.{LaneRow}
-use Rattle.image.specs.declared.layout.Layout.{Layout}
-use Rattle.image.proofs.Commits.{shows_survives, steady_stays}
-use Rattle.image.proofs.Places.{cell_survives}
+use Rattle.image_parts.specs.Control.{AreRows, control_of}
+use Rattle.image_parts.specs.Layout.{cell_at}
+use Rattle.image_parts.specs.Rows.{IsRow}
+use Rattle.image_parts.specs.Slots.{other}
+use Rattle.image_parts.specs.declared.control.Control.{Control}
+use Rattle.image_parts.specs.declared.lane_row.LaneRow.{LaneRow}
+use Rattle.image_parts.specs.declared.layout.Layout.{Layout}
+use Rattle.image.proofs.Commits.{steady_stays}
+use Rattle.image_parts.proofs.SlotLemmas.{shows_survives}
+use Rattle.image_parts.proofs.Places.{cell_survives}
 use Rattle.undo_log.specs.Area.{HasRecords}
 use Rattle.undo_log.specs.Dropped.{undo_logs, records_in, IsDropped}
 use Rattle.undo_log.specs.StandsFor.{row_of, StandsFor}

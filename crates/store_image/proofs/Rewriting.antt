@@ -5,15 +5,15 @@ use Rattle.block_disk.specs.Device.{Device, SameOutside, range_of}
 use Rattle.block_disk.specs.Bytes.{spliced}
 use Rattle.block_disk.proofs.Images.{image_now}
 use Rattle.block_disk.proofs.Ranges.{outside_refl, outside_trans, outside_wider, spliced_same}
-use Rattle.image.specs.Calls.{Write, Sync, after}
+use Rattle.image_parts.specs.Calls.{Write, Sync, after}
 use Rattle.image.specs.Commit.{IsSteady, closing_calls, body_calls, commit_calls}
-use Rattle.image.specs.Control.{control_bytes}
-use Rattle.image.specs.Slots.{other, slot_at, body_at, slot_range}
-use Rattle.image.specs.declared.control.Control.{Control}
-use Rattle.image.specs.declared.layout.Layout.{Layout}
-use Rattle.image.specs.declared.slot.Slot.{Slot}
-use Rattle.image.specs.declared.slot.Slot.TheVariants.{A, B}
-use Rattle.image.proofs.Commits.{after-append}
+use Rattle.image_parts.specs.Control.{control_bytes}
+use Rattle.image_parts.specs.Slots.{other, slot_at, body_at, slot_range}
+use Rattle.image_parts.specs.declared.control.Control.{Control}
+use Rattle.image_parts.specs.declared.layout.Layout.{Layout}
+use Rattle.image_parts.specs.declared.slot.Slot.{Slot}
+use Rattle.image_parts.specs.declared.slot.Slot.TheVariants.{A, B}
+use Rattle.image_parts.proofs.CallLemmas.{after-append}
 
 slot_fits : (t : Slot) → slot_at t + 1048 ≤ 2160
 slot_fits A = omega arith

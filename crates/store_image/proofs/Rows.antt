@@ -5,10 +5,10 @@ use Rattle.std.proofs.lemmas.List.{get_or-take, get_or-drop, get_or_default, get
 use Rattle.heap_model.specs.declared.record.Record.{Record}
 use Rattle.heap_model.specs.Sections.{actions}
 use Rattle.heap_model.specs.Cuts.{IsWhole}
-use Rattle.image.specs.Control.{AreRows}
-use Rattle.image.specs.Rows.{IsRow, empty_row}
-use Rattle.image.specs.declared.lane_row.LaneRow.{LaneRow}
-use Rattle.image.specs.declared.layout.Layout.{Layout}
+use Rattle.image_parts.specs.Control.{AreRows}
+use Rattle.image_parts.specs.Rows.{IsRow, empty_row}
+use Rattle.image_parts.specs.declared.lane_row.LaneRow.{LaneRow}
+use Rattle.image_parts.specs.declared.layout.Layout.{Layout}
 use Rattle.undo_log.specs.Dropped.{undo_logs}
 use Rattle.undo_log.specs.StandsFor.{row_of}
 use Rattle.store_image.specs.Consistent.{TellsCut}

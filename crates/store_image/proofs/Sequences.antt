@@ -5,11 +5,11 @@ use Rattle.block_disk.specs.Device.{Range, Device}
 use Rattle.block_disk.specs.Images.{Always, ImageBut, IsApart, LeavesOnly}
 use Rattle.block_disk.proofs.Images.{image_now, survives, weaker}
 use Rattle.image.specs.Commit.{IsSteady, OldOrNew, OldOrTurned, turned_sequence}
-use Rattle.image.specs.Slots.{other, gate, body, sequence_of}
-use Rattle.image.specs.declared.control.Control.{Control}
-use Rattle.image.specs.declared.layout.Layout.{Layout}
-use Rattle.image.specs.declared.slot.Slot.{Slot}
-use Rattle.image.proofs.Commits.{shows_survives}
+use Rattle.image_parts.specs.Slots.{other, gate, body, sequence_of}
+use Rattle.image_parts.specs.declared.control.Control.{Control}
+use Rattle.image_parts.specs.declared.layout.Layout.{Layout}
+use Rattle.image_parts.specs.declared.slot.Slot.{Slot}
+use Rattle.image_parts.proofs.SlotLemmas.{shows_survives}
 use Rattle.store_image.specs.Sequences.{ShowsUpTo}
 
 -- the sequence that stands behind the other slot's open gate is the smaller one, and else it is the next one

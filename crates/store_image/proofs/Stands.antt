@@ -14,8 +14,8 @@ use Rattle.law_cuts.proofs.Next.{legal_before}
 use Rattle.undo_log.proofs.Back.{length_undo}
 use Rattle.block_disk.specs.Device.{Device}
 use Rattle.block_disk.specs.Images.{Always}
-use Rattle.image.specs.Control.{control_of}
-use Rattle.image.specs.declared.layout.Layout.{Layout}
+use Rattle.image_parts.specs.Control.{control_of}
+use Rattle.image_parts.specs.declared.layout.Layout.{Layout}
 use Rattle.undo_log.specs.Area.{HasRecords}
 use Rattle.undo_log.specs.Dropped.{undo_logs}
 use Rattle.undo_log.specs.StandsFor.{HasLive, ShowsCut}

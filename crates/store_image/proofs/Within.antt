@@ -5,15 +5,15 @@ use Rattle.block_disk.specs.Device.{Range, Device, IsClear, IsOutside}
 use Rattle.block_disk.specs.Images.{ImageBut, LeavesOnly}
 use Rattle.block_disk.proofs.Images.{besides_none, besides_then, besides_wider, follows, now_too, weaker}
 use Rattle.block_disk.proofs.Ranges.{outside_more}
-use Rattle.image.specs.Cells.{cell_range}
+use Rattle.image_parts.specs.Cells.{cell_range}
 use Rattle.image.specs.Commit.{OldOrNew, OldOrTurned, slots_range}
-use Rattle.image.specs.Layout.{IsLayout, record_at, size_of}
-use Rattle.image.specs.Slots.{other, slot_range}
-use Rattle.image.specs.declared.control.Control.{Control}
-use Rattle.image.specs.declared.lane_row.LaneRow.{LaneRow}
-use Rattle.image.specs.declared.layout.Layout.{Layout}
-use Rattle.image.specs.declared.slot.Slot.{Slot}
-use Rattle.image.specs.declared.slot.Slot.TheVariants.{A, B}
+use Rattle.image_parts.specs.Layout.{IsLayout, record_at, size_of}
+use Rattle.image_parts.specs.Slots.{other, slot_range}
+use Rattle.image_parts.specs.declared.control.Control.{Control}
+use Rattle.image_parts.specs.declared.lane_row.LaneRow.{LaneRow}
+use Rattle.image_parts.specs.declared.layout.Layout.{Layout}
+use Rattle.image_parts.specs.declared.slot.Slot.{Slot}
+use Rattle.image_parts.specs.declared.slot.Slot.TheVariants.{A, B}
 use Rattle.undo_log.specs.Area.{record_range, record_ranges}
 use Rattle.undo_log.specs.StandsFor.{row_of}
 use Rattle.undo_log.proofs.Places.{fits_image}

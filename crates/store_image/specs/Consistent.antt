@@ -7,18 +7,18 @@ use Rattle.heap_model.specs.KeptHeap.{kept_value}
 use Rattle.heap_model.specs.Base.{records_since}
 use Rattle.block_disk.specs.Device.{Device}
 use Rattle.block_disk.specs.Images.{Always}
-use Rattle.image.specs.Cells.{HasCell}
+use Rattle.image_parts.specs.Cells.{HasCell}
 use Rattle.image.specs.Commit.{IsSteady}
-use Rattle.image.specs.Control.{control_of}
-use Rattle.image.specs.Guards.{HasGuards}
-use Rattle.image.specs.Header.{HasHeader}
-use Rattle.image.specs.Layout.{IsLayout, size_of}
-use Rattle.image.specs.Slots.{Shows}
-use Rattle.image.specs.declared.control.Control.{Control}
-use Rattle.image.specs.declared.guard_row.GuardRow.{GuardRow}
-use Rattle.image.specs.declared.lane_row.LaneRow.{LaneRow}
-use Rattle.image.specs.declared.layout.Layout.{Layout}
-use Rattle.image.specs.declared.slot.Slot.{Slot}
+use Rattle.image_parts.specs.Control.{control_of}
+use Rattle.image_parts.specs.Guards.{HasGuards}
+use Rattle.image_parts.specs.Header.{HasHeader}
+use Rattle.image_parts.specs.Layout.{IsLayout, size_of}
+use Rattle.image_parts.specs.Slots.{Shows}
+use Rattle.image_parts.specs.declared.control.Control.{Control}
+use Rattle.image_parts.specs.declared.guard_row.GuardRow.{GuardRow}
+use Rattle.image_parts.specs.declared.lane_row.LaneRow.{LaneRow}
+use Rattle.image_parts.specs.declared.layout.Layout.{Layout}
+use Rattle.image_parts.specs.declared.slot.Slot.{Slot}
 use Rattle.undo_log.specs.Area.{HasRecords}
 use Rattle.undo_log.specs.Dropped.{undo_logs, records_in, IsDropped}
 use Rattle.undo_log.specs.StandsFor.{AreRowsOf, row_of}

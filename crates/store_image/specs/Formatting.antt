@@ -2,10 +2,10 @@
 use Rattle.std.specs.Prelude.{ℕ, ◌≡◌, ◌<◌, ◌≤◌, length}
 use Rattle.block_disk.specs.Device.{Device, HasFailed}
 use Rattle.guards.specs.Schema.{Declarations, object_count, field_count}
-use Rattle.image.specs.Layout.{size_of}
-use Rattle.image.specs.declared.error.ImageError.{ImageError}
-use Rattle.image.specs.declared.error.ImageError.TheVariants.{Fault, BadHeader, TooSmall, NoMemory}
-use Rattle.image.specs.declared.layout.Layout.{Layout}
+use Rattle.image_parts.specs.Layout.{size_of}
+use Rattle.image_parts.specs.declared.error.ImageError.{ImageError}
+use Rattle.image_parts.specs.declared.error.ImageError.TheVariants.{Fault, BadHeader, TooSmall, NoMemory}
+use Rattle.image_parts.specs.declared.layout.Layout.{Layout}
 
 -- an image may have so many lanes, of so many records
 pub record AreLimits (lanes capacity : ℕ) : Type 0 where

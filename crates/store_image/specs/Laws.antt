@@ -5,7 +5,7 @@ use Rattle.heap_model.specs.Setting.{Setting}
 use Rattle.heap_model.specs.KeptHeap.{kept_value}
 use Rattle.block_disk.specs.Device.{Device}
 use Rattle.block_disk.specs.Images.{Always}
-use Rattle.image.specs.declared.layout.Layout.{Layout}
+use Rattle.image_parts.specs.declared.layout.Layout.{Layout}
 use Rattle.undo_log.specs.Dropped.{undo_logs}
 use Rattle.heap_model.specs.Past.{Past, IsPast}
 use Rattle.store_image.specs.Consistent.{ShowsPast, IsConsistent}

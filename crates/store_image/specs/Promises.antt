@@ -7,11 +7,11 @@ use Rattle.heap_model.specs.Setting.{Setting}
 use Rattle.heap_model.specs.declared.cut.Cut.{Cut}
 use Rattle.heap_model.specs.declared.record.UndoRecord.{UndoRecord}
 use Rattle.image.specs.Commit.{IsSteady, turned_sequence}
-use Rattle.image.specs.Control.{control_of}
-use Rattle.image.specs.Slots.{other}
-use Rattle.image.specs.declared.control.Control.{Control}
-use Rattle.image.specs.declared.lane_row.LaneRow.{LaneRow}
-use Rattle.image.specs.declared.layout.Layout.{Layout}
+use Rattle.image_parts.specs.Control.{control_of}
+use Rattle.image_parts.specs.Slots.{other}
+use Rattle.image_parts.specs.declared.control.Control.{Control}
+use Rattle.image_parts.specs.declared.lane_row.LaneRow.{LaneRow}
+use Rattle.image_parts.specs.declared.layout.Layout.{Layout}
 use Rattle.store_image.specs.Consistent.{IsConsistent, ShowsEither, ShowsPast}
 use Rattle.store_image.specs.KeptHeap.{StandsForCut, StandsForEither}
 use Rattle.store_image.specs.Sequences.{ShowsUpTo}

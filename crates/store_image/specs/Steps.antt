@@ -9,8 +9,8 @@ use Rattle.heap_model.specs.Cuts.{IsStable, counts_of}
 use Rattle.undo_log.specs.Dropped.{undo_logs, records_in}
 use Rattle.block_disk.specs.Device.{Device, Range}
 use Rattle.image.specs.Commit.{slots_range}
-use Rattle.image.specs.Layout.{cell_at, size_of}
-use Rattle.image.specs.declared.layout.Layout.{Layout}
+use Rattle.image_parts.specs.Layout.{cell_at, size_of}
+use Rattle.image_parts.specs.declared.layout.Layout.{Layout}
 use Rattle.undo_log.specs.StandsFor.{row_of}
 use Rattle.store_image.specs.NewRecords.{FitsLane}
 use Rattle.heap_model.specs.Past.{Past}

@@ -1,6 +1,6 @@
 //! The control that every image of a store shows.
 ghost use Rattle.std.specs.Prelude.{◌≡◌, replicate};
-ghost use Rattle.image.specs.Rows.{empty_row};
+ghost use Rattle.image_parts.specs.Rows.{empty_row};
 
 use image::{LaneRow, Slot};
 

@@ -2,12 +2,12 @@
 ghost use Rattle.std.specs.Prelude.{◌≡◌, ◌<◌, ℕ, IfErr, IfOk, length, slice_index};
 ghost use Rattle.std.specs.List.{slice_index_or};
 ghost use Rattle.guards.specs.Schema.{field_count, first_of};
-ghost use Rattle.image.specs.Calls.{after};
-ghost use Rattle.image.specs.Format.{format_calls};
-ghost use Rattle.image.specs.Guards.{guard_row_of};
-ghost use Rattle.image.specs.Recovered.{IsRecovered};
-ghost use Rattle.image.specs.declared.guard_row.GuardRow.{GuardRow as Row};
-ghost use Rattle.image.specs.declared.slot.Slot.TheVariants.{A};
+ghost use Rattle.image_parts.specs.Calls.{after};
+ghost use Rattle.image_parts.specs.Format.{format_calls};
+ghost use Rattle.image_parts.specs.Guards.{guard_row_of};
+ghost use Rattle.image_parts.specs.Recovered.{IsRecovered};
+ghost use Rattle.image_parts.specs.declared.guard_row.GuardRow.{GuardRow as Row};
+ghost use Rattle.image_parts.specs.declared.slot.Slot.TheVariants.{A};
 ghost use Rattle.store_image.specs.Formatting.{AreLimits, RefusesFormat, layout_with};
 
 use block_disk::Disk;

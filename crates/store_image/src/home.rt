@@ -1,8 +1,8 @@
 //! A logged value goes home.
 ghost use Rattle.std.specs.Prelude.{◌≡◌, ◌<◌, ◌≤◌, [], ◌∷◌, IfErr, length};
 ghost use Rattle.block_disk.specs.Since.{HasCauseSince, LeavesBut};
-ghost use Rattle.image.specs.Cells.{cell_range};
-ghost use Rattle.image.specs.Layout.{size_of};
+ghost use Rattle.image_parts.specs.Cells.{cell_range};
+ghost use Rattle.image_parts.specs.Layout.{size_of};
 ghost use Rattle.store_image.specs.Promises.{GoesHome, HomeKeeps, HomeLeaves, HomeShows, HomeShowsUpTo};
 ghost use Rattle.heap_model.specs.declared.store_error.StoreError.TheVariants.{Fault};
 

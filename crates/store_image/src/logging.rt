@@ -3,9 +3,9 @@ ghost use Rattle.std.specs.Prelude.{◌≡◌, ◌⊎◌, ◌+◌, ◌-◌, ◌<
 ghost use Rattle.block_disk.specs.Images.{LeavesOnly};
 ghost use Rattle.block_disk.specs.Since.{HasCauseSince, LeavesBut};
 ghost use Rattle.heap_model.specs.Setting.{Setting};
-ghost use Rattle.image.specs.Calls.{after};
-ghost use Rattle.image.specs.Layout.{IsLayout, size_of};
-ghost use Rattle.image.specs.Rows.{IsRow};
+ghost use Rattle.image_parts.specs.Calls.{after};
+ghost use Rattle.image_parts.specs.Layout.{IsLayout, size_of};
+ghost use Rattle.image_parts.specs.Rows.{IsRow};
 ghost use Rattle.undo_log.specs.Area.{HasRecords, record_ranges, record_writes};
 ghost use Rattle.undo_log.specs.StandsFor.{row_of};
 ghost use Rattle.store_image.specs.NewRecords.{FitsLane, HasFresh, fresh_count, fresh_ranges};

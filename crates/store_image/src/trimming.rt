@@ -4,7 +4,7 @@ ghost use Rattle.block_disk.specs.Device.{Device};
 ghost use Rattle.block_disk.specs.Images.{LeavesOnly};
 ghost use Rattle.block_disk.specs.Since.{HasCauseSince, LeavesBut};
 ghost use Rattle.heap_model.specs.Setting.{Setting};
-ghost use Rattle.image.specs.declared.layout.Layout.{Layout as Shape};
+ghost use Rattle.image_parts.specs.declared.layout.Layout.{Layout as Shape};
 ghost use Rattle.undo_log.specs.StandsFor.{row_of};
 ghost use Rattle.store_image.specs.Consistent.{IsConsistent};
 ghost use Rattle.store_image.specs.Promises.{TrimKeeps, TrimLeaves, TrimShows, Trims};

@@ -7,18 +7,19 @@ use Rattle.heap_model.specs.Setting.{Setting}
 use Rattle.block_disk.specs.Device.{Device, Range, SameOutside}
 use Rattle.block_disk.specs.Images.{Always, ImageBut, IsApart, LeavesOnly}
 use Rattle.block_disk.proofs.Images.{always_now, always_only, and_then, besides_none, besides_survives, now_too, weaker}
-use Rattle.image.specs.Cells.{HasCell}
+use Rattle.image_parts.specs.Cells.{HasCell}
 use Rattle.image.specs.Commit.{IsSteady, OldOrTurned, slots_range}
-use Rattle.image.specs.Control.{control_of}
-use Rattle.image.specs.Laws.{AreApart}
-use Rattle.image.specs.Layout.{cell_at, record_at}
-use Rattle.image.specs.Rows.{IsRow}
-use Rattle.image.specs.Slots.{other}
-use Rattle.image.specs.declared.control.Control.{Control}
-use Rattle.image.specs.declared.lane_row.LaneRow.{LaneRow}
-use Rattle.image.specs.declared.layout.Layout.{Layout}
-use Rattle.image.proofs.Commits.{shows_survives, steady_stays}
-use Rattle.image.proofs.Places.{cell_survives, places}
+use Rattle.image_parts.specs.Control.{control_of}
+use Rattle.image_parts.specs.Laws.{AreApart}
+use Rattle.image_parts.specs.Layout.{cell_at, record_at}
+use Rattle.image_parts.specs.Rows.{IsRow}
+use Rattle.image_parts.specs.Slots.{other}
+use Rattle.image_parts.specs.declared.control.Control.{Control}
+use Rattle.image_parts.specs.declared.lane_row.LaneRow.{LaneRow}
+use Rattle.image_parts.specs.declared.layout.Layout.{Layout}
+use Rattle.image.proofs.Commits.{steady_stays}
+use Rattle.image_parts.proofs.SlotLemmas.{shows_survives}
+use Rattle.image_parts.proofs.Places.{cell_survives, places}
 use Rattle.undo_log.specs.Area.{HasRecords}
 use Rattle.undo_log.specs.Dropped.{undo_logs}
 use Rattle.undo_log.specs.StandsFor.{HasLive, row_of}

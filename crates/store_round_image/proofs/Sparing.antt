@@ -5,10 +5,10 @@ use Rattle.heap_model.specs.Setting.{Setting}
 use Rattle.block_disk.specs.Device.{Range}
 use Rattle.block_disk.specs.Images.{IsApart, Survives}
 use Rattle.image.specs.Commit.{slots_range}
-use Rattle.image.specs.Layout.{cell_at, record_at}
-use Rattle.image.specs.declared.lane_row.LaneRow.{LaneRow}
-use Rattle.image.specs.declared.layout.Layout.{Layout}
-use Rattle.image.proofs.Places.{header_survives, guards_survive, cell_survives}
+use Rattle.image_parts.specs.Layout.{cell_at, record_at}
+use Rattle.image_parts.specs.declared.lane_row.LaneRow.{LaneRow}
+use Rattle.image_parts.specs.declared.layout.Layout.{Layout}
+use Rattle.image_parts.proofs.Places.{header_survives, guards_survive, cell_survives}
 use Rattle.undo_log.specs.Dropped.{undo_logs}
 use Rattle.undo_log.specs.StandsFor.{row_of}
 use Rattle.undo_log.proofs.Frames.{records_survive}

@@ -8,10 +8,10 @@ use Rattle.block_disk.specs.Device.{Range, Device, IsClear, SameOutside}
 use Rattle.block_disk.specs.Images.{Always, ImageBut, IsApart, LeavesOnly}
 use Rattle.block_disk.proofs.Images.{begin, besides_none, besides_then, besides_union, besides_wider, follows, now_too, weaker}
 use Rattle.block_disk.proofs.Ranges.{clear_left, outside_more, outside_trans}
-use Rattle.image.specs.Cells.{HasCell, cell_range}
-use Rattle.image.specs.Layout.{cell_at}
-use Rattle.image.specs.declared.layout.Layout.{Layout}
-use Rattle.image.proofs.Places.{cell_survives}
+use Rattle.image_parts.specs.Cells.{HasCell, cell_range}
+use Rattle.image_parts.specs.Layout.{cell_at}
+use Rattle.image_parts.specs.declared.layout.Layout.{Layout}
+use Rattle.image_parts.proofs.Places.{cell_survives}
 use Rattle.store_round_image.specs.Turning.{IsValueIn, cell_ranges, fields_of}
 use Rattle.store_round_image.specs.declared.cells.HomeValue.{HomeValue}
 

@@ -6,12 +6,12 @@ use Rattle.heap_model.specs.declared.record.UndoRecord.{UndoRecord}
 use Rattle.heap_model.specs.Setting.{Setting}
 use Rattle.block_disk.specs.Device.{Device, Range}
 use Rattle.block_disk.specs.Images.{Always}
-use Rattle.image.specs.Cells.{HasCell, cell_range}
-use Rattle.image.specs.Control.{AreRows}
-use Rattle.image.specs.Layout.{IsLayout, size_of}
-use Rattle.image.specs.Rows.{IsRow}
-use Rattle.image.specs.declared.lane_row.LaneRow.{LaneRow}
-use Rattle.image.specs.declared.layout.Layout.{Layout}
+use Rattle.image_parts.specs.Cells.{HasCell, cell_range}
+use Rattle.image_parts.specs.Control.{AreRows}
+use Rattle.image_parts.specs.Layout.{IsLayout, size_of}
+use Rattle.image_parts.specs.Rows.{IsRow}
+use Rattle.image_parts.specs.declared.lane_row.LaneRow.{LaneRow}
+use Rattle.image_parts.specs.declared.layout.Layout.{Layout}
 use Rattle.undo_log.specs.Dropped.{undo_logs}
 use Rattle.undo_log.specs.StandsFor.{row_of}
 use Rattle.heap_model.specs.Past.{has_store}

@@ -1,8 +1,8 @@
 //! Cells get the values that a round before has made durable in the helper's lane.
 ghost use Rattle.std.specs.Prelude.{◌≡◌, ◌<◌, ◌≤◌, ℕ, [], ◌∷◌, All, Contains, IfErr, OnOk, length};
 ghost use Rattle.block_disk.specs.Since.{AlwaysBut, HasCauseSince, LeavesBut, ReadsSameBut};
-ghost use Rattle.image.specs.Cells.{HasCell, cell_range};
-ghost use Rattle.image.specs.Layout.{size_of};
+ghost use Rattle.image_parts.specs.Cells.{HasCell, cell_range};
+ghost use Rattle.image_parts.specs.Layout.{size_of};
 ghost use Rattle.store_round_image.specs.Turning.{IsValueIn, cell_ranges, fields_of};
 ghost use Rattle.heap_model.specs.declared.store_error.StoreError.TheVariants.{Fault};
 

@@ -1,9 +1,9 @@
 //! New records of the lanes.
 ghost use Rattle.std.specs.Prelude.{◌≡◌, ◌<◌, ◌≤◌, ℕ, IfErr, OnOk, length};
 ghost use Rattle.block_disk.specs.Since.{HasCauseSince, LeavesBut};
-ghost use Rattle.image.specs.Calls.{after};
-ghost use Rattle.image.specs.Layout.{IsLayout, size_of};
-ghost use Rattle.image.specs.Rows.{IsRow};
+ghost use Rattle.image_parts.specs.Calls.{after};
+ghost use Rattle.image_parts.specs.Layout.{IsLayout, size_of};
+ghost use Rattle.image_parts.specs.Rows.{IsRow};
 ghost use Rattle.undo_log.specs.Area.{HasRecords, record_ranges, record_writes};
 ghost use Rattle.undo_log.specs.StandsFor.{row_of};
 ghost use Rattle.store_image.specs.NewRecords.{FitsLane, HasFresh, fresh_ranges};

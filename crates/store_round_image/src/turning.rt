@@ -2,9 +2,9 @@
 ghost use Rattle.std.specs.Prelude.{◌≡◌, ◌⊎◌, ◌↔◌, ◌+◌, ◌-◌, ◌<◌, ◌≤◌, ◌^◌, ℕ, All, Contains, List, IfErr, IsErrOf, OnErr, OnOk, length};
 ghost use Rattle.block_disk.specs.Images.{LeavesOnly};
 ghost use Rattle.block_disk.specs.Since.{HasCauseSince, LeavesBut, ReadsSameBut};
-ghost use Rattle.image.specs.Cells.{HasCell};
-ghost use Rattle.image.specs.Layout.{IsLayout, size_of};
-ghost use Rattle.image.specs.Rows.{IsRow};
+ghost use Rattle.image_parts.specs.Cells.{HasCell};
+ghost use Rattle.image_parts.specs.Layout.{IsLayout, size_of};
+ghost use Rattle.image_parts.specs.Rows.{IsRow};
 ghost use Rattle.undo_log.specs.Area.{HasRecords};
 ghost use Rattle.undo_log.specs.StandsFor.{row_of};
 ghost use Rattle.store_image.specs.NewRecords.{FitsLane};

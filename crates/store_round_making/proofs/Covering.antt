@@ -16,10 +16,10 @@ use Rattle.heap_model.specs.Setting.{Setting}
 use Rattle.block_disk.specs.Device.{Device}
 use Rattle.block_disk.proofs.Images.{image_now}
 use Rattle.law_cuts.proofs.Stays.{cut_stays}
-use Rattle.image.specs.Cells.{HasCell}
-use Rattle.image.specs.Control.{AreRows}
-use Rattle.image.specs.Rows.{IsRow}
-use Rattle.image.specs.declared.layout.Layout.{Layout}
+use Rattle.image_parts.specs.Cells.{HasCell}
+use Rattle.image_parts.specs.Control.{AreRows}
+use Rattle.image_parts.specs.Rows.{IsRow}
+use Rattle.image_parts.specs.declared.layout.Layout.{Layout}
 use Rattle.undo_log.specs.Dropped.{records_in, undo_logs}
 use Rattle.undo_log.specs.StandsFor.{row_of}
 use Rattle.heap_model.specs.Past.{has_store}

@@ -14,7 +14,7 @@ use Rattle.heap_model.specs.Setting.{Setting}
 use Rattle.law_cuts.proofs.Next.{legal_before}
 use Rattle.law_cuts.proofs.Unlogged.{first_kept}
 use Rattle.block_disk.specs.Device.{Device}
-use Rattle.image.specs.declared.layout.Layout.{Layout}
+use Rattle.image_parts.specs.declared.layout.Layout.{Layout}
 use Rattle.undo_log.specs.Area.{HasRecords}
 use Rattle.undo_log.specs.Dropped.{records_in, undo_logs}
 use Rattle.undo_log.specs.OldValues.{HasOld, IsOld, OldValue}

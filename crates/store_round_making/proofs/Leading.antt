@@ -20,11 +20,11 @@ use Rattle.law_histories.proofs.OfLanes.{none_past}
 use Rattle.law_histories.proofs.Reorder.{split_lane}
 use Rattle.block_disk.specs.Device.{Device}
 use Rattle.block_disk.proofs.Images.{image_now}
-use Rattle.image.specs.Control.{AreRows}
-use Rattle.image.specs.Layout.{IsLayout}
-use Rattle.image.specs.Rows.{IsRow}
-use Rattle.image.specs.declared.lane_row.LaneRow.{LaneRow}
-use Rattle.image.specs.declared.layout.Layout.{Layout}
+use Rattle.image_parts.specs.Control.{AreRows}
+use Rattle.image_parts.specs.Layout.{IsLayout}
+use Rattle.image_parts.specs.Rows.{IsRow}
+use Rattle.image_parts.specs.declared.lane_row.LaneRow.{LaneRow}
+use Rattle.image_parts.specs.declared.layout.Layout.{Layout}
 use Rattle.undo_log.specs.Area.{IsLoggable}
 use Rattle.undo_log.specs.Dropped.{records_in, undo_logs}
 use Rattle.undo_log.specs.StandsFor.{row_of}

@@ -8,8 +8,8 @@ use Rattle.heap_model.specs.Setting.{Setting}
 use Rattle.block_disk.specs.Device.{Device}
 use Rattle.block_disk.specs.Images.{Always}
 use Rattle.block_disk.proofs.Images.{weaker}
-use Rattle.image.specs.Control.{control_of}
-use Rattle.image.specs.declared.layout.Layout.{Layout}
+use Rattle.image_parts.specs.Control.{control_of}
+use Rattle.image_parts.specs.declared.layout.Layout.{Layout}
 use Rattle.store_image.specs.declared.committed.Committed.{Committed}
 use Rattle.store_helper_sections.specs.HelperSections.{HelperSection}
 use Rattle.store_helper_sections.specs.Image.{IsRoundOf, ShowsCutOf, ShowsRound}

@@ -3,7 +3,7 @@ use Rattle.std.specs.Prelude.{ℕ, ◌≤◌, []}
 use Rattle.heap_model.specs.Log.{IsOfLanes}
 use Rattle.heap_model.specs.Setting.{Setting}
 use Rattle.block_disk.specs.Device.{Device}
-use Rattle.image.specs.declared.layout.Layout.{Layout}
+use Rattle.image_parts.specs.declared.layout.Layout.{Layout}
 use Rattle.heap_model.specs.Past.{IsTrimmed, Past}
 use Rattle.store_image.specs.Consistent.{IsConsistent}
 use Rattle.store_image.specs.declared.committed.Committed.{Committed}

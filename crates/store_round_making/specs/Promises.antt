@@ -8,7 +8,7 @@ use Rattle.heap_model.specs.Cuts.{counts_of}
 use Rattle.heap_model.specs.Setting.{Setting}
 use Rattle.block_disk.specs.Device.{Device}
 use Rattle.block_disk.specs.Images.{Always, LeavesOnly}
-use Rattle.image.specs.declared.layout.Layout.{Layout}
+use Rattle.image_parts.specs.declared.layout.Layout.{Layout}
 use Rattle.store_image.specs.declared.committed.Committed.{Committed}
 use Rattle.heap_model.specs.declared.store_error.StoreError.{StoreError}
 use Rattle.store_helper_sections.specs.HelperSections.{HelperSection}

@@ -13,8 +13,8 @@ use Rattle.heap_model.specs.declared.record.UndoRecord.TheVariants.{Acq, Rel, Pu
 use Rattle.heap_model.specs.Log.{lane}
 use Rattle.heap_model.specs.Record.{undo_of}
 use Rattle.heap_model.specs.Setting.{Setting}
-use Rattle.image.specs.Layout.{IsLayout}
-use Rattle.image.specs.declared.layout.Layout.{Layout}
+use Rattle.image_parts.specs.Layout.{IsLayout}
+use Rattle.image_parts.specs.declared.layout.Layout.{Layout}
 use Rattle.undo_log.specs.Area.{IsLoggable}
 use Rattle.undo_log.specs.Dropped.{undo_logs}
 use Rattle.store_helper_sections.specs.HelperSections.{AreGuardedBy, ArePreceding, HelperSection, MayPrecede, helper_log, same_stores, section_records}

@@ -9,8 +9,8 @@ use Rattle.heap_model.specs.Cuts.{IsClosed, IsWhole}
 use Rattle.heap_model.specs.Log.{IsLegal}
 use Rattle.heap_model.specs.Sections.{actions}
 use Rattle.heap_model.specs.Setting.{Setting}
-use Rattle.image.specs.Layout.{IsLayout}
-use Rattle.image.specs.declared.layout.Layout.{Layout}
+use Rattle.image_parts.specs.Layout.{IsLayout}
+use Rattle.image_parts.specs.declared.layout.Layout.{Layout}
 use Rattle.undo_log.specs.Area.{IsLoggable}
 use Rattle.undo_log.specs.Dropped.{undo_logs}
 use Rattle.heap_model.specs.Past.{has_store}

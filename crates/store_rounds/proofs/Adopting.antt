@@ -5,11 +5,11 @@ use Rattle.std.proofs.lemmas.List.Elements.{All-nil}
 use Rattle.heap_model.specs.declared.ids.ObjectId.{ObjectId}
 use Rattle.heap_model.specs.Setting.{Setting}
 use Rattle.block_disk.specs.Device.{Device}
-use Rattle.image.specs.Guards.{no_row}
-use Rattle.image.specs.Recovered.{IsRecovered}
-use Rattle.image.specs.declared.guard_row.GuardRow.{GuardRow}
-use Rattle.image.specs.declared.layout.Layout.{Layout}
-use Rattle.image.specs.declared.slot.Slot.{Slot}
+use Rattle.image_parts.specs.Guards.{no_row}
+use Rattle.image_parts.specs.Recovered.{IsRecovered}
+use Rattle.image_parts.specs.declared.guard_row.GuardRow.{GuardRow}
+use Rattle.image_parts.specs.declared.layout.Layout.{Layout}
+use Rattle.image_parts.specs.declared.slot.Slot.{Slot}
 use Rattle.heap_model.specs.Past.{no_past}
 use Rattle.store_image.specs.Consistent.{IsConsistent}
 use Rattle.store_image.specs.declared.committed.Committed.{Committed}

@@ -10,7 +10,7 @@ use Rattle.law_cuts.proofs.Existence.{stable_once}
 use Rattle.block_disk.specs.Device.{Device, HasCause, HasFailed, Range}
 use Rattle.block_disk.specs.Images.{ImageBut, LeavesOnly}
 use Rattle.block_disk.proofs.Images.{and_then, begin, besides_none, besides_then, follows, now_too}
-use Rattle.image.specs.declared.layout.Layout.{Layout}
+use Rattle.image_parts.specs.declared.layout.Layout.{Layout}
 use Rattle.store_image.specs.Sequences.{ShowsUpTo}
 use Rattle.store_image.specs.Steps.{step_ranges}
 use Rattle.heap_model.specs.declared.store_error.StoreError.{StoreError}

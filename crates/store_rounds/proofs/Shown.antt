@@ -9,9 +9,9 @@ use Rattle.heap_model.specs.Setting.{Setting}
 use Rattle.block_disk.specs.Device.{Device}
 use Rattle.block_disk.specs.Images.{Always}
 use Rattle.block_disk.proofs.Images.{always_now}
-use Rattle.image.specs.Cells.{HasCell}
-use Rattle.image.specs.Control.{control_of}
-use Rattle.image.specs.declared.layout.Layout.{Layout}
+use Rattle.image_parts.specs.Cells.{HasCell}
+use Rattle.image_parts.specs.Control.{control_of}
+use Rattle.image_parts.specs.declared.layout.Layout.{Layout}
 use Rattle.heap_model.specs.Past.{Past, has_store}
 use Rattle.store_image.specs.declared.committed.Committed.{Committed}
 use Rattle.store_helper_sections.specs.Going.{from_heap}

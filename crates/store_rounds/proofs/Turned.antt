@@ -17,13 +17,13 @@ use Rattle.law_cuts.proofs.Existence.{stable_once}
 use Rattle.law_cuts.proofs.Lanes.{lane_actions}
 use Rattle.law_histories.proofs.OfLanes.{none_past}
 use Rattle.block_disk.proofs.Images.{image_now}
-use Rattle.image.specs.Control.{AreRows}
-use Rattle.image.specs.declared.lane_row.LaneRow.{LaneRow}
+use Rattle.image_parts.specs.Control.{AreRows}
+use Rattle.image_parts.specs.declared.lane_row.LaneRow.{LaneRow}
 use Rattle.store_image.proofs.Rows.{rest_is}
 use Rattle.heap_model.specs.Setting.{Setting}
 use Rattle.block_disk.specs.Device.{Device}
-use Rattle.image.specs.Cells.{HasCell}
-use Rattle.image.specs.declared.layout.Layout.{Layout}
+use Rattle.image_parts.specs.Cells.{HasCell}
+use Rattle.image_parts.specs.declared.layout.Layout.{Layout}
 use Rattle.undo_log.specs.Area.{IsLoggable}
 use Rattle.undo_log.specs.Dropped.{records_in, undo_logs}
 use Rattle.undo_log.specs.StandsFor.{row_of}

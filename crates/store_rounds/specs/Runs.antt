@@ -6,7 +6,7 @@ use Rattle.heap_model.specs.Sections.{actions}
 use Rattle.heap_model.specs.Setting.{Setting}
 use Rattle.block_disk.specs.Device.{Device}
 use Rattle.block_disk.specs.Images.{LeavesOnly}
-use Rattle.image.specs.declared.layout.Layout.{Layout}
+use Rattle.image_parts.specs.declared.layout.Layout.{Layout}
 use Rattle.store_image.specs.Sequences.{ShowsUpTo}
 use Rattle.heap_model.specs.Past.{Past, after_apply, after_log, applied}
 use Rattle.heap_model.specs.declared.store_error.StoreError.{StoreError}

@@ -9,7 +9,7 @@ use Rattle.heap_model.specs.Sections.{actions}
 use Rattle.heap_model.specs.Setting.{Setting}
 use Rattle.block_disk.specs.Device.{Device, HasCause}
 use Rattle.block_disk.specs.Images.{ImageBut, LeavesOnly}
-use Rattle.image.specs.Cells.{HasCell}
+use Rattle.image_parts.specs.Cells.{HasCell}
 use Rattle.store_image.specs.Sequences.{ShowsUpTo}
 use Rattle.store_image.specs.Steps.{step_ranges}
 use Rattle.store_memory.specs.Apply.{Answers}

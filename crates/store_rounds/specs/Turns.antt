@@ -8,8 +8,8 @@ use Rattle.heap_model.specs.Sections.{actions}
 use Rattle.heap_model.specs.Setting.{Setting}
 use Rattle.block_disk.specs.Device.{Device}
 use Rattle.heap_model.specs.declared.record.UndoRecord.{UndoRecord}
-use Rattle.image.specs.declared.lane_row.LaneRow.{LaneRow}
-use Rattle.image.specs.declared.layout.Layout.{Layout}
+use Rattle.image_parts.specs.declared.lane_row.LaneRow.{LaneRow}
+use Rattle.image_parts.specs.declared.layout.Layout.{Layout}
 use Rattle.undo_log.specs.Dropped.{records_in, undo_logs}
 use Rattle.heap_model.specs.Past.{IsPast, Past, after_log, applied}
 use Rattle.heap_model.specs.declared.store_error.StoreError.{StoreError}

@@ -2,7 +2,7 @@
 ghost use Rattle.std.specs.Prelude.{◌≡◌, ◌<◌, ◌≤◌, ℕ, [], length, IfOk};
 ghost use Rattle.std.specs.Vec.{vec_capacity};
 ghost use Rattle.heap_model.specs.Setting.{Setting};
-ghost use Rattle.image.specs.Layout.{IsLayout};
+ghost use Rattle.image_parts.specs.Layout.{IsLayout};
 ghost use Rattle.durable.specs.Begin.{HasRows, HaveGuards, HaveLogged, HaveMarks, HaveValues, IsSettingOf};
 ghost use Rattle.store_memory.specs.Remembers.{Remembers};
 ghost use Rattle.store_memory.specs.Sections.{TellsSections};

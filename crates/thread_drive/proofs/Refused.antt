@@ -8,12 +8,12 @@ use Rattle.thread_work.specs.Runs as threads
 use Rattle.thread_work.specs.Stops.{IsHomeOf}
 use Rattle.thread_work.specs.declared.error.RunError.{RunError}
 use Rattle.thread_work.specs.declared.error.RunError.TheVariants as run
-use Rattle.image.specs.Calls.{after}
-use Rattle.image.specs.Format.{format_calls}
-use Rattle.image.specs.Layout.{size_of}
-use Rattle.image.specs.Recovered.{Parts}
-use Rattle.image.specs.declared.error.ImageError.{ImageError}
-use Rattle.image.specs.declared.error.ImageError.TheVariants as images
+use Rattle.image_parts.specs.Calls.{after}
+use Rattle.image_parts.specs.Format.{format_calls}
+use Rattle.image_parts.specs.Layout.{size_of}
+use Rattle.image_parts.specs.Recovered.{Parts}
+use Rattle.image_parts.specs.declared.error.ImageError.{ImageError}
+use Rattle.image_parts.specs.declared.error.ImageError.TheVariants as images
 use Rattle.monitor.specs.Seats.{Home}
 use Rattle.monitor.specs.declared.view.Plan.{Plan}
 use Rattle.recover.specs.declared.report.Report.{Report}

@@ -11,8 +11,8 @@ use Rattle.thread_work.specs.declared.error.RunError.{RunError}
 use Rattle.thread_work.specs.declared.error.RunError.TheVariants as run
 use Rattle.thread_work.specs.declared.outcome.Outcome.{Outcome}
 use Rattle.thread_work.specs.declared.returned.Returned.{Returned}
-use Rattle.image.specs.Recovered.{Parts}
-use Rattle.image.specs.declared.layout.Layout.{Layout}
+use Rattle.image_parts.specs.Recovered.{Parts}
+use Rattle.image_parts.specs.declared.layout.Layout.{Layout}
 use Rattle.session.specs.declared.error.SessionError.{SessionError}
 use Rattle.thread_drive.specs.Driven.{IsDriven, driven_by}
 use Rattle.thread_drive.specs.Stops.{StopsRun, said_of}

@@ -2,7 +2,7 @@
 use Rattle.std.specs.Prelude.{◌⊎◌}
 use Rattle.block_disk.specs.Device.{Device}
 use Rattle.thread_work.specs.Crashes.{IsLeftBehind, IsLeftByCalls, KeepsSome}
-use Rattle.image.specs.declared.layout.Layout.{Layout}
+use Rattle.image_parts.specs.declared.layout.Layout.{Layout}
 use Rattle.monitor.specs.Seats.{Home}
 use Rattle.thread_drive.specs.declared.error.DriveError.{DriveError}
 use Rattle.thread_drive.specs.declared.error.DriveError.TheVariants.{NoMemory, Helper, Session, Close, Recover}

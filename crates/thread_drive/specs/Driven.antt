@@ -6,11 +6,11 @@ use Rattle.guards.specs.Schema.{Declarations, field_count}
 use Rattle.heap_model.specs.declared.limits.TheConstants.{LAST_NUMBER}
 use Rattle.thread_work.specs.Bodies.{WereCalled}
 use Rattle.thread_work.specs.declared.outcome.Outcome.{Outcome}
-use Rattle.image.specs.Calls.{after}
-use Rattle.image.specs.Format.{format_calls}
-use Rattle.image.specs.Layout.{size_of}
-use Rattle.image.specs.Recovered.{Parts}
-use Rattle.image.specs.declared.layout.Layout.{Layout}
+use Rattle.image_parts.specs.Calls.{after}
+use Rattle.image_parts.specs.Format.{format_calls}
+use Rattle.image_parts.specs.Layout.{size_of}
+use Rattle.image_parts.specs.Recovered.{Parts}
+use Rattle.image_parts.specs.declared.layout.Layout.{Layout}
 use Rattle.monitor.specs.Seats.{Home}
 use Rattle.recover.specs.Recovery.{IsOnTheWay, IsRecovery}
 use Rattle.recover.specs.Study.{IsStudyOf}

@@ -3,8 +3,8 @@ use Rattle.std.specs.Prelude.{ℕ, ◌≡◌, ◌⊎◌, ◌≤◌}
 use Rattle.block_disk.specs.Device.{Device, SameMoments}
 use Rattle.guards.specs.declared.error.SchemaError.TheVariants as schemas
 use Rattle.thread_work.specs.Runs.{IsNotFound, RefusesStudy}
-use Rattle.image.specs.Recovered.{Parts}
-use Rattle.image.specs.declared.error.ImageError.TheVariants as images
+use Rattle.image_parts.specs.Recovered.{Parts}
+use Rattle.image_parts.specs.declared.error.ImageError.TheVariants as images
 use Rattle.recover.specs.Recovery.{IsRecovery}
 use Rattle.recover.specs.declared.report.Report.{Report}
 use Rattle.session.specs.declared.error.SessionError.TheVariants as sessions

@@ -2,8 +2,8 @@
 use Rattle.std.specs.Prelude.{ℕ, zero, suc, false, List, ◌++◌, codes, decimal}
 use Rattle.guards.specs.Schema.{Declarations, Field, nothing, with_field, with_object}
 use Rattle.thread_work.specs.Runs.{Holds, HoldsAnother, IsOf}
-use Rattle.image.specs.declared.guard_row.GuardRow.{GuardRow}
-use Rattle.image.specs.declared.layout.Layout.{Layout}
+use Rattle.image_parts.specs.declared.guard_row.GuardRow.{GuardRow}
+use Rattle.image_parts.specs.declared.layout.Layout.{Layout}
 use Rattle.store_image.specs.Formatting.{AreLimits}
 
 -- a persistent field that its object guards, and that begins with 0

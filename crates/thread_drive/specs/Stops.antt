@@ -6,8 +6,8 @@ use Rattle.thread_work.specs.Crashes.{TakesEach}
 use Rattle.thread_work.specs.Stops.{IsHomeOf, IsLostAfter, StopsClosing, StopsRound}
 use Rattle.thread_work.specs.declared.error.RunError.{RunError}
 use Rattle.thread_work.specs.declared.error.RunError.TheVariants as run
-use Rattle.image.specs.Recovered.{Parts}
-use Rattle.image.specs.declared.layout.Layout.{Layout}
+use Rattle.image_parts.specs.Recovered.{Parts}
+use Rattle.image_parts.specs.declared.layout.Layout.{Layout}
 use Rattle.monitor.specs.Seats.{Home}
 use Rattle.thread_drive.specs.Crashes.{CrashesOf}
 use Rattle.thread_drive.specs.Working.{StopsWorker}

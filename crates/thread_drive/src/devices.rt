@@ -5,8 +5,8 @@ ghost use Rattle.thread_drive.specs.Driven.{HasDriven, HasDrivenOn, IsDriven, bl
 ghost use Rattle.thread_drive.specs.Refusals.{IsOwnStop, RefusesNew, RefusesOn, RefusesSize, RefusesWith};
 ghost use Rattle.thread_drive.specs.Schemas.{HoldsWorkers, IsOfWorkers, MayHaveImage, schema_of};
 ghost use Rattle.thread_drive.specs.Stops.{StopsRun};
-ghost use Rattle.image.specs.Layout.{size_of};
-ghost use Rattle.image.specs.Recovered.{Parts};
+ghost use Rattle.image_parts.specs.Layout.{size_of};
+ghost use Rattle.image_parts.specs.Recovered.{Parts};
 ghost use Rattle.store_image.specs.Formatting.{layout_with};
 
 use crate::declaring::declare;

@@ -7,8 +7,8 @@ use Rattle.thread_work.specs.ImageLanes.{lanes_for}
 use Rattle.thread_work.specs.Runs.{HasRunOn, Holds, RefusesOn}
 use Rattle.thread_work.specs.declared.error.RunError.{RunError}
 use Rattle.thread_work.specs.declared.outcome.Outcome.{Outcome}
-use Rattle.image.specs.Recovered.{Parts}
-use Rattle.image.specs.declared.layout.Layout.{Layout}
+use Rattle.image_parts.specs.Recovered.{Parts}
+use Rattle.image_parts.specs.declared.layout.Layout.{Layout}
 use Rattle.image_file.specs.Formatting.{IsBeforeFile, IsImageFor, StaysOrIsMade}
 use Rattle.image_file.specs.Images.{IsLeft, IsThere}
 use Rattle.image_file.specs.declared.error.FormatError.{FormatError}

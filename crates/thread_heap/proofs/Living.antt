@@ -1,7 +1,7 @@
 -- A heap's life since its opening.
 use Rattle.std.proofs.Common.{ℕ, ◌≡◌, false, refl, sym, ◌∙◌, subst}
 use Rattle.block_disk.specs.Device.{Device}
-use Rattle.image.specs.declared.layout.Layout.{Layout}
+use Rattle.image_parts.specs.declared.layout.Layout.{Layout}
 use Rattle.store_rounds.specs.Runs.{HasRun}
 use Rattle.store_rounds.proofs.Running.{run_none, run_on}
 use Rattle.monitor.specs.Seats.{Home}

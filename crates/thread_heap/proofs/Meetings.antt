@@ -3,7 +3,7 @@ use Rattle.std.proofs.Common.{ℕ, ◌≡◌, ◌<◌, ◌≤◌, List, [], ◌�
 use Rattle.std.proofs.lemmas.List.Elements.{All-nil, All-cons, All-head, All-tail}
 use Rattle.block_disk.specs.Device.{Device}
 use Rattle.heap_model.specs.Log.{lane}
-use Rattle.image.specs.declared.layout.Layout.{Layout}
+use Rattle.image_parts.specs.declared.layout.Layout.{Layout}
 use Rattle.heap_model.specs.History.{log_of}
 use Rattle.heap_model.specs.declared.record.Record.{Record}
 use Rattle.monitor.specs.Seats.{Helping, Home}

@@ -3,7 +3,7 @@ use Rattle.std.specs.Prelude.{ℕ, ◌≡◌, true, false, List, Result}
 use Rattle.block_disk.specs.Device.{Device}
 use Rattle.store_rounds.specs.Runs.{HasRun}
 use Rattle.store_rounds.specs.Store.{Known, HasPast}
-use Rattle.image.specs.declared.layout.Layout.{Layout}
+use Rattle.image_parts.specs.declared.layout.Layout.{Layout}
 use Rattle.monitor.specs.Seats.{Home}
 use Rattle.thread_steps.specs.Views.{plan}
 use Rattle.heap_model.specs.Past.{Past, no_past}

@@ -1,7 +1,7 @@
 -- A thread that was durable has read a count that has all that it has ended.
 use Rattle.std.proofs.Common.{ℕ, ◌≤◌, List, refl, arith}
 use Rattle.block_disk.specs.Device.{Device}
-use Rattle.image.specs.declared.layout.Layout.{Layout}
+use Rattle.image_parts.specs.declared.layout.Layout.{Layout}
 use Rattle.monitor.specs.Seats.{Home}
 use Rattle.law_running.specs.Told.{HasReadOf, KeepsRead, Moment}
 use Rattle.session.specs.Sessions.{view_of}

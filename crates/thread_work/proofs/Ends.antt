@@ -6,7 +6,7 @@ use Rattle.heap_model.specs.declared.record.Record.{Record}
 use Rattle.block_disk.specs.Device.{Device}
 use Rattle.store_rounds.specs.Runs.{HasRun}
 use Rattle.store_rounds.proofs.Running.{run_on}
-use Rattle.image.specs.declared.layout.Layout.{Layout}
+use Rattle.image_parts.specs.declared.layout.Layout.{Layout}
 use Rattle.monitor.specs.Seats.{Home}
 use Rattle.thread_heap.specs.Life.{HasLived}
 use Rattle.law_running.specs.Running.{CrashBetweenLaw}

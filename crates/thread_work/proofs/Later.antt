@@ -2,7 +2,7 @@
 use Rattle.std.proofs.Common.{List, All, sym, subst}
 use Rattle.std.proofs.lemmas.List.Elements.{All-weaker}
 use Rattle.block_disk.specs.Device.{Device}
-use Rattle.image.specs.declared.layout.Layout.{Layout}
+use Rattle.image_parts.specs.declared.layout.Layout.{Layout}
 use Rattle.monitor.specs.Seats.{Home}
 use Rattle.thread_heap.specs.Laws.{EndedLaw}
 use Rattle.trim_helper.specs.Endings.{IsEnded}

@@ -3,8 +3,8 @@ use Rattle.std.proofs.Common.{ℕ, List, [], ◌∷◌, ap, subst}
 use Rattle.block_disk.specs.Bytes.{spliced}
 use Rattle.block_disk.specs.Device.{Device, Moment, SameMoments, range_of, synced}
 use Rattle.block_disk.proofs.Failures.{moments_trans}
-use Rattle.image.specs.Calls.{Call, Write, Sync, after, after_one}
-use Rattle.image.specs.Recovered.{Parts}
+use Rattle.image_parts.specs.Calls.{Call, Write, Sync, after, after_one}
+use Rattle.image_parts.specs.Recovered.{Parts}
 use Rattle.recover.specs.Ending.{end_calls}
 use Rattle.recover.specs.Putting.{put_calls}
 use Rattle.recover.specs.Recovery.{IsMadeBy, IsRecovery, put_back_on}

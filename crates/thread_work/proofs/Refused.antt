@@ -4,9 +4,9 @@ use Rattle.block_disk.specs.Device.{Device, HasFailed, Moment, SameMoments, sync
 use Rattle.block_disk.proofs.Failures.{moments_trans}
 use Rattle.block_disk.proofs.Images.{and_then, stays}
 use Rattle.guards.specs.Schema.{Declarations}
-use Rattle.image.specs.Calls.{Call, Write, Sync, after, after_one}
-use Rattle.image.specs.Recovered.{Parts}
-use Rattle.image.specs.declared.layout.Layout.{Layout}
+use Rattle.image_parts.specs.Calls.{Call, Write, Sync, after, after_one}
+use Rattle.image_parts.specs.Recovered.{Parts}
+use Rattle.image_parts.specs.declared.layout.Layout.{Layout}
 use Rattle.monitor.specs.Seats.{Home}
 use Rattle.recover.specs.Reading.{IsOfOldVersion, RefusesImage}
 use Rattle.recover.specs.Recovery.{IsCutOff, IsOnTheWay, IsWorn, RefusesRecovery, StudiedLaw}

@@ -4,7 +4,7 @@ use Rattle.block_disk.specs.Device.{Device, HasCause, HasFailed}
 use Rattle.block_disk.proofs.Images.{image_now}
 use Rattle.store_rounds.specs.Store.{Known}
 use Rattle.law_rounds.specs.Laws.{RoundLaw}
-use Rattle.image.specs.declared.layout.Layout.{Layout}
+use Rattle.image_parts.specs.declared.layout.Layout.{Layout}
 use Rattle.monitor.specs.Seats.{Home}
 use Rattle.recover.specs.Recovery.{RefusesRecovery}
 use Rattle.law_survival.specs.Taken.{IsTaken}

@@ -8,10 +8,10 @@ use Rattle.block_disk.proofs.Images.{after_sync, and_then, image_now, leaves_syn
 use Rattle.durable.proofs.Adopting.{rows_recovered, setting_is, setting_of}
 use Rattle.durable.proofs.Begun.{begins, empty_committed}
 use Rattle.durable.proofs.Running.{left_always}
-use Rattle.image.specs.Guards.{no_row}
-use Rattle.image.specs.Recovered.{Parts}
-use Rattle.image.specs.declared.control.Control.{Control}
-use Rattle.image.specs.declared.layout.Layout.{Layout}
+use Rattle.image_parts.specs.Guards.{no_row}
+use Rattle.image_parts.specs.Recovered.{Parts}
+use Rattle.image_parts.specs.declared.control.Control.{Control}
+use Rattle.image_parts.specs.declared.layout.Layout.{Layout}
 use Rattle.recover.specs.Reading.{IsOfOldVersion}
 use Rattle.recover.specs.Recovery.{IsCutOff, IsOnTheWay, IsRecovery, OneStudyLaw, StudiedLaw}
 use Rattle.recover.specs.Study.{IsStudyOf}

@@ -1,9 +1,9 @@
 -- An image of a schema stays one.
 use Rattle.std.proofs.Common.{◌≡◌, ℕ, List, sym, ◌∙◌, subst}
 use Rattle.block_disk.specs.Device.{Device}
-use Rattle.image.specs.Recovered.{Parts}
-use Rattle.image.specs.declared.guard_row.GuardRow.{GuardRow}
-use Rattle.image.specs.declared.layout.Layout.{Layout}
+use Rattle.image_parts.specs.Recovered.{Parts}
+use Rattle.image_parts.specs.declared.guard_row.GuardRow.{GuardRow}
+use Rattle.image_parts.specs.declared.layout.Layout.{Layout}
 use Rattle.recover.specs.Recovery.{IsRecovery, OneStudyLaw}
 use Rattle.recover.specs.declared.report.Report.{Report}
 use Rattle.guards.specs.Schema.{Declarations}

@@ -6,10 +6,10 @@ use Rattle.heap_model.specs.Setting.{Setting}
 use Rattle.block_disk.specs.Device.{Device}
 use Rattle.store_rounds.specs.Runs.{HasRun}
 use Rattle.store_rounds.specs.Store.{Known, HasPast}
-use Rattle.image.specs.Recovered.{IsRecovered}
-use Rattle.image.specs.declared.guard_row.GuardRow.{GuardRow}
-use Rattle.image.specs.declared.layout.Layout.{Layout}
-use Rattle.image.specs.declared.slot.Slot.{Slot}
+use Rattle.image_parts.specs.Recovered.{IsRecovered}
+use Rattle.image_parts.specs.declared.guard_row.GuardRow.{GuardRow}
+use Rattle.image_parts.specs.declared.layout.Layout.{Layout}
+use Rattle.image_parts.specs.declared.slot.Slot.{Slot}
 use Rattle.monitor.specs.Seats.{Home}
 use Rattle.recover.specs.Recovery.{IsCutOff}
 use Rattle.thread_heap.specs.Closed.{IsClosed}

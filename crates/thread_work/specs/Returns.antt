@@ -3,7 +3,7 @@ use Rattle.std.specs.Prelude.{ℕ, ◌≡◌, ◌≤◌, All, Some, false}
 use Rattle.std.specs.List.{range_with_len}
 use Rattle.block_disk.specs.Device.{Device}
 use Rattle.guards.specs.Schema.{Declarations}
-use Rattle.image.specs.Recovered.{Parts}
+use Rattle.image_parts.specs.Recovered.{Parts}
 use Rattle.monitor.specs.Seats.{Home}
 use Rattle.thread_heap.specs.Joined.{IsHelping}
 use Rattle.session.specs.declared.session.Session.{Session}

@@ -2,11 +2,11 @@
 use Rattle.std.specs.Prelude.{ℕ, ◌≡◌, ◌⊎◌, ◌<◌, ◌≤◌, List, slice_index}
 use Rattle.block_disk.specs.Device.{Device, HasFailed, SameMoments, synced}
 use Rattle.guards.specs.Schema.{Declarations, field_count, first_of}
-use Rattle.image.specs.Calls.{after}
-use Rattle.image.specs.Format.{format_calls}
-use Rattle.image.specs.Recovered.{Parts}
-use Rattle.image.specs.declared.guard_row.GuardRow.{GuardRow}
-use Rattle.image.specs.declared.layout.Layout.{Layout}
+use Rattle.image_parts.specs.Calls.{after}
+use Rattle.image_parts.specs.Format.{format_calls}
+use Rattle.image_parts.specs.Recovered.{Parts}
+use Rattle.image_parts.specs.declared.guard_row.GuardRow.{GuardRow}
+use Rattle.image_parts.specs.declared.layout.Layout.{Layout}
 use Rattle.monitor.specs.Seats.{Home}
 use Rattle.recover.specs.Reading.{IsOfOldVersion, RefusesImage}
 use Rattle.recover.specs.Recovery.{IsCutOff, IsRecovery, IsWorn}

@@ -3,8 +3,8 @@ use Rattle.std.specs.Prelude.{ℕ, ◌≡◌, ◌⊎◌, ◌≤◌, List}
 use Rattle.block_disk.specs.Device.{Device, HasFailed}
 use Rattle.guards.specs.Schema.{Declarations}
 use Rattle.heap_model.specs.declared.limits.TheConstants.{LAST_NUMBER}
-use Rattle.image.specs.Recovered.{Parts}
-use Rattle.image.specs.declared.layout.Layout.{Layout}
+use Rattle.image_parts.specs.Recovered.{Parts}
+use Rattle.image_parts.specs.declared.layout.Layout.{Layout}
 use Rattle.monitor.specs.Seats.{Home}
 use Rattle.recover.specs.Recovery.{IsWorn, RefusesRecovery}
 use Rattle.recover.specs.declared.error.RecoverError.{RecoverError}

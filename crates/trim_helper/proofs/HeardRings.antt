@@ -29,7 +29,7 @@ use Rattle.trim_helper.proofs.Counting.{count_kept}
 use Rattle.trim_helper.proofs.Noting.{count_noted, noted_then, place_noted, taken_noted}
 use Rattle.trim_helper.proofs.Rounds.{parts_from}
 use Rattle.trim_helper.proofs.Seeing.{all_seen}
-use Rattle.image.specs.declared.layout.Layout.{Layout}
+use Rattle.image_parts.specs.declared.layout.Layout.{Layout}
 
 -- of three lists, newest first, each goes on from the one before
 pub goes_back : {A : Type 0} (later mid earlier : List A) → GoesOn later mid → GoesOn mid earlier → GoesOn later earlier

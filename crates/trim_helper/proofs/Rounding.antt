@@ -11,7 +11,7 @@ use Rattle.block_disk.specs.Device.{Device, HasCause}
 use Rattle.block_disk.specs.Images.{LeavesOnly}
 use Rattle.block_disk.proofs.Failures.{failed_since}
 use Rattle.block_disk.proofs.Images.{begin}
-use Rattle.image.specs.declared.layout.Layout.{Layout}
+use Rattle.image_parts.specs.declared.layout.Layout.{Layout}
 use Rattle.undo_log.specs.Dropped.{undo_logs, records_in}
 use Rattle.store_image.proofs.Growing.{places_grown}
 use Rattle.store_image.proofs.Places.{in_sections, past_sections, records_within}

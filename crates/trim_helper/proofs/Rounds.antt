@@ -7,7 +7,7 @@ use Rattle.heap_model.specs.declared.record.Record.{Record}
 use Rattle.heap_model.specs.Setting.{Setting}
 use Rattle.block_disk.specs.Device.{Device, HasCause}
 use Rattle.block_disk.proofs.Failures.{cause_since}
-use Rattle.image.specs.declared.layout.Layout.{Layout}
+use Rattle.image_parts.specs.declared.layout.Layout.{Layout}
 use Rattle.monitor.specs.declared.view.Note.{Note}
 use Rattle.monitor.specs.Seats.{Helping, Home}
 use Rattle.monitor.specs.Views.{noted}

@@ -2,7 +2,7 @@
 use Rattle.std.proofs.Common.{ℕ, List}
 use Rattle.heap_model.specs.declared.record.Record.{Record}
 use Rattle.heap_model.specs.Setting.{Setting}
-use Rattle.image.specs.declared.layout.Layout.{Layout}
+use Rattle.image_parts.specs.declared.layout.Layout.{Layout}
 use Rattle.store_helper_sections.specs.Going.{from_heap}
 use Rattle.store_helper_sections.specs.Image.{kept_by, round_records}
 use Rattle.store_helper_sections.proofs.Preceding.{precede}

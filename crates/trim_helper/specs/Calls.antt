@@ -5,7 +5,7 @@ use Rattle.heap_model.specs.declared.record.Record.{Record}
 use Rattle.heap_model.specs.Setting.{Setting}
 use Rattle.block_disk.specs.Device.{Device, HasCause}
 use Rattle.block_disk.specs.Images.{Always, LeavesOnly}
-use Rattle.image.specs.declared.layout.Layout.{Layout}
+use Rattle.image_parts.specs.declared.layout.Layout.{Layout}
 use Rattle.store_image.specs.Sequences.{ShowsUpTo}
 use Rattle.heap_model.specs.Past.{Past, applied}
 use Rattle.heap_model.specs.declared.store_error.StoreError.{StoreError}

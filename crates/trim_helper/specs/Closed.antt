@@ -14,7 +14,7 @@ use Rattle.store_rounds.specs.Runs.{HasRun}
 use Rattle.store_rounds.specs.Stops.{ShowsCut}
 use Rattle.heap_model.specs.Past.{Past, applied}
 use Rattle.trim_helper.specs.Settled.{closed_value}
-use Rattle.image.specs.declared.layout.Layout.{Layout}
+use Rattle.image_parts.specs.declared.layout.Layout.{Layout}
 use Rattle.undo_log.specs.StandsFor.{StandsFor}
 use Rattle.store_image.specs.KeptHeap.{StandsForCut, values_below}
 use Rattle.monitor.specs.Rule.{Spelled}

@@ -1,8 +1,8 @@
 -- Which schema a recovered heap is of (this project's own).
 use Rattle.std.specs.Prelude.{ℕ, ◌≡◌, ◌<◌, List, slice_index_or}
 use Rattle.guards.specs.Schema.{Declarations, object_count, field_count, guard_of, is_transient_of}
-use Rattle.image.specs.declared.guard_row.GuardRow.{GuardRow}
-use Rattle.image.specs.declared.layout.Layout.{Layout}
+use Rattle.image_parts.specs.declared.guard_row.GuardRow.{GuardRow}
+use Rattle.image_parts.specs.declared.layout.Layout.{Layout}
 use Rattle.monitor.specs.declared.view.Plan.{Plan}
 
 -- the image has the schema's objects and fields, each field with its guard, and the same of them transient

@@ -7,7 +7,7 @@ use Rattle.heap_model.specs.History.{IsLegalHistory}
 use Rattle.heap_model.specs.Log.{lane}
 use Rattle.heap_model.specs.Own.{own_log, sent_of}
 use Rattle.heap_model.specs.Past.{Past}
-use Rattle.image.specs.declared.layout.Layout.{Layout}
+use Rattle.image_parts.specs.declared.layout.Layout.{Layout}
 use Rattle.trim_helper.specs.Rings.{received_of, known_of}
 use Rattle.trim_helper.specs.Limits.{KeepsLimits}
 use Rattle.trim_helper.specs.Taken.{trimmed_of}

@@ -8,9 +8,9 @@ use Rattle.block_disk.specs.Device.{Range, Device, IsClear, written, written_uni
 use Rattle.block_disk.specs.Images.{Always, ImageBut, LeavesOnly}
 use Rattle.block_disk.proofs.Ranges.{outside_more}
 use Rattle.block_disk.proofs.Images.{follows, weaker, now_too, besides_then, besides_wider}
-use Rattle.image.specs.Calls.{after}
-use Rattle.image.specs.Layout.{IsLayout, record_at, size_of}
-use Rattle.image.specs.declared.layout.Layout.{Layout}
+use Rattle.image_parts.specs.Calls.{after}
+use Rattle.image_parts.specs.Layout.{IsLayout, record_at, size_of}
+use Rattle.image_parts.specs.declared.layout.Layout.{Layout}
 use Rattle.undo_log.specs.RecordBytes.{record_bytes, run_bytes}
 use Rattle.undo_log.specs.Area.{IsLoggable, HasRecords, record_range, record_ranges, record_writes}
 use Rattle.undo_log.proofs.Runs.{mod_next}

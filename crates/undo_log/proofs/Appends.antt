@@ -7,9 +7,9 @@ use Rattle.block_disk.specs.Images.{Always, ImageBut, LeavesOnly, IsApart}
 use Rattle.block_disk.proofs.Bytes.{part_spliced, length_spliced}
 use Rattle.block_disk.proofs.Ranges.{part_same, outside_more, spliced_same}
 use Rattle.block_disk.proofs.Images.{begin, besides_then, besides_wider, follows, now_too}
-use Rattle.image.specs.Calls.{after}
-use Rattle.image.specs.Layout.{IsLayout, record_at, size_of}
-use Rattle.image.specs.declared.layout.Layout.{Layout}
+use Rattle.image_parts.specs.Calls.{after}
+use Rattle.image_parts.specs.Layout.{IsLayout, record_at, size_of}
+use Rattle.image_parts.specs.declared.layout.Layout.{Layout}
 use Rattle.undo_log.specs.RecordBytes.{Spells, record_bytes}
 use Rattle.undo_log.specs.Area.{IsLoggable, HasRecord, HasRecords, record_range, record_ranges, record_writes}
 use Rattle.undo_log.proofs.Places.{fits_image, places_apart}

@@ -3,10 +3,10 @@ use Rattle.std.proofs.Common.{◌≡◌, ℕ, zero, suc, ◌+◌, ◌-◌, ◌<�
 use Rattle.heap_model.specs.declared.record.UndoRecord.{UndoRecord}
 use Rattle.block_disk.specs.Device.{Range, SameOutside}
 use Rattle.block_disk.specs.Images.{IsApart}
-use Rattle.image.specs.Layout.{IsLayout, record_at}
-use Rattle.image.specs.Rows.{IsRow}
-use Rattle.image.specs.declared.layout.Layout.{Layout}
-use Rattle.image.specs.declared.lane_row.LaneRow.{LaneRow}
+use Rattle.image_parts.specs.Layout.{IsLayout, record_at}
+use Rattle.image_parts.specs.Rows.{IsRow}
+use Rattle.image_parts.specs.declared.layout.Layout.{Layout}
+use Rattle.image_parts.specs.declared.lane_row.LaneRow.{LaneRow}
 use Rattle.undo_log.specs.Area.{HasRecords, record_range, record_ranges}
 use Rattle.undo_log.specs.Frames.{Spares}
 use Rattle.undo_log.proofs.Places.{lanes_apart, places_apart, behind_front}

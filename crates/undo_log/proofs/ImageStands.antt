@@ -11,8 +11,8 @@ use Rattle.heap_model.specs.Cuts.{IsWhole, IsClosed}
 use Rattle.heap_model.specs.KeptHeap.{kept_value}
 use Rattle.heap_model.specs.Base.{records_since}
 use Rattle.law_cuts.proofs.Unlogged.{first_kept}
-use Rattle.image.specs.Cells.{HasHome}
-use Rattle.image.specs.declared.layout.Layout.{Layout}
+use Rattle.image_parts.specs.Cells.{HasHome}
+use Rattle.image_parts.specs.declared.layout.Layout.{Layout}
 use Rattle.undo_log.specs.OldValues.{OldValue, HasOld, TakesBack, IsUnsettled, IsBeyond}
 use Rattle.undo_log.specs.Dropped.{undo_logs, records_in, IsDropped}
 use Rattle.undo_log.specs.StandsFor.{settled_of, row_in, guard_in, is_transient_in, StandsFor, ShowsCut}

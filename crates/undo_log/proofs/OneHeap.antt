@@ -8,16 +8,16 @@ use Rattle.std.proofs.lemmas.Nat.{from_be_bytes-to_be_bytes_4, from_be_bytes-to_
 use Rattle.heap_model.specs.declared.record.UndoRecord.{UndoRecord}
 use Rattle.heap_model.specs.declared.record.UndoRecord.TheVariants.{Acq, Rel, WaitRel, Put}
 use Rattle.block_disk.specs.Bytes.{part}
-use Rattle.image.specs.Slots.{Shows}
-use Rattle.image.specs.Cells.{HasHome}
-use Rattle.image.specs.declared.layout.Layout.{Layout}
-use Rattle.image.specs.declared.slot.Slot.{Slot}
-use Rattle.image.specs.declared.lane_row.LaneRow.{LaneRow}
-use Rattle.image.specs.declared.control.Control.{Control}
-use Rattle.image.specs.declared.guard_row.GuardRow.{GuardRow}
-use Rattle.image.specs.declared.error.ControlError.{ControlError}
-use Rattle.image.specs.declared.error.ControlError.TheVariants.{Fault}
-use Rattle.image.proofs.Reading.{control_is_chosen, guards_are_read, home_is_read}
+use Rattle.image_parts.specs.Slots.{Shows}
+use Rattle.image_parts.specs.Cells.{HasHome}
+use Rattle.image_parts.specs.declared.layout.Layout.{Layout}
+use Rattle.image_parts.specs.declared.slot.Slot.{Slot}
+use Rattle.image_parts.specs.declared.lane_row.LaneRow.{LaneRow}
+use Rattle.image_parts.specs.declared.control.Control.{Control}
+use Rattle.image_parts.specs.declared.guard_row.GuardRow.{GuardRow}
+use Rattle.image_parts.specs.declared.error.ControlError.{ControlError}
+use Rattle.image_parts.specs.declared.error.ControlError.TheVariants.{Fault}
+use Rattle.image_parts.proofs.Reading.{control_is_chosen, guards_are_read, home_is_read}
 use Rattle.undo_log.specs.RecordBytes.{record_bytes, id_of, word_of, kind_of, IsInRange, Spells as SpellsRecord}
 use Rattle.undo_log.specs.OldValues.{TakesBack, IsUnsettled}
 use Rattle.undo_log.specs.Area.{HasRecords, HasSpan}

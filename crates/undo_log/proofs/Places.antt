@@ -3,10 +3,10 @@ use Rattle.std.proofs.Common.{◌≡◌, ◌≢◌, ℕ, ◌+◌, ◌%◌, ◌<�
 use Rattle.std.proofs.Math.Nat.{mod-lt, zero-mod}
 use Rattle.std.proofs.lemmas.Bool.{cases_lt}
 use Rattle.block_disk.specs.Images.{IsApart}
-use Rattle.image.specs.Laws.{AreApart}
-use Rattle.image.specs.Layout.{IsLayout, area_at, record_at, size_of}
-use Rattle.image.specs.declared.layout.Layout.{Layout}
-use Rattle.image.proofs.Places.{places}
+use Rattle.image_parts.specs.Laws.{AreApart}
+use Rattle.image_parts.specs.Layout.{IsLayout, area_at, record_at, size_of}
+use Rattle.image_parts.specs.declared.layout.Layout.{Layout}
+use Rattle.image_parts.proofs.Places.{places}
 use Rattle.undo_log.specs.Area.{record_range}
 use Rattle.undo_log.proofs.Runs.{mod_next, mod_round}
 

@@ -5,8 +5,8 @@ use Rattle.heap_model.specs.declared.ids.Lane.{Lane}
 use Rattle.heap_model.specs.declared.record.UndoRecord.{UndoRecord}
 use Rattle.block_disk.specs.Bytes.{part}
 use Rattle.block_disk.proofs.Bytes.{part_part}
-use Rattle.image.specs.Layout.{record_at}
-use Rattle.image.specs.declared.layout.Layout.{Layout}
+use Rattle.image_parts.specs.Layout.{record_at}
+use Rattle.image_parts.specs.declared.layout.Layout.{Layout}
 use Rattle.undo_log.specs.Area.{SpellsIn, HasRecord, HasRecords, HasSpan, RefusesRead}
 use Rattle.undo_log.specs.Runs.{IsFull, HoldsFirst, BreaksAt}
 use Rattle.undo_log.specs.declared.error.LogError.{LogError}

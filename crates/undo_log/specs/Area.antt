@@ -5,9 +5,9 @@ use Rattle.heap_model.specs.declared.record.UndoRecord.{UndoRecord}
 use Rattle.heap_model.specs.declared.record.UndoRecord.TheVariants.{Acq, Rel, WaitRel, Put}
 use Rattle.block_disk.specs.Bytes.{part}
 use Rattle.block_disk.specs.Device.{Range}
-use Rattle.image.specs.Layout.{record_at}
-use Rattle.image.specs.Calls.{Call, Write}
-use Rattle.image.specs.declared.layout.Layout.{Layout}
+use Rattle.image_parts.specs.Layout.{record_at}
+use Rattle.image_parts.specs.Calls.{Call, Write}
+use Rattle.image_parts.specs.declared.layout.Layout.{Layout}
 use Rattle.undo_log.specs.RecordBytes.{record_bytes, IsInRange, Spells}
 use Rattle.undo_log.specs.declared.error.LogError.{LogError}
 use Rattle.undo_log.specs.declared.error.LogError.TheVariants.{Fault, LogFull, BadRecord, NoMemory}

@@ -4,10 +4,10 @@ use Rattle.std.specs.Prelude.{ℕ, ◌≢◌, ◌+◌, ◌-◌, ◌<◌, ◌≤�
 use Rattle.heap_model.specs.declared.record.UndoRecord.{UndoRecord}
 use Rattle.block_disk.specs.Device.{Range}
 use Rattle.block_disk.specs.Images.{IsApart, Survives}
-use Rattle.image.specs.Layout.{IsLayout, area_at, record_at}
-use Rattle.image.specs.Rows.{IsRow}
-use Rattle.image.specs.declared.layout.Layout.{Layout}
-use Rattle.image.specs.declared.lane_row.LaneRow.{LaneRow}
+use Rattle.image_parts.specs.Layout.{IsLayout, area_at, record_at}
+use Rattle.image_parts.specs.Rows.{IsRow}
+use Rattle.image_parts.specs.declared.layout.Layout.{Layout}
+use Rattle.image_parts.specs.declared.lane_row.LaneRow.{LaneRow}
 use Rattle.undo_log.specs.Area.{HasRecords, record_ranges}
 
 -- Whatever is written apart from each of their places, wherever the lane's area ends, leaves a lane's records.

@@ -3,7 +3,7 @@ use Rattle.std.specs.Prelude.{ℕ, ◌*◌, ◌<◌, List, length}
 use Rattle.std.specs.List.{slice_index_or}
 use Rattle.heap_model.specs.declared.record.UndoRecord.{UndoRecord}
 use Rattle.block_disk.specs.Bytes.{part}
-use Rattle.image.specs.declared.layout.Layout.{Layout}
+use Rattle.image_parts.specs.declared.layout.Layout.{Layout}
 use Rattle.undo_log.specs.Area.{SpellsIn, HasSpan}
 
 -- each of these places has a record

@@ -9,15 +9,15 @@ use Rattle.heap_model.specs.Sections.{actions}
 use Rattle.heap_model.specs.Cuts.{IsWhole, IsClosed}
 use Rattle.heap_model.specs.KeptHeap.{kept_value}
 use Rattle.heap_model.specs.Base.{records_since}
-use Rattle.image.specs.Rows.{empty_row}
-use Rattle.image.specs.Slots.{Shows}
-use Rattle.image.specs.Guards.{HasGuards, no_row}
-use Rattle.image.specs.Cells.{HasCell, HasHome}
-use Rattle.image.specs.declared.layout.Layout.{Layout}
-use Rattle.image.specs.declared.slot.Slot.{Slot}
-use Rattle.image.specs.declared.lane_row.LaneRow.{LaneRow}
-use Rattle.image.specs.declared.control.Control.{Control}
-use Rattle.image.specs.declared.guard_row.GuardRow.{GuardRow}
+use Rattle.image_parts.specs.Rows.{empty_row}
+use Rattle.image_parts.specs.Slots.{Shows}
+use Rattle.image_parts.specs.Guards.{HasGuards, no_row}
+use Rattle.image_parts.specs.Cells.{HasCell, HasHome}
+use Rattle.image_parts.specs.declared.layout.Layout.{Layout}
+use Rattle.image_parts.specs.declared.slot.Slot.{Slot}
+use Rattle.image_parts.specs.declared.lane_row.LaneRow.{LaneRow}
+use Rattle.image_parts.specs.declared.control.Control.{Control}
+use Rattle.image_parts.specs.declared.guard_row.GuardRow.{GuardRow}
 use Rattle.undo_log.specs.OldValues.{TakesBack, IsUnsettled}
 use Rattle.undo_log.specs.Dropped.{undo_logs, records_in, IsDropped}
 use Rattle.undo_log.specs.Area.{HasSpan}

@@ -1,9 +1,9 @@
 //! Records written after the last of their lane.
 ghost use Rattle.std.specs.Prelude.{◌≡◌, ◌⊎◌, ◌↔◌, ◌+◌, ◌-◌, ◌*◌, ◌%◌, ◌<◌, ◌≤◌, ◌^◌, length, All, IfErr, IsErrOf, OnOk};
 ghost use Rattle.block_disk.specs.Since.{AlwaysBut, HasCauseSince, LeavesBut};
-ghost use Rattle.image.specs.Calls.{after};
-ghost use Rattle.image.specs.Layout.{IsLayout, size_of};
-ghost use Rattle.image.specs.Rows.{IsRow};
+ghost use Rattle.image_parts.specs.Calls.{after};
+ghost use Rattle.image_parts.specs.Layout.{IsLayout, size_of};
+ghost use Rattle.image_parts.specs.Rows.{IsRow};
 ghost use Rattle.undo_log.specs.RecordBytes.{run_bytes};
 ghost use Rattle.undo_log.specs.Area.{IsLoggable, HasRecords, record_ranges, record_writes};
 ghost use Rattle.undo_log.specs.declared.error.LogError.TheVariants.{Fault, LogFull};
@@ -12,7 +12,7 @@ use crate::error::LogError;
 use crate::record_bytes::{RECORD_BYTES, encode_record};
 use block_disk::{Disk, overwrite};
 use heap_model::{Lane, UndoRecord};
-use image::{LaneRow, Layout};
+use image_parts::{LaneRow, Layout};
 
 /// How many records one call of the device takes at most.
 const RUN_RECORDS: usize = 64;

@@ -3,7 +3,7 @@ ghost use Rattle.std.specs.Prelude.{◌≡◌, ◌↔◌, ◌+◌, ◌++◌, ◌
 ghost use Rattle.block_disk.specs.Device.{SameMoments};
 ghost use Rattle.block_disk.specs.Since.{HasCauseSince};
 ghost use Rattle.heap_model.specs.declared.record.UndoRecord.{UndoRecord as AnyRecord};
-ghost use Rattle.image.specs.Layout.{IsLayout, size_of};
+ghost use Rattle.image_parts.specs.Layout.{IsLayout, size_of};
 ghost use Rattle.undo_log.specs.Area.{IsOfImage, SpellsIn, HasRecords, HasSpan, RefusesRead};
 ghost use Rattle.undo_log.specs.Runs.{IsFull, HoldsFirst, BreaksAt};
 ghost use Rattle.undo_log.specs.declared.error.LogError.TheVariants.{Fault};
@@ -12,7 +12,7 @@ use crate::error::LogError;
 use crate::record_bytes::{RECORD_BYTES, decode_record};
 use block_disk::{Disk, read_within};
 use heap_model::{Lane, ObjectId, UndoRecord};
-use image::Layout;
+use image_parts::Layout;
 use std::alloc::Global;
 
 /// How many records one read of the device takes at most.

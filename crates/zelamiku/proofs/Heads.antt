@@ -3,8 +3,8 @@ use Rattle.std.proofs.Common.{◌≡◌, ◌∙◌, ℕ, List, [], ◌++◌, len
 use Rattle.std.proofs.lemmas.List.{append-nil, drop_all}
 use Rattle.block_disk.specs.Bytes.{part}
 use Rattle.disk_deferred.specs.Copying.{CopiesFrom}
-use Rattle.image.specs.Guards.{guard_bytes}
-use Rattle.image.specs.declared.guard_row.GuardRow.{GuardRow}
+use Rattle.image_parts.specs.Guards.{guard_bytes}
+use Rattle.image_parts.specs.declared.guard_row.GuardRow.{GuardRow}
 
 -- a copy of a row has its bytes
 pub row_copied : (image old new : List ℕ) (at count : ℕ) (r : GuardRow) → CopiesFrom image at old new count → length old ≡ 16 → part at 16 image ≡ guard_bytes r → new ≡ guard_bytes r

@@ -1,9 +1,9 @@
 -- What C is told of the first bytes of a device: whose image they begin, or whether there may have been one (this project's own).
 use Rattle.std.specs.Prelude.{ℕ, ◌≡◌, ◌<◌, ◌≤◌, ◌+◌, ◌*◌, ◌^◌, List, length}
-use Rattle.image.specs.Head.{HasNoControl, IsNamed, fields_in}
-use Rattle.image.specs.Header.{HasHeader, IsFormatted}
-use Rattle.image.specs.Layout.{size_of}
-use Rattle.image.specs.declared.layout.Layout.{Layout}
+use Rattle.image_parts.specs.Head.{HasNoControl, IsNamed, fields_in}
+use Rattle.image_parts.specs.Header.{HasHeader, IsFormatted}
+use Rattle.image_parts.specs.Layout.{size_of}
+use Rattle.image_parts.specs.declared.layout.Layout.{Layout}
 use Rattle.zelamiku.specs.declared.status.TheConstants.{BAD_HEADER, NOT_FORMATTED, OK, TOO_SMALL}
 use Rattle.zelamiku.specs.declared.words.Head.{Head}
 

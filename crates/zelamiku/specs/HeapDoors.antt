@@ -26,9 +26,9 @@ use Rattle.host_heap.specs.declared.error.RoundError.TheVariants as rounds
 use Rattle.host_heap.specs.declared.lane_end.LaneEnd.{LaneEnd}
 use Rattle.host_heap.specs.declared.room.TheConstants.{ROUND_SYNCS}
 use Rattle.law_hosted.specs.Safe.{KeepsFrom, KeepsNow}
-use Rattle.image.specs.Layout.{size_of}
-use Rattle.image.specs.declared.guard_row.GuardRow.{GuardRow}
-use Rattle.image.specs.declared.layout.Layout.{Layout}
+use Rattle.image_parts.specs.Layout.{size_of}
+use Rattle.image_parts.specs.declared.guard_row.GuardRow.{GuardRow}
+use Rattle.image_parts.specs.declared.layout.Layout.{Layout}
 use Rattle.recover.specs.declared.report.Report.{Report}
 use Rattle.session.specs.Sessions.{view_of}
 use Rattle.thread_steps.specs.Views.{plan}

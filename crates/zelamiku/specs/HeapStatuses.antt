@@ -12,8 +12,8 @@ use Rattle.host_heap.specs.declared.error.HostError.{HostError}
 use Rattle.host_heap.specs.declared.error.HostError.TheVariants as host
 use Rattle.host_heap.specs.declared.error.RoundError.{RoundError}
 use Rattle.host_heap.specs.declared.error.RoundError.TheVariants as rounds
-use Rattle.image.specs.declared.error.ImageError.{ImageError}
-use Rattle.image.specs.declared.error.ImageError.TheVariants as image
+use Rattle.image_parts.specs.declared.error.ImageError.{ImageError}
+use Rattle.image_parts.specs.declared.error.ImageError.TheVariants as image
 use Rattle.recover.specs.declared.error.RecoverError.{RecoverError}
 use Rattle.recover.specs.declared.error.RecoverError.TheVariants as recover
 use Rattle.heap_model.specs.declared.store_error.StoreError.{StoreError}

@@ -3,9 +3,9 @@ use Rattle.std.specs.Prelude.{ℕ, ◌≡◌, ◌<◌, ◌≤◌, List, length}
 use Rattle.std.specs.List.{slice_index_or}
 use Rattle.block_disk.specs.Bytes.{part}
 use Rattle.law_hosted.specs.Copies.{copy_of}
-use Rattle.image.specs.Guards.{SpellsGuard, mark_of}
-use Rattle.image.specs.Layout.{guard_at}
-use Rattle.image.specs.declared.guard_row.GuardRow.{GuardRow}
+use Rattle.image_parts.specs.Guards.{SpellsGuard, mark_of}
+use Rattle.image_parts.specs.Layout.{guard_at}
+use Rattle.image_parts.specs.declared.guard_row.GuardRow.{GuardRow}
 use Rattle.zelamiku.specs.Behind.{behind, closed_behind, heap_behind, stopped_behind}
 use Rattle.zelamiku.specs.HeadDoors.{head_of}
 use Rattle.zelamiku.specs.Own.{Held}

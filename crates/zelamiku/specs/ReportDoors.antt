@@ -7,7 +7,7 @@ use Rattle.host_heap.specs.Hosting.{Hosting}
 use Rattle.host_heap.specs.Opening.{HasRings, IsFound, RefusesOpening}
 use Rattle.host_heap.specs.declared.error.HostError.{HostError}
 use Rattle.host_heap.specs.declared.error.HostError.TheVariants as host
-use Rattle.image.specs.declared.layout.Layout.{Layout}
+use Rattle.image_parts.specs.declared.layout.Layout.{Layout}
 use Rattle.recover.specs.declared.error.RecoverError.TheVariants as recover
 use Rattle.recover.specs.declared.report.Dropped.{Dropped as Section}
 use Rattle.recover.specs.declared.report.Report.{Report}

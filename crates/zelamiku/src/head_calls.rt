@@ -1,7 +1,7 @@
 //! What the first bytes of a device say (`docs/FORMAT.md`, "Header", "Control" and "Making an image").
 ghost use Rattle.std.specs.Prelude.{◌≡◌, ◌≤◌, ◌+◌, ◌*◌, length};
-ghost use Rattle.image.specs.Header.{IsFormatted};
-ghost use Rattle.image.specs.Layout.{IsLayout};
+ghost use Rattle.image_parts.specs.Header.{IsFormatted};
+ghost use Rattle.image_parts.specs.Layout.{IsLayout};
 ghost use Rattle.zelamiku.specs.HeadDoors.{TellsHead, begun_head, damaged_head, no_head};
 ghost use Rattle.zelamiku.specs.HeadDoors as doors;
 ghost use Rattle.zelamiku.specs.declared.status.TheConstants.{NOT_FORMATTED};

@@ -2,8 +2,8 @@
 ghost use Rattle.std.specs.Prelude.{◌≡◌, ◌≢◌, Some};
 ghost use Rattle.block_disk.specs.Bytes.{part};
 ghost use Rattle.law_hosted.specs.Copies.{copy_of};
-ghost use Rattle.image.specs.Guards.{FitsGuard, SpellsGuard, guard_bytes, mark_of};
-ghost use Rattle.image.specs.declared.guard_row.GuardRow.{GuardRow as Row};
+ghost use Rattle.image_parts.specs.Guards.{FitsGuard, SpellsGuard, guard_bytes, mark_of};
+ghost use Rattle.image_parts.specs.declared.guard_row.GuardRow.{GuardRow as Row};
 ghost use Rattle.zelamiku.specs.Behind.{Answers, behind};
 ghost use Rattle.zelamiku.specs.HeadDoors.{no_head};
 ghost use Rattle.zelamiku.specs.HeadDoors as heads;

@@ -1,6 +1,6 @@
 use Rattle.std.proofs.Common.{◌≡◌, ◌≤◌, ◌∙◌, List, ℕ, [], ◌∷◌, length, ap, sym, subst, arith}
 use Rattle.block_disk.specs.Bytes.{spliced}
-use Rattle.image.specs.Slots.{Chooses, other, slot_at}
+use Rattle.image_parts.specs.Slots.{Chooses, other, slot_at}
 use Rattle.heapctl_commands.specs.Heads.{HoldsAlone}
 use Rattle.heapctl_commands.proofs.HeadLemmas.{holds_alone, shut}
 use Rattle.heapctl_commands.proofs.head.control_in.Goals as goal

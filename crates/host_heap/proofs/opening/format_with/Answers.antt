@@ -4,18 +4,18 @@ use Rattle.block_disk.specs.Device.{Device}
 use Rattle.block_disk.specs.Memory.{Memory, device_of, fresh}
 use Rattle.disk_deferred.specs.Host.{host_name}
 use Rattle.guards.specs.Schema.{Declarations, field_count, first_of}
-use Rattle.image.specs.Calls.{after}
-use Rattle.image.specs.Format.{format_calls}
-use Rattle.image.specs.Layout.{size_of}
-use Rattle.image.specs.declared.guard_row.GuardRow.{GuardRow}
-use Rattle.image.specs.declared.layout.Layout.{Layout}
+use Rattle.image_parts.specs.Calls.{after}
+use Rattle.image_parts.specs.Format.{format_calls}
+use Rattle.image_parts.specs.Layout.{size_of}
+use Rattle.image_parts.specs.declared.guard_row.GuardRow.{GuardRow}
+use Rattle.image_parts.specs.declared.layout.Layout.{Layout}
 use Rattle.store_image.specs.Formatting.{layout_with}
 use Rattle.host_heap.specs.Hosting.{hosted_device}
 use Rattle.host_heap.specs.Opening.{HasBegun, threads_of}
-use Rattle.image.specs.NumberedRows.{numbered}
+use Rattle.image_parts.specs.NumberedRows.{numbered}
 use Rattle.host_heap.proofs.Hosts.{after_name, device_is}
 use Rattle.host_heap.proofs.Makings.{making_refused}
-use Rattle.image.proofs.Numbered.{fields_are, first_at}
+use Rattle.image_parts.proofs.Numbered.{fields_are, first_at}
 use Rattle.host_heap.proofs.opening.format_with.Goals as goal
 
 pub begin-requires : goal.begin-requires

@@ -4,9 +4,9 @@ use Rattle.block_disk.specs.Images.{LeavesOnly}
 use Rattle.block_disk.specs.Memory.{Memory, device_of}
 use Rattle.disk_deferred.specs.Host.{host_name}
 use Rattle.guards.specs.Schema.{Declarations}
-use Rattle.image.specs.Guards.{NamesObjects}
-use Rattle.image.specs.declared.guard_row.GuardRow.{GuardRow}
-use Rattle.image.specs.declared.layout.Layout.{Layout}
+use Rattle.image_parts.specs.Guards.{NamesObjects}
+use Rattle.image_parts.specs.declared.guard_row.GuardRow.{GuardRow}
+use Rattle.image_parts.specs.declared.layout.Layout.{Layout}
 use Rattle.recover.specs.Recovery.{IsOnTheWay, IsRecovery, IsTooOld, RefusesOf}
 use Rattle.recover.specs.Study.{IsStudyOf}
 use Rattle.recover.specs.declared.studied.Study.{Study}
@@ -14,10 +14,10 @@ use Rattle.std.specs.List.{slice_index_or}
 use Rattle.trim_helper.specs.Opening.{FitsSchema}
 use Rattle.host_heap.specs.Hosting.{hosted_device}
 use Rattle.host_heap.specs.Opening.{HasBegun, threads_of}
-use Rattle.image.specs.NumberedRows.{numbered}
+use Rattle.image_parts.specs.NumberedRows.{numbered}
 use Rattle.host_heap.proofs.Fits.{fits_numbered}
 use Rattle.host_heap.proofs.Hosts.{device_is, recovery_name}
-use Rattle.image.proofs.Numbered.{only_memory}
+use Rattle.image_parts.proofs.Numbered.{only_memory}
 use Rattle.host_heap.proofs.opening.open_with.Goals as goal
 
 pub returns-in-Err-clause-refused : goal.returns-in-Err-clause-refused

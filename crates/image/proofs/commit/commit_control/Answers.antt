@@ -1,11 +1,11 @@
 use Rattle.std.proofs.Common.{ℕ, List, ◌+◌, ◌∙◌, ap, refl, arith, inr}
 use Rattle.std.proofs.lemmas.Result.{on_ok_weaker}
-use Rattle.image.specs.Calls.{after}
+use Rattle.image_parts.specs.Calls.{after}
 use Rattle.image.specs.Commit.{commit_calls}
-use Rattle.image.specs.Control.{Spells}
+use Rattle.image_parts.specs.Control.{Spells}
 use Rattle.image.proofs.Committed.{commits}
 use Rattle.image.proofs.Commits.{steady_before}
-use Rattle.image.specs.declared.control.Control.{Control}
+use Rattle.image_parts.specs.declared.control.Control.{Control}
 use Rattle.image.proofs.commit.commit_control.Goals as goal
 
 pub replace-requires-clause-steady : goal.replace-requires-clause-steady

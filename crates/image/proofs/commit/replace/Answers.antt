@@ -1,6 +1,7 @@
 use Rattle.std.proofs.Common.{◌≡◌, ◌<◌, [], ◌∷◌, refl, ap, ◌∙◌, arith, rules}
-use Rattle.image.specs.Slots.{other, slot_at, body_at}
-use Rattle.image.proofs.Commits.{commit_made, now_whole, after_close, after_body, after_open, steady_before, steady_new, sequence_spelled}
+use Rattle.image_parts.specs.Slots.{other, slot_at, body_at}
+use Rattle.image.proofs.Commits.{commit_made, now_whole, after_close, after_body, after_open, steady_before, steady_new}
+use Rattle.image_parts.proofs.SlotLemmas.{sequence_spelled}
 use Rattle.image.proofs.Committed.{commits}
 use Rattle.image.proofs.commit.replace.Goals as goal
 

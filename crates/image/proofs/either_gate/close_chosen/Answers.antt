@@ -1,8 +1,8 @@
 use Rattle.std.proofs.Common.{◌≡◌, ◌+◌, ℕ, List, take, drop, length, ap, ◌∙◌, arith, length-drop, rules}
 use Rattle.std.proofs.lemmas.List.{take_all}
-use Rattle.image.specs.Calls.{after}
+use Rattle.image_parts.specs.Calls.{after}
 use Rattle.image.specs.Commit.{turning_calls}
-use Rattle.image.specs.Control.{control_of}
+use Rattle.image_parts.specs.Control.{control_of}
 use Rattle.image.proofs.EitherGates.{closing_spells}
 use Rattle.image.proofs.Committed.{commits, turned_starts}
 use Rattle.image.proofs.either_gate.close_chosen.Goals as goal

@@ -1,7 +1,7 @@
 use Rattle.std.proofs.Common.{arith, rules}
 use Rattle.block_disk.proofs.Images.{stays}
 use Rattle.image.specs.Commit.{OldOrTurned, turned_sequence}
-use Rattle.image.specs.Control.{control_of}
+use Rattle.image_parts.specs.Control.{control_of}
 use Rattle.image.proofs.EitherGates.{closes_calls, closes_leaves, closes_made, closes_steady, found_open, found_shut, found_stands, opens_calls, opens_leaves, opens_made, opens_steady, rewrites_calls, rewrites_leaves, rewrites_made, rewrites_steady, spare_found, steady_found}
 use Rattle.image.proofs.Committed.{commits, turned_starts}
 use Rattle.image.proofs.either_gate.commit_by_turning.Goals as goal

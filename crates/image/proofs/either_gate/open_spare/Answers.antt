@@ -1,8 +1,8 @@
 use Rattle.std.proofs.Common.{ℕ, List, ap, ◌∙◌, arith, rules}
-use Rattle.image.specs.Calls.{after}
+use Rattle.image_parts.specs.Calls.{after}
 use Rattle.image.specs.Commit.{body_calls}
-use Rattle.image.specs.Control.{control_of}
-use Rattle.image.specs.Slots.{other}
+use Rattle.image_parts.specs.Control.{control_of}
+use Rattle.image_parts.specs.Slots.{other}
 use Rattle.image.proofs.EitherGates.{content_spells}
 use Rattle.image.proofs.Committed.{commits, turned_starts}
 use Rattle.image.proofs.either_gate.open_spare.Goals as goal

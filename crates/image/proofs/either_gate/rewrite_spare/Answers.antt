@@ -1,5 +1,5 @@
 use Rattle.std.proofs.Common.{◌+◌, rules}
-use Rattle.image.specs.Control.{control_of}
+use Rattle.image_parts.specs.Control.{control_of}
 use Rattle.image.proofs.EitherGates.{durable_turns}
 use Rattle.image.proofs.Committed.{commits, turned_starts}
 use Rattle.image.proofs.either_gate.rewrite_spare.Goals as goal

@@ -1,5 +1,5 @@
 use Rattle.std.proofs.Common.{◌≡◌, ◌+◌, ℕ, [], ◌∷◌, ap, ◌∙◌, rules}
-use Rattle.image.specs.Slots.{other, body_at, slot_at}
+use Rattle.image_parts.specs.Slots.{other, body_at, slot_at}
 use Rattle.image.proofs.Commits.{now_whole}
 use Rattle.image.proofs.Turning.{after_rest, after_turn, steady_turned, two_made}
 use Rattle.image.proofs.Committed.{commits, turned_starts}

@@ -1,6 +1,7 @@
 use Rattle.std.proofs.Common.{◌≡◌, ◌<◌, [], ◌∷◌, ap, ◌∙◌, arith, rules}
-use Rattle.image.specs.Slots.{other, body_at, slot_at}
-use Rattle.image.proofs.Commits.{now_whole, sequence_spelled}
+use Rattle.image_parts.specs.Slots.{other, body_at, slot_at}
+use Rattle.image.proofs.Commits.{now_whole}
+use Rattle.image_parts.proofs.SlotLemmas.{sequence_spelled}
 use Rattle.image.proofs.Opening.{after_body, after_opening, steady_opened}
 use Rattle.image.proofs.Turning.{two_made}
 use Rattle.image.proofs.Committed.{commits, turned_starts}

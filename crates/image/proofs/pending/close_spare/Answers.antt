@@ -1,7 +1,7 @@
 use Rattle.std.proofs.Common.{◌≡◌, ℕ, ap, subst, ◌∙◌}
 use Rattle.block_disk.specs.Images.{LeavesOnly}
 use Rattle.image.specs.Commit.{ClosedOrSame}
-use Rattle.image.specs.Slots.{other, slot_at}
+use Rattle.image_parts.specs.Slots.{other, slot_at}
 use Rattle.image.proofs.Spares.{spare_shuts}
 use Rattle.image.proofs.pending.close_spare.Goals as goal
 

@@ -1,6 +1,6 @@
 use Rattle.std.proofs.Common.{◌+◌, rules}
 use Rattle.std.proofs.lemmas.Result.{on_ok_weaker}
-use Rattle.image.specs.Control.{control_bytes, control_of}
+use Rattle.image_parts.specs.Control.{control_bytes, control_of}
 use Rattle.image.proofs.Spares.{after_closing, after_commit, after_syncing, pending_made, steady_synced}
 use Rattle.image.proofs.Committed.{commits, durable_starts}
 use Rattle.image.proofs.pending.commit_pending.Goals as goal

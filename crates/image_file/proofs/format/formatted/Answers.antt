@@ -1,8 +1,8 @@
 use Rattle.std.proofs.Common.{ap, sym, ◌∙◌, ◌≡◌, replicate}
 use Rattle.block_disk.specs.Device.{new_device}
-use Rattle.image.specs.Calls.{after}
-use Rattle.image.specs.Format.{format_calls}
-use Rattle.image.specs.Layout.{size_of}
+use Rattle.image_parts.specs.Calls.{after}
+use Rattle.image_parts.specs.Format.{format_calls}
+use Rattle.image_parts.specs.Layout.{size_of}
 use Rattle.disk_sector_file.specs.ImageDisks.{room_for}
 use Rattle.image_file.proofs.format.formatted.Goals as goal
 

@@ -1,8 +1,8 @@
 use Rattle.std.proofs.Common.{ℕ, ◌≡◌, ◌<◌, ◌≤◌, length, slice_index}
 use Rattle.std.specs.Prelude.{slice_index_or, vec_capacity}
 use Rattle.block_disk.specs.Device.{SameMoments}
-use Rattle.image.specs.Cells.{HasHome}
-use Rattle.image.specs.declared.guard_row.GuardRow.{GuardRow}
+use Rattle.image_parts.specs.Cells.{HasHome}
+use Rattle.image_parts.specs.declared.guard_row.GuardRow.{GuardRow}
 use Rattle.image_salvage.proofs.cells.home_values.Given as goal
 
 -- the values so far

@@ -2,7 +2,7 @@ use Rattle.std.proofs.Common.{◌≡◌, ◌∙◌, List, ap, length, subst}
 use Rattle.std.specs.Io.KnownBytes.{Appends}
 use Rattle.script_declarations.specs.SchemaText.{beginning_with}
 use Rattle.guards.specs.Schema.{Declarations}
-use Rattle.image.specs.declared.guard_row.GuardRow.{GuardRow}
+use Rattle.image_parts.specs.declared.guard_row.GuardRow.{GuardRow}
 use Rattle.image_schema.specs.OfImage.{FitsImage}
 use Rattle.inspect.specs.Written.{AppendsPart}
 use Rattle.image_salvage.specs.Cells.{FitsCells, cells_text, named_by}

@@ -1,5 +1,5 @@
 use Rattle.std.proofs.Common.{refl}
-use Rattle.image.specs.Control.{empty_control}
+use Rattle.image_parts.specs.Control.{empty_control}
 use Rattle.image_tests.proofs.commits.commit.Goals as goal
 
 pub commit_control-requires-clause-rows : goal.commit_control-requires-clause-rows

@@ -1,6 +1,6 @@
 use Rattle.block_disk.specs.Memory.{device_of}
-use Rattle.image.specs.Control.{empty_control}
-use Rattle.image.specs.declared.slot.Slot.TheVariants.{A}
+use Rattle.image_parts.specs.Control.{empty_control}
+use Rattle.image_parts.specs.declared.slot.Slot.TheVariants.{A}
 use Rattle.image_tests.proofs.images.steady_of.Goals as goal
 
 pub returns-clause-steady : goal.returns-clause-steady

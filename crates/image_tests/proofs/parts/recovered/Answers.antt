@@ -3,17 +3,17 @@ use Rattle.std.proofs.lemmas.Bool.{cases_lt}
 use Rattle.block_disk.specs.Device.{Moment}
 use Rattle.block_disk.specs.Memory.{device_of}
 use Rattle.guards.specs.Schema.{Declarations, first_of}
-use Rattle.image.specs.Cells.{HasCell, HasHome, HasHomes}
-use Rattle.image.specs.Control.{empty_control}
-use Rattle.image.specs.Format.{IsFresh}
-use Rattle.image.specs.Guards.{HasGuards, guard_row_of}
-use Rattle.image.specs.Image.{IsImageOf}
-use Rattle.image.specs.declared.guard_row.GuardRow.{GuardRow}
-use Rattle.image.proofs.GuardLemmas.{one_row_there}
-use Rattle.image.proofs.Reading.{cell_is_read}
-use Rattle.image.specs.Slots.{Shows}
-use Rattle.image.specs.declared.layout.Layout.{Layout}
-use Rattle.image.specs.declared.slot.Slot.TheVariants.{A}
+use Rattle.image_parts.specs.Cells.{HasCell, HasHome, HasHomes}
+use Rattle.image_parts.specs.Control.{empty_control}
+use Rattle.image_parts.specs.Format.{IsFresh}
+use Rattle.image_parts.specs.Guards.{HasGuards, guard_row_of}
+use Rattle.image_parts.specs.Image.{IsImageOf}
+use Rattle.image_parts.specs.declared.guard_row.GuardRow.{GuardRow}
+use Rattle.image_parts.proofs.GuardLemmas.{one_row_there}
+use Rattle.image_parts.proofs.Reading.{cell_is_read}
+use Rattle.image_parts.specs.Slots.{Shows}
+use Rattle.image_parts.specs.declared.layout.Layout.{Layout}
+use Rattle.image_parts.specs.declared.slot.Slot.TheVariants.{A}
 use Rattle.image_tests.proofs.parts.recovered.Goals as goal
 
 -- what is read of a fresh image is what its field has at home

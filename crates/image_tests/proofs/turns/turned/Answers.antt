@@ -1,7 +1,7 @@
 use Rattle.std.proofs.Common.{◌≡◌, [], refl, sym, ap, subst, ◌∙◌}
 use Rattle.block_disk.specs.Device.{Device, Moment}
 use Rattle.block_disk.specs.Memory.{device_of}
-use Rattle.image.specs.Slots.{Shows}
+use Rattle.image_parts.specs.Slots.{Shows}
 use Rattle.image_tests.proofs.turns.turned.Goals as goal
 
 pub commit_by_turning-requires-clause-rows : goal.commit_by_turning-requires-clause-rows

@@ -2,7 +2,7 @@ use Rattle.std.proofs.lemmas.List.Elements.{All-get_or}
 use Rattle.std.proofs.Common.{ℕ, ◌<◌, List, length, inl, inr, subst, sym, arith}
 use Rattle.std.proofs.lemmas.Bool.{cases_lt}
 use Rattle.std.proofs.lemmas.List.{get_or_past}
-use Rattle.image.proofs.Numbers.{AreBytes}
+use Rattle.image_parts.proofs.Numbers.{AreBytes}
 use Rattle.law_survival.specs.EachImage.{IsOfBytes}
 use Rattle.law_survival.proofs.EachImage.{one_holds}
 use Rattle.law_survival.proofs.Held.{study_held}

@@ -3,8 +3,8 @@ use Rattle.heap_model.specs.Sections.{Action, Section}
 use Rattle.heap_model.specs.Cuts.{IsStable}
 use Rattle.heap_model.specs.declared.record.UndoRecord.{UndoRecord}
 use Rattle.law_cuts.proofs.Existence.{stable_exists}
-use Rattle.image.specs.Rows.{IsRow, empty_row}
-use Rattle.image.specs.declared.lane_row.LaneRow.{LaneRow}
+use Rattle.image_parts.specs.Rows.{IsRow, empty_row}
+use Rattle.image_parts.specs.declared.lane_row.LaneRow.{LaneRow}
 use Rattle.dependence.specs.Trace.{Trace}
 use Rattle.undo_log.specs.StandsFor.{row_of}
 use Rattle.recover.specs.declared.live_sections.LiveSections.{LiveSections}

@@ -1,8 +1,8 @@
 use Rattle.std.proofs.Common.{◌+◌}
 use Rattle.block_disk.proofs.Images.{always_now}
-use Rattle.image.specs.Control.{empty_control}
-use Rattle.image.specs.Slots.{Shows, other}
-use Rattle.image.proofs.Fresh.{empty_rows}
+use Rattle.image_parts.specs.Control.{empty_control}
+use Rattle.image_parts.specs.Slots.{Shows, other}
+use Rattle.image_parts.proofs.Fresh.{empty_rows}
 use Rattle.recover.proofs.EndingLemmas.{steady_synced, end_leaves}
 use Rattle.recover.proofs.ending.end_recovery.Goals as goal
 

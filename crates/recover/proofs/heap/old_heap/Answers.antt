@@ -1,7 +1,7 @@
 use Rattle.std.proofs.Common.{ℕ, ◌≡◌, ◌≢◌, ◌<◌, ◌↔◌, ◌∙◌, List, Option, None, length, sym, ap, subst, arith, slice_index}
 use Rattle.std.specs.Prelude.{slice_index_or}
 use Rattle.heap_model.specs.declared.record.UndoRecord.{UndoRecord}
-use Rattle.image.specs.Cells.{HasHome}
+use Rattle.image_parts.specs.Cells.{HasHome}
 use Rattle.undo_log.specs.StandsFor.{guard_in, row_in, settled_of}
 use Rattle.recover.specs.Heap.{first_old, IsOldOrHome, IsUndone}
 use Rattle.recover.specs.Logs.{lanes_of, logged_guard_in}

@@ -3,7 +3,7 @@ use Rattle.std.specs.Prelude.{nat_lt, slice_index_or}
 use Rattle.std.proofs.lemmas.List.{take_more}
 use Rattle.heap_model.specs.Log.{lane}
 use Rattle.heap_model.specs.declared.record.UndoRecord.{UndoRecord}
-use Rattle.image.specs.declared.lane_row.LaneRow.{LaneRow}
+use Rattle.image_parts.specs.declared.lane_row.LaneRow.{LaneRow}
 use Rattle.undo_log.specs.StandsFor.{settled_of}
 use Rattle.recover.specs.Heap.{earlier, first_old, stored}
 use Rattle.recover_logs.specs.Tables.{log_of}

@@ -1,7 +1,7 @@
 use Rattle.std.proofs.Common.{ℕ, ◌≡◌, ◌<◌, ◌≤◌, length, slice_index, None}
 use Rattle.std.specs.Prelude.{slice_index_or, vec_capacity}
 use Rattle.block_disk.specs.Device.{SameMoments}
-use Rattle.image.specs.Cells.{HasHome}
+use Rattle.image_parts.specs.Cells.{HasHome}
 use Rattle.undo_log.specs.StandsFor.{row_in}
 use Rattle.recover.specs.Heap.{IsOldOrHome}
 use Rattle.recover.proofs.heap.values.Given as goal

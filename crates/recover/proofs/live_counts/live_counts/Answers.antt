@@ -2,7 +2,7 @@ use Rattle.std.proofs.Common.{ℕ, zero, suc, ◌≡◌, ◌≢◌, ◌<◌, ◌
 use Rattle.std.proofs.lemmas.Bool.{cases_eq}
 use Rattle.std.proofs.lemmas.List.{length-set}
 use Rattle.heap_model.specs.declared.record.UndoRecord.{UndoRecord}
-use Rattle.image.specs.declared.lane_row.LaneRow.{LaneRow}
+use Rattle.image_parts.specs.declared.lane_row.LaneRow.{LaneRow}
 use Rattle.undo_log.specs.StandsFor.{row_of, settled_of}
 use Rattle.recover.specs.declared.live_sections.LiveSections.{LiveSections}
 use Rattle.recover.specs.Logs.{records_of, lanes_of}

@@ -3,8 +3,8 @@ use Rattle.std.proofs.lemmas.Result.{err_from_is_err_and}
 use Rattle.std.proofs.lemmas.Bool.{cases_eq}
 use Rattle.heap_model.specs.declared.record.UndoRecord.{UndoRecord}
 use Rattle.block_disk.specs.Device.{Moment}
-use Rattle.image.specs.Rows.{empty_row}
-use Rattle.image.specs.declared.lane_row.LaneRow.{LaneRow}
+use Rattle.image_parts.specs.Rows.{empty_row}
+use Rattle.image_parts.specs.declared.lane_row.LaneRow.{LaneRow}
 use Rattle.block_disk.proofs.Failures.{moments_trans}
 use Rattle.undo_log.specs.Area.{HasSpan}
 use Rattle.undo_log.specs.StandsFor.{row_of}

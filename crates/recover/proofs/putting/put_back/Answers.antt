@@ -5,9 +5,9 @@ use Rattle.std.proofs.lemmas.List.{take_more}
 use Rattle.std.proofs.lemmas.List.Elements.{All-more}
 use Rattle.heap_model.specs.declared.ids.FieldId.{FieldId}
 use Rattle.block_disk.specs.Device.{Device, written}
-use Rattle.image.specs.Calls.{after}
-use Rattle.image.specs.Cells.{HasCell}
-use Rattle.image.specs.Layout.{cell_at, size_of}
+use Rattle.image_parts.specs.Calls.{after}
+use Rattle.image_parts.specs.Cells.{HasCell}
+use Rattle.image_parts.specs.Layout.{cell_at, size_of}
 use Rattle.recover.specs.Putting.{put_calls}
 use Rattle.recover.proofs.PuttingLemmas.{calls_more, put_follows, put_always, put_holds, put_size}
 use Rattle.recover.proofs.putting.put_back.Goals as goal

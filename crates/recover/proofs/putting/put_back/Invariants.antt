@@ -1,8 +1,8 @@
 use Rattle.std.proofs.Common.{◌≡◌, ◌≤◌, All, length, take}
 use Rattle.std.specs.Prelude.{slice_index}
 use Rattle.block_disk.specs.Images.{Always, ImageBut, LeavesOnly}
-use Rattle.image.specs.Calls.{after}
-use Rattle.image.specs.Cells.{HasCell}
+use Rattle.image_parts.specs.Calls.{after}
+use Rattle.image_parts.specs.Cells.{HasCell}
 use Rattle.recover.specs.Putting.{cell_ranges, put_calls}
 use Rattle.recover.proofs.putting.put_back.Given as goal
 

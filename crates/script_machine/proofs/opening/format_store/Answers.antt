@@ -1,10 +1,10 @@
 use Rattle.std.proofs.Common.{◌≡◌, ◌<◌, replicate, refl, sym, ◌∙◌, ap, subst, arith}
 use Rattle.block_disk.specs.Memory.{Memory, device_of, fresh}
-use Rattle.image.specs.Calls.{after}
-use Rattle.image.specs.Format.{format_calls}
-use Rattle.image.specs.Layout.{IsLayoutOf, size_of}
-use Rattle.image.specs.declared.layout.Layout.{Layout}
-use Rattle.image.specs.declared.guard_row.GuardRow.{GuardRow}
+use Rattle.image_parts.specs.Calls.{after}
+use Rattle.image_parts.specs.Format.{format_calls}
+use Rattle.image_parts.specs.Layout.{IsLayoutOf, size_of}
+use Rattle.image_parts.specs.declared.layout.Layout.{Layout}
+use Rattle.image_parts.specs.declared.guard_row.GuardRow.{GuardRow}
 use Rattle.store_image.specs.Formatting.{layout_with}
 use Rattle.guards.specs.Schema.{is_transient_of}
 use Rattle.heap_model.specs.declared.limits.TheConstants.{LAST_NUMBER}

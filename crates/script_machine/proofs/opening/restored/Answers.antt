@@ -1,5 +1,5 @@
 use Rattle.std.proofs.Common.{◌≡◌, refl, ◌∙◌, ap}
-use Rattle.image.specs.declared.layout.Layout.{Layout}
+use Rattle.image_parts.specs.declared.layout.Layout.{Layout}
 use Rattle.script_machine.proofs.opening.restored.Goals as goal
 
 pub returns-clause-restored : goal.returns-clause-restored

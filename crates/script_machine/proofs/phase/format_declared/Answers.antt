@@ -4,13 +4,13 @@ use Rattle.heap_model.specs.Past.{no_past}
 use Rattle.guards.specs.Schema.{Declarations, first_of}
 use Rattle.heap_model.specs.State.{initial_state}
 use Rattle.heap_model.specs.Setting.{Setting}
-use Rattle.image.specs.Layout.{size_of}
+use Rattle.image_parts.specs.Layout.{size_of}
 use Rattle.script_machine.specs.declared.answer.Answer.TheVariants.{Formatted}
 use Rattle.script_machine.specs.Machine as machine
 use Rattle.script_machine.specs.OfSchema.{IsDiskOf, formatted_device}
 use Rattle.script_machine.specs.States.{Tells}
 use Rattle.script_monitors.specs.Table.{setting_in}
-use Rattle.image.specs.declared.layout.Layout.{Layout}
+use Rattle.image_parts.specs.declared.layout.Layout.{Layout}
 use Rattle.script_machine.specs.Limits.{IsFormattable}
 use Rattle.script_machine.proofs.AgreementLemmas.{agree-formatted}
 use Rattle.script_machine.proofs.phase.format_declared.Goals as goal

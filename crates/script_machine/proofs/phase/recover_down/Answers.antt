@@ -1,6 +1,6 @@
 use Rattle.std.proofs.Common.{◌<◌, inl, refl, sym, ◌∙◌, ap, subst, slice_index}
 use Rattle.guards.specs.Schema.{Declarations, field_count}
-use Rattle.image.specs.declared.layout.Layout.{Layout}
+use Rattle.image_parts.specs.declared.layout.Layout.{Layout}
 use Rattle.block_disk.specs.Memory.{Memory, device_of}
 use Rattle.recover.specs.Recovery.{IsTooOld}
 use Rattle.script_machine.specs.Machine as machine

@@ -3,7 +3,7 @@ use Rattle.std.proofs.Math.Numerals.{add-one}
 use Rattle.block_disk.proofs.Images.{and_then, begin, weaker}
 use Rattle.block_disk.specs.Images.{LeavesOnly}
 use Rattle.block_disk.specs.Memory.{Memory, device_of}
-use Rattle.image.specs.declared.layout.Layout.{Layout}
+use Rattle.image_parts.specs.declared.layout.Layout.{Layout}
 use Rattle.heap_model.specs.Setting.{Setting}
 use Rattle.store_image.specs.KeptHeap.{StandsForCut}
 use Rattle.heap_model.specs.Past.{Past, after_home}

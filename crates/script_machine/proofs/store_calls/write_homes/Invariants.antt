@@ -2,7 +2,7 @@ use Rattle.std.proofs.Common.{◌≡◌, ◌⊎◌, ◌<◌, ◌≤◌, ◌+◌,
 use Rattle.heap_model.specs.Setting.{Setting}
 use Rattle.block_disk.specs.Images.{LeavesOnly}
 use Rattle.block_disk.specs.Memory.{device_of}
-use Rattle.image.specs.declared.layout.Layout.{Layout}
+use Rattle.image_parts.specs.declared.layout.Layout.{Layout}
 use Rattle.store_image.specs.KeptHeap.{StandsForCut}
 use Rattle.heap_model.specs.Past.{Past}
 use Rattle.store_image.specs.Consistent.{ShowsPast}

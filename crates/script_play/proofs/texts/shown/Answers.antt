@@ -1,5 +1,5 @@
 use Rattle.std.proofs.Common.{sym, subst}
-use Rattle.image.specs.Layout.{IsLayout}
+use Rattle.image_parts.specs.Layout.{IsLayout}
 use Rattle.recover.specs.Fits.{FitsNumbers}
 use Rattle.recover.proofs.StudyLimits.{fits_of, limits_of}
 use Rattle.recover.specs.declared.studied.Study.{Study}

@@ -1,5 +1,5 @@
 use Rattle.std.proofs.Common.{◌+◌, refl, arith}
-use Rattle.image.specs.Control.{control_of}
+use Rattle.image_parts.specs.Control.{control_of}
 use Rattle.store_image.proofs.Rewriting.{committed_same}
 use Rattle.store_image.proofs.Sequences.{new_up_to}
 use Rattle.store_image.proofs.Within.{commit_within}

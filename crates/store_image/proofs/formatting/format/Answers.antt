@@ -1,6 +1,6 @@
 use Rattle.std.proofs.Common.{◌∙◌, sym}
-use Rattle.image.specs.Calls.{after}
-use Rattle.image.specs.Format.{format_calls}
+use Rattle.image_parts.specs.Calls.{after}
+use Rattle.image_parts.specs.Format.{format_calls}
 use Rattle.store_image.proofs.formatting.format.Goals as goal
 
 pub returns-in-Ok-write_header-clause-calls : goal.returns-in-Ok-write_header-clause-calls

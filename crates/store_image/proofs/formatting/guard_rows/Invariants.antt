@@ -1,7 +1,7 @@
 use Rattle.std.proofs.Common.{◌≡◌, ◌<◌, ℕ, length}
 use Rattle.std.specs.List.{slice_index_or}
-use Rattle.image.specs.Guards.{guard_row_of}
-use Rattle.image.specs.declared.guard_row.GuardRow.{GuardRow as Row}
+use Rattle.image_parts.specs.Guards.{guard_row_of}
+use Rattle.image_parts.specs.declared.guard_row.GuardRow.{GuardRow as Row}
 use Rattle.store_image.proofs.formatting.guard_rows.Given as goal
 
 -- the rows of the fields so far

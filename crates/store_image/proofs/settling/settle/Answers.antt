@@ -1,7 +1,7 @@
 use Rattle.std.proofs.Common.{◌+◌, sym, subst, arith}
 use Rattle.block_disk.proofs.Images.{after_sync, and_then, begin, leaves_synced, now_too}
 use Rattle.heap_model.specs.Cuts.{counts_of}
-use Rattle.image.specs.Control.{control_of}
+use Rattle.image_parts.specs.Control.{control_of}
 use Rattle.heap_model.specs.Past.{after_settle}
 use Rattle.store_image.specs.Consistent.{IsConsistent, ShowsEither}
 use Rattle.store_image.specs.KeptHeap.{StandsForEither}

@@ -2,7 +2,7 @@ use Rattle.std.proofs.Common.{ℕ, ◌≤◌, ◌<◌, get_or}
 use Rattle.std.specs.Prelude.{All}
 use Rattle.block_disk.specs.Device.{SameOutside}
 use Rattle.block_disk.specs.Images.{Always, ImageBut, LeavesOnly}
-use Rattle.image.specs.Cells.{HasCell}
+use Rattle.image_parts.specs.Cells.{HasCell}
 use Rattle.store_round_image.specs.Turning.{IsValueIn, cell_ranges}
 use Rattle.store_round_image.specs.declared.cells.HomeValue.{HomeValue}
 use Rattle.store_round_image.proofs.cells.write_cells.Given as goal

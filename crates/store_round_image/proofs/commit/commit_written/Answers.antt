@@ -1,6 +1,6 @@
 use Rattle.std.proofs.Common.{◌+◌, refl, arith}
 use Rattle.image.specs.Commit.{turned_sequence}
-use Rattle.image.specs.Control.{control_of}
+use Rattle.image_parts.specs.Control.{control_of}
 use Rattle.store_image.proofs.Pending.{turned_same}
 use Rattle.store_image.proofs.Sequences.{turn_up_to, turned_up_to}
 use Rattle.store_image.proofs.Within.{turn_within}

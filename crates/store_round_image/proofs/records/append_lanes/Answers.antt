@@ -1,7 +1,7 @@
 use Rattle.std.proofs.Common.{◌≡◌, ◌+◌, ℕ, List, length, subst, ◌∙◌, arith}
 use Rattle.heap_model.specs.declared.record.UndoRecord.{UndoRecord}
 use Rattle.block_disk.specs.Images.{ImageBut, LeavesOnly}
-use Rattle.image.specs.Calls.{after}
+use Rattle.image_parts.specs.Calls.{after}
 use Rattle.undo_log.specs.Area.{HasRecords, record_ranges, record_writes}
 use Rattle.undo_log.specs.StandsFor.{row_of}
 use Rattle.store_image.specs.NewRecords.{HasFresh}

@@ -1,8 +1,8 @@
 use Rattle.std.proofs.Common.{arith}
 use Rattle.std.proofs.lemmas.Result.{on_ok_weaker}
 use Rattle.block_disk.proofs.Ranges.{outside_both}
-use Rattle.image.specs.Layout.{cell_at}
-use Rattle.image.proofs.Places.{cell_survives}
+use Rattle.image_parts.specs.Layout.{cell_at}
+use Rattle.image_parts.proofs.Places.{cell_survives}
 use Rattle.store_image.specs.NewRecords.{fresh_ranges}
 use Rattle.store_image.proofs.Appending.{front_apart}
 use Rattle.store_round_image.specs.Turning.{cell_ranges}

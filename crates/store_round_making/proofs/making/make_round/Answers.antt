@@ -1,7 +1,7 @@
 use Rattle.std.proofs.Common.{◌++◌}
 use Rattle.block_disk.proofs.Images.{weaker}
 use Rattle.heap_model.specs.Cuts.{counts_of}
-use Rattle.image.specs.declared.layout.Layout.{Layout}
+use Rattle.image_parts.specs.declared.layout.Layout.{Layout}
 use Rattle.store_image.proofs.Answered.{on_ok_two}
 use Rattle.store_helper_sections.specs.Going.{from_heap}
 use Rattle.store_helper_sections.specs.Image.{kept_by, round_records}

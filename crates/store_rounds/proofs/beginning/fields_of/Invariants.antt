@@ -1,5 +1,5 @@
 use Rattle.std.proofs.Common.{◌≡◌, ◌<◌, ◌≤◌, ℕ, not, length, slice_index, slice_index_or, vec_len, vec_capacity}
-use Rattle.image.specs.declared.guard_row.GuardRow.{GuardRow}
+use Rattle.image_parts.specs.declared.guard_row.GuardRow.{GuardRow}
 use Rattle.store_memory.specs.Memory.{field_in}
 use Rattle.store_rounds.proofs.beginning.fields_of.Given as goal
 

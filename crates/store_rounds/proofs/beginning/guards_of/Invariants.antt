@@ -1,6 +1,6 @@
 use Rattle.std.proofs.Common.{◌≡◌, ◌<◌, ◌≤◌, ℕ, length, slice_index_or, vec_len, vec_capacity}
 use Rattle.heap_model.specs.declared.ids.ObjectId.{ObjectId}
-use Rattle.image.specs.declared.guard_row.GuardRow.{GuardRow}
+use Rattle.image_parts.specs.declared.guard_row.GuardRow.{GuardRow}
 use Rattle.store_rounds.proofs.beginning.guards_of.Given as goal
 
 -- the objects so far are the rows' guards

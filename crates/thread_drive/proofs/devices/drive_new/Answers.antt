@@ -2,7 +2,7 @@ use Rattle.std.proofs.Common.{◌≡◌, ap, subst}
 use Rattle.std.proofs.lemmas.Result.{IfOk-weaker}
 use Rattle.guards.specs.Schema.{Declarations}
 use Rattle.thread_work.proofs.Refused.{anyway, weaker_both}
-use Rattle.image.specs.declared.layout.Layout.{Layout}
+use Rattle.image_parts.specs.declared.layout.Layout.{Layout}
 use Rattle.store_image.specs.Formatting.{RefusesFormat}
 use Rattle.trim_helper.specs.Opening.{FitsSchema}
 use Rattle.thread_drive.specs.Refusals.{IsOwnStop, RefusesNew}

@@ -1,5 +1,5 @@
 use Rattle.std.proofs.Common.{◌≡◌, All, length, map, sym, ap, ◌∙◌, subst, arith}
-use Rattle.image.specs.declared.layout.Layout.{Layout}
+use Rattle.image_parts.specs.declared.layout.Layout.{Layout}
 use Rattle.monitor.specs.declared.view.Plan.{Plan}
 use Rattle.monitor.specs.declared.view.View.{View}
 use Rattle.thread_heap.specs.Joined.{HaveRoom, IsJoined}

@@ -1,5 +1,5 @@
 use Rattle.std.proofs.Common.{◌≡◌, All, ap, subst, sym, arith}
-use Rattle.image.specs.declared.layout.Layout.{Layout}
+use Rattle.image_parts.specs.declared.layout.Layout.{Layout}
 use Rattle.thread_heap.specs.Joined.{IsJoined}
 use Rattle.thread_heap_tests.proofs.heap.begin.Goals as goal
 

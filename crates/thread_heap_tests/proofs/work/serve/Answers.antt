@@ -1,6 +1,6 @@
 use Rattle.std.proofs.Common.{subst, sym}
 use Rattle.thread_steps.specs.Views.{plan}
-use Rattle.image.specs.declared.layout.Layout.{Layout}
+use Rattle.image_parts.specs.declared.layout.Layout.{Layout}
 use Rattle.thread_heap.specs.Joined.{IsJoined}
 use Rattle.thread_heap_tests.proofs.work.serve.Goals as goal
 

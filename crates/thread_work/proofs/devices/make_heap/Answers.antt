@@ -1,8 +1,8 @@
 use Rattle.std.proofs.Common.{◌∙◌, ap, arith}
 use Rattle.block_disk.specs.Device.{Device}
-use Rattle.image.specs.Format.{format_calls}
-use Rattle.image.specs.declared.layout.Layout.{Layout}
-use Rattle.image.specs.declared.guard_row.GuardRow.{GuardRow}
+use Rattle.image_parts.specs.Format.{format_calls}
+use Rattle.image_parts.specs.declared.layout.Layout.{Layout}
+use Rattle.image_parts.specs.declared.guard_row.GuardRow.{GuardRow}
 use Rattle.thread_work.proofs.Refused.{after_failures}
 use Rattle.thread_work.proofs.devices.make_heap.Goals as goal
 

@@ -1,6 +1,6 @@
 use Rattle.std.proofs.Common.{ℕ, ◌≡◌, ap, subst, arith}
 use Rattle.std.proofs.lemmas.Result.{IfOk-weaker}
-use Rattle.image.specs.declared.layout.Layout.{Layout}
+use Rattle.image_parts.specs.declared.layout.Layout.{Layout}
 use Rattle.store_image.specs.Formatting.{RefusesFormat}
 use Rattle.thread_work.specs.ImageLanes.{lanes_for}
 use Rattle.thread_work.specs.Runs.{IsMadeOf, RefusesNew}

@@ -1,7 +1,7 @@
 use Rattle.std.proofs.Common.{◌≡◌, All, ap, inl, subst, sym, ◌∙◌}
 use Rattle.std.proofs.lemmas.Result.{IfOk-weaker}
 use Rattle.block_disk.specs.Device.{Device}
-use Rattle.image.specs.declared.layout.Layout.{Layout}
+use Rattle.image_parts.specs.declared.layout.Layout.{Layout}
 use Rattle.monitor.specs.declared.view.Plan.{Plan}
 use Rattle.thread_heap.specs.Joined.{IsJoined}
 use Rattle.thread_work.specs.Crashes.{CrashesOf, TakesEach}

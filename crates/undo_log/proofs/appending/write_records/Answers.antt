@@ -3,8 +3,8 @@ use Rattle.std.proofs.lemmas.List.{take_all}
 use Rattle.heap_model.specs.declared.record.UndoRecord.{UndoRecord}
 use Rattle.block_disk.specs.Device.{Device}
 use Rattle.block_disk.specs.Images.{ImageBut, LeavesOnly}
-use Rattle.image.specs.Calls.{after}
-use Rattle.image.specs.declared.layout.Layout.{Layout}
+use Rattle.image_parts.specs.Calls.{after}
+use Rattle.image_parts.specs.declared.layout.Layout.{Layout}
 use Rattle.undo_log.specs.Area.{HasRecords, record_ranges, record_writes}
 use Rattle.undo_log.proofs.AppendRuns.{take_both, writes_append, run_follows, run_always, written_there}
 use Rattle.undo_log.proofs.appending.write_records.Goals as goal

@@ -1,6 +1,6 @@
 use Rattle.std.proofs.Common.{◌≡◌, ◌≤◌, ◌-◌, length, take}
 use Rattle.block_disk.specs.Images.{Always, ImageBut, LeavesOnly}
-use Rattle.image.specs.Calls.{after}
+use Rattle.image_parts.specs.Calls.{after}
 use Rattle.undo_log.specs.Area.{record_ranges, record_writes}
 use Rattle.undo_log.proofs.appending.write_records.Given as goal
 

@@ -2,7 +2,7 @@ use Rattle.std.proofs.Common.{◌∙◌, ℕ, List, length, ap, subst, arith}
 use Rattle.block_disk.specs.Device.{Range, Device, unit_ranges, written_units}
 use Rattle.block_disk.specs.Images.{ImageBut, LeavesOnly}
 use Rattle.block_disk.proofs.InUnits.{units_failures}
-use Rattle.image.specs.Layout.{record_at}
+use Rattle.image_parts.specs.Layout.{record_at}
 use Rattle.undo_log.proofs.AppendRuns.{run_ranges, run_written}
 use Rattle.undo_log.proofs.appending.write_run.Goals as goal
 

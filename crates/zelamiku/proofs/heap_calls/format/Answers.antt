@@ -1,6 +1,6 @@
 use Rattle.std.proofs.Common.{ℕ, ◌≤◌, List, arith, subst, ◌∙◌}
 use Rattle.host_heap.specs.Opening.{RefusesMaking}
-use Rattle.image.specs.declared.guard_row.GuardRow.{GuardRow}
+use Rattle.image_parts.specs.declared.guard_row.GuardRow.{GuardRow}
 use Rattle.zelamiku.specs.HeapDoors.{NotMade, rows_of}
 use Rattle.zelamiku.proofs.heap_calls.format.Goals as goal
 

@@ -1,5 +1,5 @@
 use Rattle.std.proofs.Common.{◌≡◌, ◌∙◌, sym, ap}
-use Rattle.image.proofs.GuardLemmas.{one_guard}
+use Rattle.image_parts.proofs.GuardLemmas.{one_guard}
 use Rattle.zelamiku.specs.LayoutDoors.{field_of}
 use Rattle.zelamiku.proofs.layout_calls.field_in.Goals as goal
 

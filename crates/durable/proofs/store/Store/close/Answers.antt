@@ -1,7 +1,7 @@
 use Rattle.std.proofs.Common.{ℕ, ◌≡◌, ◌<◌, true, sym, subst}
 use Rattle.heap_model.specs.Log.{value as value_of}
 use Rattle.block_disk.specs.Images.{Always}
-use Rattle.image.specs.Cells.{HasCell}
+use Rattle.image_parts.specs.Cells.{HasCell}
 use Rattle.undo_log.specs.StandsFor.{StandsFor}
 use Rattle.heap_model.specs.Past.{applied}
 use Rattle.durable.specs.Closed.{applied_heap}

@@ -3,7 +3,7 @@ use Rattle.block_disk.proofs.Images.{begin}
 use Rattle.durable.specs.declared.doubt.Doubt.TheVariants.{Nothing}
 use Rattle.store_image.specs.KeptHeap.{StandsForCut}
 use Rattle.store_image.proofs.Within.{cell_clear, within}
-use Rattle.image.specs.Cells.{cell_range}
+use Rattle.image_parts.specs.Cells.{cell_range}
 use Rattle.heap_model.specs.Past.{after_home}
 use Rattle.durable.proofs.Storing.{home_has, failed_has, may_go_home, shows_now}
 use Rattle.durable.proofs.Writing.{home_both, home_failed, home_fault, home_from, rests}

@@ -1,7 +1,7 @@
 use Rattle.std.proofs.Common.{◌≡◌, ◌<◌, ◌∙◌, sym, inl, inr, refl, subst, ap}
 use Rattle.block_disk.specs.Memory.{Memory}
 use Rattle.heap_model.specs.Sections.{actions}
-use Rattle.image.specs.declared.layout.Layout.{Layout}
+use Rattle.image_parts.specs.declared.layout.Layout.{Layout}
 use Rattle.durable.specs.Calls.{RefusesSettle}
 use Rattle.heap_model.specs.Past.{after_settle}
 use Rattle.durable.specs.Store.{Parts}

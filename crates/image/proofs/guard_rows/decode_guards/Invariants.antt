@@ -1,5 +1,0 @@
-use Rattle.image.specs.Blocks.{HoldsRows}
-use Rattle.image.proofs.guard_rows.decode_guards.Given as goal
-
-abbrev pub invariant-loop-i : goal.invariant-loop-i
-invariant-loop-i l = HoldsRows l.bytes l.i l.rows

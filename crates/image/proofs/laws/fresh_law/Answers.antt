@@ -1,5 +1,0 @@
-use Rattle.image.proofs.Reading.{fresh_is_image}
-use Rattle.image.proofs.laws.fresh_law.Goals as goal
-
-pub returns : goal.returns
-returns c = fresh_is_image

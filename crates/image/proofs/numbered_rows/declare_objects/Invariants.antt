@@ -1,7 +1,0 @@
-use Rattle.std.proofs.Common.{◌≡◌, []}
-use Rattle.image.specs.NumberedRows.{numbered}
-use Rattle.image.proofs.numbered_rows.declare_objects.Given as goal
-
--- the objects so far are declared
-abbrev pub invariant-loop-number : goal.invariant-loop-number
-invariant-loop-number l = l.builder ≡ numbered l.number []

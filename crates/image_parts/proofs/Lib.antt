@@ -1,0 +1,13 @@
+pub mod Numbers
+pub mod Comparisons
+pub mod CallLemmas
+pub mod SlotLemmas
+pub mod Controls
+pub mod Choices
+pub mod GuardLemmas
+pub mod Puts
+pub mod Fresh
+pub mod Reading
+pub mod Places
+pub mod Heads
+pub mod Numbered
