@@ -1,9 +1,13 @@
 -- How settled records are found that take what records that aren't settled freed: by going through a replay.
-use Rattle.std.specs.Prelude.{ℕ, ◌≡◌, ◌<◌, ◌≤◌, ◌⊎◌, ◌==◌, if◌then◌else◌, nat_le, nat_lt, not, Bool, true, false, List, [], ◌∷◌, length, slice_index, slice_index_or, slice_set, MatchOption, Option, Some, None}
+use Rattle.std.specs.Prelude.{ℕ, ◌≡◌, ◌+◌, ◌<◌, ◌≤◌, ◌⊎◌, ◌==◌, if◌then◌else◌, nat_le, nat_lt, not, Bool, true, false, List, [], ◌∷◌, length, slice_index, slice_index_or, slice_set, MatchOption, Option, Some, None}
 use Rattle.heap_model.specs.Log.{lane}
 use Rattle.heap_model.specs.declared.ids.Lane.{Lane}
 use Rattle.heap_model.specs.declared.record.UndoRecord.{UndoRecord}
 use Rattle.heap_model.specs.declared.record.UndoRecord.TheVariants.{Acq, Rel, WaitRel, Put}
+use Rattle.recover_logs.specs.Logs.{settled_of}
+use Rattle.recover_logs.specs.Tables.{log_of}
+use Rattle.recover_logs.specs.declared.settled_count.SettledCount.{SettledCount}
+use Rattle.recover_logs.specs.declared.step.Step.{Step}
 use Rattle.recover_logs.specs.declared.crossings.LanePlace.{LanePlace}
 use Rattle.recover_logs.specs.declared.crossings.Crossings.{Crossings}
 
@@ -61,3 +65,24 @@ pub record AreCrossings (settled : ℕ → ℕ) (done : List (ℕ × UndoRecord)
 abbrev pub FindsCrossing : (old new : Crossings) → (settled : ℕ) → Lane → UndoRecord → Type 0
 FindsCrossing old new settled lane entry = IsCrossingBy old.late entry (nat_lt (slice_index old.places lane.0) settled)
     → new.least ≡ Some (lesser old.least (record { lane = lane; place = slice_index old.places lane.0 }))
+
+-- the least crossing of the steps, where lanes are settled up to these counts; none where there is none
+abbrev pub FindsLeastCrossing : List SettledCount → List Step → Option LanePlace → Type 0
+FindsLeastCrossing counts steps result = MatchOption result ((l i : ℕ) → Crosses (settled_of counts) (log_of steps) l i → ⊥)
+    (λ p. IsLeastCrossing (settled_of counts) (log_of steps) p.lane.0 p.place)
+
+-- whether the step's record is settled, where so many of its lane's are
+abbrev pub is_settled : Crossings → (settled : ℕ) → Step → Bool
+is_settled c settled s = nat_lt (slice_index c.places s.lane.0) settled
+
+-- the places after the step: its lane has one record more
+abbrev pub places_after : Crossings → Step → List ℕ
+places_after c s = slice_set c.places s.lane.0 (slice_index c.places s.lane.0 + 1)
+
+-- which releases are late after the step
+abbrev pub late_with : Crossings → (settled : ℕ) → Step → List Bool
+late_with c settled s = late_after c.late s.entry (is_settled c settled s)
+
+-- the step takes what was freed late
+abbrev pub IsCrossingStep : Crossings → (settled : ℕ) → Step → Type 0
+IsCrossingStep c settled s = IsCrossingBy c.late s.entry (is_settled c settled s)

@@ -1,6 +1,6 @@
 -- How far a lane has come after its records: what it holds, its sections (Atlas), and what it waits for. A lane's records
 -- have the newest first.
-use Rattle.std.specs.Prelude.{ℕ, ◌≡◌, ◌+◌, ◌-◌, ◌<◌, ◌^◌, ◌==◌, if◌then◌else◌, Bool, true, false, List, [], ◌∷◌, length, map, Contains, Option, Some, None}
+use Rattle.std.specs.Prelude.{ℕ, ◌≡◌, ◌+◌, ◌-◌, ◌<◌, ◌^◌, ◌==◌, if◌then◌else◌, Bool, true, false, List, [], ◌∷◌, length, map, reverse, Contains, Option, Some, None}
 use Rattle.heap_model.specs.Sections.{Action, Takes, Frees, Stores, undo_action, holding, ended}
 use Rattle.heap_model.specs.declared.ids.ObjectId.{ObjectId}
 use Rattle.heap_model.specs.declared.record.UndoRecord.{UndoRecord}
@@ -91,3 +91,11 @@ new_count = record { place = 0; held = 0; ended = 0; since = 0; awaited = None }
 abbrev pub count_of : List UndoRecord → LaneCount
 count_of [] = new_count
 count_of (r ∷ older) = count_after (count_of older) r
+
+-- a count of records becomes that of the records and this one, which frees what the lane holds if it frees
+abbrev pub CountsRecord : (old : LaneCount) → UndoRecord → (new : LaneCount) → Type 0
+CountsRecord old r new = (first : LaneCount) (records : List UndoRecord) → FreesHeld (undo_action r ∷ map undo_action records) → Counts first records old → Counts first (r ∷ records) new
+
+-- the count of a lane after these records, which have the oldest first
+abbrev pub CountsAll : List UndoRecord → LaneCount → Type 0
+CountsAll records now = FreesHeld (map undo_action (reverse records)) → Counts new_count (reverse records) now

@@ -16,7 +16,7 @@ abbrev pub IsBelow : Option ObjectId → (objects : ℕ) → Type 0
 IsBelow None objects = Unit {0}
 IsBelow (Some o) objects = o.0 < objects
 
--- The record names no object from this one on, nor a field that such a one guards. By field, `guard` has the object whose
+-- The record names no object from this one on, nor a field that one from there on guards. By field, `guard` has the object whose
 -- monitor its stores need, and none where logs keep no store of it.
 abbrev pub IsOfObjects : (guard : ℕ → Option ObjectId) → (objects : ℕ) → UndoRecord → Type 0
 IsOfObjects guard objects (Acq o n) = o.0 < objects

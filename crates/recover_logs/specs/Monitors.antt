@@ -1,7 +1,7 @@
 -- Who holds each object after a list of records, and at which number it stands (JLS 17.1; the numbers are this project's
 -- own). What a record needs is as in a legal record list, but for the values, which undo records don't have. Lists of
 -- (lane, record) have their newest element first.
-use Rattle.std.specs.Prelude.{ℕ, ◌≡◌, ◌+◌, ◌<◌, ◌==◌, if◌then◌else◌, List, [], ◌∷◌, slice_index, slice_index_or, slice_set, Option, Some, None}
+use Rattle.std.specs.Prelude.{ℕ, ◌≡◌, ◌+◌, ◌<◌, ◌==◌, ◌↔◌, if◌then◌else◌, Bool, IsTrue, List, [], ◌∷◌, slice_index, slice_index_or, slice_set, Option, Some, None}
 use Rattle.heap_model.specs.declared.ids.Lane.{Lane}
 use Rattle.heap_model.specs.declared.ids.ObjectId.{ObjectId}
 use Rattle.heap_model.specs.declared.record.UndoRecord.{UndoRecord}
@@ -73,3 +73,11 @@ numbers_after numbers (Acq o n) = numbers
 numbers_after numbers (Rel o n) = slice_set numbers o.0 (n + 1)
 numbers_after numbers (WaitRel o n) = slice_set numbers o.0 (n + 1)
 numbers_after numbers (Put f before) = numbers
+
+-- after each list of records that the monitors are those of, the answer is whether the lane may do this record. For a store, `guard` is its field's
+abbrev pub AnswersAllowed : Monitors → Lane → UndoRecord → (guard : Option ObjectId) → Bool → Type 0
+AnswersAllowed m lane r guard result = (first : ℕ → ℕ) (log : List (ℕ × UndoRecord)) → AreMonitors first log m → IsTrue result ↔ IsAllowed (λ f. guard) first log lane.0 r
+
+-- monitors of records become those of the records and this one of the lane
+abbrev pub NotesRecord : (old : Monitors) → Lane → UndoRecord → (new : Monitors) → Type 0
+NotesRecord old lane r new = (first : ℕ → ℕ) (log : List (ℕ × UndoRecord)) → AreMonitors first log old → AreMonitors first ((lane.0, r) ∷ log) new

@@ -1,6 +1,6 @@
 -- The acknowledged sections of the lanes' live records: those before the place up to which a lane is settled (this
 -- project's own). Lists have their newest element first; places count from a lane's first live record.
-use Rattle.std.specs.Prelude.{ℕ, ◌≡◌, ◌+◌, ◌<◌, ◌≤◌, ◌⊎◌, List, [], ◌∷◌, length, map, take, reverse, Vec, Option, MatchOption}
+use Rattle.std.specs.Prelude.{ℕ, ◌≡◌, ◌+◌, ◌<◌, ◌≤◌, ◌⊎◌, List, [], ◌∷◌, length, map, take, reverse, Vec, Option, MatchOption, MatchResult, Result}
 use Rattle.std.specs.declared.alloc.Global.{Global}
 use Rattle.heap_model.specs.Sections.{Frees, undo_action, holding, ended}
 use Rattle.heap_model.specs.declared.ids.Lane.{Lane}
@@ -9,7 +9,8 @@ use Rattle.heap_model.specs.declared.record.UndoRecord.{UndoRecord}
 use Rattle.heap_model.specs.declared.record.UndoRecord.TheVariants.{Acq}
 use Rattle.recover_logs.specs.declared.error.LogsError.{LogsError}
 use Rattle.recover_logs.specs.declared.error.LogsError.TheVariants.{IllegalLog, NoMemory}
-use Rattle.recover_logs.specs.Logs.{records_of}
+use Rattle.recover_logs.specs.declared.settled_count.SettledCount.{SettledCount}
+use Rattle.recover_logs.specs.Logs.{guard_in, kept_of, lanes_of, records_of, settled_of}
 use Rattle.recover_logs.specs.Replay.{Replays, IsStuckAt}
 
 -- the first n records
@@ -65,7 +66,7 @@ pub record AreAtRest (guard : ℕ → Option ObjectId) (settled kept : ℕ → �
   pub replays : Replays guard lanes done
   pub rest : (l : ℕ) → IsAtRest settled kept lanes l
 
--- what no test of the logs refuses: they are those of a legal list, with whole acknowledged sections that depend on none but such
+-- what no test of the logs refuses: they are those of a legal list, with whole acknowledged sections that depend on acknowledged ones alone
 pub record AreLegal (guard : ℕ → Option ObjectId) (settled kept : ℕ → ℕ) (lanes : ℕ → List UndoRecord) : Type 0 where
   pub logs : AreAtRest guard settled kept lanes
   pub inside : (l i : ℕ) → TakesUnsettled settled lanes l i → ⊥
@@ -82,7 +83,25 @@ abbrev pub RefusesLegal : (guard : ℕ → Option ObjectId) → (settled kept : 
 RefusesLegal guard settled kept lanes (IllegalLog lane place) = IsIllegalAt guard settled kept lanes lane.0 place
 RefusesLegal guard settled kept lanes NoMemory = Unit {0}
 
--- the lane is one of these, and the place is that of one of its records or the one behind them
+-- the lane is one of these, and the place is that of one of its records or the one after them
 abbrev pub IsPlaceIn : List (Vec UndoRecord Global) → LogsError → Type 0
 IsPlaceIn logs (IllegalLog lane place) = (lane.0 < length logs) × (place ≤ length (records_of logs lane.0))
 IsPlaceIn logs NoMemory = Unit {0}
+
+-- each lane is settled up to the place of one of its records, or the one after them
+abbrev pub AreWithin : List SettledCount → List (Vec UndoRecord Global) → Type 0
+AreWithin counts logs = (l : ℕ) → l < length logs → settled_of counts l ≤ length (records_of logs l)
+
+-- this lane of the logs is at rest, by its count
+abbrev pub IsLaneAtRest : List SettledCount → List (Vec UndoRecord Global) → Lane → Type 0
+IsLaneAtRest counts logs lane = IsAtRest (settled_of counts) (kept_of counts) (lanes_of logs) lane.0
+
+-- the least lane of the logs that isn't at rest, by their counts; none where each is
+abbrev pub FindsRestlessLane : List SettledCount → List (Vec UndoRecord Global) → Option Lane → Type 0
+FindsRestlessLane counts logs result = FindsRestless (length logs) (settled_of counts) (kept_of counts) (lanes_of logs) result
+
+-- the logs are accepted where they are legal, or refused for what the refusal says
+abbrev pub TestsLogs : {T : Type 0} → (guards : List (Option ObjectId)) → List SettledCount → List (Vec UndoRecord Global) → Result T LogsError → Type 0
+TestsLogs guards counts logs result = MatchResult result
+    (λ _. AreLegal (guard_in guards) (settled_of counts) (kept_of counts) (lanes_of logs))
+    (RefusesLegal (guard_in guards) (settled_of counts) (kept_of counts) (lanes_of logs))

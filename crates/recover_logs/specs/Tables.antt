@@ -1,12 +1,16 @@
 -- The tables of a replay: what is known of the monitors, and how many records of each lane are left.
-use Rattle.std.specs.Prelude.{ℕ, ◌≡◌, ◌-◌, ◌<◌, ◌≤◌, List, length, map, reverse, drop, slice_get, Some, Option}
+use Rattle.std.specs.Prelude.{ℕ, ◌≡◌, ◌-◌, ◌<◌, ◌≤◌, List, length, map, reverse, drop, slice_get, slice_index, Some, Option, MatchOption, MatchResult, Result, Vec}
+use Rattle.std.specs.declared.alloc.Global.{Global}
 use Rattle.heap_model.specs.Log.{lane}
+use Rattle.heap_model.specs.declared.ids.Lane.{Lane}
 use Rattle.heap_model.specs.declared.ids.ObjectId.{ObjectId}
 use Rattle.heap_model.specs.declared.record.UndoRecord.{UndoRecord}
 use Rattle.recover_logs.specs.Limits.{IsInRange}
 use Rattle.recover_logs.specs.Monitors.{AreMonitors, IsAllowedBy}
 use Rattle.recover_logs.specs.declared.monitors.Monitors.{Monitors}
-use Rattle.recover_logs.specs.Replay.{MayFollow, IsGreedy}
+use Rattle.recover_logs.specs.Logs.{guard_in, lanes_of}
+use Rattle.recover_logs.specs.Replay.{MayFollow, IsGreedy, RefusesReplay, Replays}
+use Rattle.recover_logs.specs.declared.error.LogsError.{LogsError}
 use Rattle.recover_logs.specs.declared.step.Step.{Step}
 
 -- by the tables, the lane can go on with this record, where so many of its records are left; it has the newest first
@@ -41,3 +45,28 @@ pub record IsMidway (guard : ℕ → Option ObjectId) (first : ℕ → ℕ) (lan
   pub greedy : IsGreedy guard first lanes done
   pub monitors : AreMonitors first done t
   pub rest : AreLeft lanes done left
+
+-- the lane's next step, where so many of its records, which have the oldest first, are left; none where it can't go on by the tables
+abbrev pub FindsNextOf : (guards : List (Option ObjectId)) → Monitors → Lane → (records : List UndoRecord) → (left : ℕ) → Option Step → Type 0
+FindsNextOf guards t lane records left result = MatchOption result
+    ((r : UndoRecord) → GoesOnBy (guard_in guards) t (reverse records) left lane.0 r → ⊥)
+    (λ s. (s.lane ≡ lane) × GoesOnBy (guard_in guards) t (reverse records) left lane.0 s.entry)
+
+-- the next step of the least lane that can go on by the tables; none where no lane can
+abbrev pub FindsNext : (guards : List (Option ObjectId)) → Monitors → (logs : List (Vec UndoRecord Global)) → (left : List ℕ) → Option Step → Type 0
+FindsNext guards t logs left result = MatchOption result
+    ((l : ℕ) (r : UndoRecord) → l < length logs → GoesOnBy (guard_in guards) t (lanes_of logs l) (slice_index left l) l r → ⊥)
+    (λ s. IsLeastBy (guard_in guards) t (lanes_of logs) (slice_index left) (length logs) s.lane.0 s.entry)
+
+-- the least lane with records left; none where none has
+abbrev pub FindsLeft : (left : List ℕ) → Option Lane → Type 0
+FindsLeft left result = MatchOption result ((l : ℕ) → slice_index left l ≡ 0)
+    (λ l. (0 < slice_index left l.0) × ((m : ℕ) → m < l.0 → slice_index left m ≡ 0))
+
+-- the steps, which have the oldest first, replay the logs to their end
+abbrev pub AreReplay : (guards : List (Option ObjectId)) → (logs : List (Vec UndoRecord Global)) → List Step → Type 0
+AreReplay guards logs steps = Replays (guard_in guards) (lanes_of logs) (log_of steps)
+
+-- the logs are replayed to their end, or the replay is refused for what it says
+abbrev pub ReplaysLogs : (guards : List (Option ObjectId)) → (logs : List (Vec UndoRecord Global)) → Result (Vec Step Global) LogsError → Type 0
+ReplaysLogs guards logs result = MatchResult result (λ steps. AreReplay guards logs steps.items) (RefusesReplay (guard_in guards) (lanes_of logs))

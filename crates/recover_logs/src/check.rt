@@ -1,10 +1,9 @@
 //! Whether lanes' live records are logs that threads can have left.
-ghost use Rattle.std.specs.Prelude.{◌≡◌, ◌<◌, ◌≤◌, ℕ, All, IfErr, IfOk, MatchResult, length};
+ghost use Rattle.std.specs.Prelude.{◌≤◌, ℕ, All, IfErr, IfOk, length};
 ghost use Rattle.recover_logs.specs.Limits.{IsInRange, IsOfObjects};
-ghost use Rattle.recover_logs.specs.Logs.{guard_in, kept_of, lanes_of, records_of, settled_of};
-ghost use Rattle.recover_logs.specs.Replay.{Replays};
-ghost use Rattle.recover_logs.specs.Settled.{AreLegal, IsPlaceIn, RefusesLegal};
-ghost use Rattle.recover_logs.specs.Tables.{IsLow, log_of};
+ghost use Rattle.recover_logs.specs.Logs.{guard_in, records_of};
+ghost use Rattle.recover_logs.specs.Settled.{AreWithin, IsPlaceIn, TestsLogs};
+ghost use Rattle.recover_logs.specs.Tables.{AreReplay, IsLow};
 
 use crate::error::LogsError;
 use crate::replay::replay;
@@ -20,15 +19,15 @@ use std::alloc::Global;
 /// it is settled.
 ///
 /// `IllegalLog` comes from three tests, in this order:
-/// - The records are replayed from all monitors free, each object's number being the least at which a live record takes
-///   it. A lane takes a free object at its number, frees one that it holds from that number, which raises it by one, and
-///   stores to a field whose guard it holds and whose stores logs keep; after a wait's release it takes the same object
-///   again. Again and again the least lane that can go on does its next record. Where none can and records are left, the
-///   refusal names the least lane with one left, and its first one's place.
-/// - A lane is settled up to a place where it holds something, or keeps fewer sections than ended before that place: the
-///   least such lane, and that place.
-/// - A settled record takes what one that isn't settled freed: the least lane with such a record, and its first one's
-///   place.
+/// - The records are replayed. At first all monitors are free, and each object has the least number at which a live record
+///   takes it. A lane takes a free object at its number. It frees an object that it holds from its number, which raises that
+///   by one. It stores to a field whose guard it holds and whose stores logs keep. After a wait's release it takes the same
+///   object again. Again and again the least lane that can go on does its next record. If none can and records are left, the
+///   refusal names the least lane with records left, and the place of its first one.
+/// - A lane is settled up to a place where it holds something, or keeps fewer sections than ended before that place. The
+///   refusal names the least such lane, and that place.
+/// - A settled record takes what a record that isn't settled freed. The refusal names the least lane with a record of that
+///   kind, and the place of its first one.
 ///
 /// `NoMemory` comes where there is no room for the replay. The time is linear in the records, for each of which the lanes
 /// are looked at once.
@@ -41,15 +40,14 @@ pub fn check_logs(
     requires lanes { length logs.now ≤ 32 }
     requires objects { (l : ℕ) → All (IsOfObjects (guard_in guards.now) 4096) (records_of logs.now l) }
     requires range { (l : ℕ) → All IsInRange (records_of logs.now l) }
-    requires within { (l : ℕ) → l < length logs.now → settled_of counts.now l ≤ length (records_of logs.now l) }
+    requires within { AreWithin counts.now logs.now }
     // Logs are accepted exactly where they are those of a legal list, whose acknowledged sections are whole and depend
     // on acknowledged ones alone. Others are refused with the lane and the place where that shows first.
-    ensures exact { MatchResult result (λ _. AreLegal (guard_in guards.now) (settled_of counts.now) (kept_of counts.now) (lanes_of logs.now))
-        (RefusesLegal (guard_in guards.now) (settled_of counts.now) (kept_of counts.now) (lanes_of logs.now)) }
+    ensures exact { TestsLogs guards.now counts.now logs.now result }
     // The place of a refusal is one of the logs.
     ensures there { IfErr result (IsPlaceIn logs.now) }
     // Accepted logs are replayed to their end, from the least numbers that fit.
-    ensures replays { IfOk result (λ steps. Replays (guard_in guards.now) (lanes_of logs.now) (log_of steps.items)) }
+    ensures replays { IfOk result (λ steps. AreReplay guards.now logs.now steps.items) }
     ensures low { IfOk result (λ steps. All IsLow steps.items) }
 {
     let steps = replay(alloc, guards, logs)?;

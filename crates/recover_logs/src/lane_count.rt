@@ -1,8 +1,7 @@
 //! How far a lane has come.
 ghost use Rattle.std.specs.Prelude.{◌≡◌, ◌↔◌, ◌+◌, ◌<◌, ◌≤◌, ◌^◌, ◌∷◌, [], IsTrue, List, length, map, reverse};
 ghost use Rattle.heap_model.specs.Sections.{undo_action};
-ghost use Rattle.heap_model.specs.declared.record.UndoRecord.{UndoRecord as AnyRecord};
-ghost use Rattle.recover_logs.specs.Lanes.{Counts, FreesHeld, awaited_after, count_of, new_count};
+ghost use Rattle.recover_logs.specs.Lanes.{CountsAll, awaited_after, count_of};
 
 use heap_model::{ObjectId, UndoRecord};
 
@@ -24,9 +23,7 @@ pub struct LaneCount {
 impl LaneCount {
     ghost use Rattle.std.specs.Prelude.{◌≡◌, ◌↔◌, ◌+◌, ◌<◌, ◌^◌, ◌∷◌, [], IsTrue, List, length, map};
     ghost use Rattle.heap_model.specs.Sections.{undo_action};
-    ghost use Rattle.heap_model.specs.declared.record.UndoRecord.{UndoRecord as AnyRecord};
-    ghost use Rattle.recover_logs.specs.Lanes.{Counts, FreesHeld, HasRoom, MayFollow, awaited_after, count_after, ended_after, ends_at, held_after, new_count};
-    ghost use Rattle.recover_logs.specs.declared.lane_count.LaneCount.{LaneCount as AnyCount};
+    ghost use Rattle.recover_logs.specs.Lanes.{CountsRecord, HasRoom, MayFollow, count_after, ended_after, ends_at, held_after, new_count};
 
     /// The count of a lane with no records.
     pub fn new() -> LaneCount
@@ -57,7 +54,7 @@ impl LaneCount {
     /// The count with one more record. A release is of an object that the lane holds.
     pub fn after(self, next: UndoRecord) -> LaneCount
         requires { HasRoom self }
-        ensures counts { (first : AnyCount) (records : List AnyRecord) → FreesHeld (undo_action next ∷ map undo_action records) → Counts first records self → Counts first (next ∷ records) result }
+        ensures counts { CountsRecord self next result }
         // The count after one record more is that of the lane's records with it.
         ensures exact { result ≡ count_after self next }
     {
@@ -128,7 +125,7 @@ fn awaited_after_record(next: UndoRecord) -> Option<ObjectId>
 pub fn count_all(records: &[UndoRecord]) -> LaneCount
     // The count of a whole list is that of its records, one after the other.
     ensures exact { result ≡ count_of (reverse records.now) }
-    ensures counts { FreesHeld (map undo_action (reverse records.now)) → Counts new_count (reverse records.now) result }
+    ensures counts { CountsAll records.now result }
 {
     let mut count = LaneCount::new();
     for entry in records {

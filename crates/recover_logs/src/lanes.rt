@@ -1,10 +1,9 @@
 //! How far a replay has come in each lane.
-ghost use Rattle.std.specs.Prelude.{◌≡◌, ◌↔◌, ◌-◌, ◌<◌, ◌≤◌, ℕ, All, IsTrue, None, Some, MatchOption, length, reverse, slice_get, slice_index};
+ghost use Rattle.std.specs.Prelude.{◌≡◌, ◌↔◌, ◌-◌, ◌<◌, ◌≤◌, ℕ, All, IsTrue, length, reverse, slice_get, slice_index};
 ghost use Rattle.recover_logs.specs.Logs.{guard_in, lanes_of, records_of};
 ghost use Rattle.recover_logs.specs.Replay.{MayFollow};
-ghost use Rattle.recover_logs.specs.Tables.{GoesOnBy, IsLeastBy};
+ghost use Rattle.recover_logs.specs.Tables.{FindsNext, FindsNextOf};
 ghost use Rattle.recover_logs.specs.Limits.{IsOfObjects};
-ghost use Rattle.heap_model.specs.declared.record.UndoRecord.{UndoRecord as AnyRecord};
 
 use crate::Monitors;
 use crate::rules::is_allowed;
@@ -21,8 +20,7 @@ pub fn least_to_go_on(
     requires lanes { length logs.now ≤ 32 }
     requires left { (l : ℕ) → slice_index left.now l ≤ length (lanes_of logs.now l) }
     requires objects { (l : ℕ) → All (IsOfObjects (guard_in guards.now) 4096) (records_of logs.now l) }
-    ensures { MatchOption result ((l : ℕ) (r : AnyRecord) → l < length logs.now → GoesOnBy (guard_in guards.now) monitors.now (lanes_of logs.now l) (slice_index left.now l) l r → ⊥)
-        (λ s. IsLeastBy (guard_in guards.now) monitors.now (lanes_of logs.now) (slice_index left.now) (length logs.now) s.lane.0 s.entry) }
+    ensures { FindsNext guards.now monitors.now logs.now left.now result }
 {
     for lane in 0..logs.len() as u8 {
         let records = records_in(logs, Lane(lane));
@@ -53,8 +51,7 @@ fn to_go_on(
 ) -> Option<Step>
     requires left { left ≤ length records.now }
     requires objects { All (IsOfObjects (guard_in guards.now) 4096) records.now }
-    ensures { MatchOption result ((r : AnyRecord) → GoesOnBy (guard_in guards.now) monitors.now (reverse records.now) left lane.0 r → ⊥)
-        (λ s. (s.lane ≡ lane) × GoesOnBy (guard_in guards.now) monitors.now (reverse records.now) left lane.0 s.entry) }
+    ensures { FindsNextOf guards.now monitors.now lane records.now left result }
 {
     let done = records.len() - left;
     let entry = *records.get(done)?;

@@ -14,9 +14,8 @@ pub struct Monitors {
 
 impl Monitors {
     ghost use Rattle.std.specs.Prelude.{◌≡◌, ◌↔◌, ◌<◌, ◌∷◌, ℕ, IsTrue, List, [], None, Some, slice_index};
-    ghost use Rattle.heap_model.specs.declared.record.UndoRecord.{UndoRecord as AnyRecord};
     ghost use Rattle.recover_logs.specs.Limits.{IsInRange, IsOfObjects};
-    ghost use Rattle.recover_logs.specs.Monitors.{AreMonitors, IsAllowed, IsAllowedBy, holder_at, holders_after, number_at, numbers_after};
+    ghost use Rattle.recover_logs.specs.Monitors.{AnswersAllowed, AreMonitors, IsAllowedBy, NotesRecord, holder_at, holders_after, number_at, numbers_after};
 
     /// The monitors before any record: all free, at these numbers.
     pub fn free_at(numbers: [u64; 4096]) -> Monitors
@@ -35,7 +34,7 @@ impl Monitors {
     pub fn allows(&self, lane: Lane, next: UndoRecord, guard: Option<ObjectId>) -> bool
         requires objects { IsOfObjects (λ f. guard) 4096 next }
         // The answer is true exactly where the monitors allow the lane's record after the records so far.
-        ensures allowed { (first : ℕ → ℕ) (log : List (ℕ × AnyRecord)) → AreMonitors first log self.now → IsTrue result ↔ IsAllowed (λ f. guard) first log lane.0 next }
+        ensures allowed { AnswersAllowed self.now lane next guard result }
         ensures tables { IsTrue result ↔ IsAllowedBy (λ f. guard) self.now lane.0 next }
     {
         match next {
@@ -55,7 +54,7 @@ impl Monitors {
     pub fn note(&mut self, lane: Lane, done: UndoRecord)
         requires range { IsInRange done }
         // What is noted are the monitors after one record more.
-        ensures noted { (first : ℕ → ℕ) (log : List (ℕ × AnyRecord)) → AreMonitors first log self.old → AreMonitors first ((lane.0, done) ∷ log) self.new }
+        ensures noted { NotesRecord self.old lane done self.new }
         ensures holders { self.new.holders ≡ holders_after self.old.holders lane.0 done }
         ensures numbers { self.new.numbers ≡ numbers_after self.old.numbers done }
     {

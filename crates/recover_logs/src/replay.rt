@@ -1,10 +1,9 @@
 //! The greedy replay of the lanes' live records.
-ghost use Rattle.std.specs.Prelude.{◌≡◌, ◌↔◌, ◌+◌, ◌-◌, ◌<◌, ◌≤◌, ℕ, All, IfErr, IfOk, MatchOption, MatchResult, length, slice_index};
+ghost use Rattle.std.specs.Prelude.{◌≡◌, ◌≤◌, ℕ, All, IfErr, IfOk, length, slice_index};
 ghost use Rattle.recover_logs.specs.Limits.{IsInRange, IsOfObjects};
-ghost use Rattle.recover_logs.specs.Logs.{guard_in, lanes_of, records_of};
-ghost use Rattle.recover_logs.specs.Replay.{Replays, RefusesReplay};
+ghost use Rattle.recover_logs.specs.Logs.{guard_in, records_of};
 ghost use Rattle.recover_logs.specs.Settled.{IsPlaceIn};
-ghost use Rattle.recover_logs.specs.Tables.{IsLow, log_of};
+ghost use Rattle.recover_logs.specs.Tables.{FindsLeft, IsLow, ReplaysLogs};
 
 use crate::Monitors;
 use crate::error::LogsError;
@@ -27,7 +26,7 @@ pub fn replay(
     requires lanes { length logs.now ≤ 32 }
     requires objects { (l : ℕ) → All (IsOfObjects (guard_in guards.now) 4096) (records_of logs.now l) }
     requires range { (l : ℕ) → All IsInRange (records_of logs.now l) }
-    ensures exact { MatchResult result (λ steps. Replays (guard_in guards.now) (lanes_of logs.now) (log_of steps.items)) (RefusesReplay (guard_in guards.now) (lanes_of logs.now)) }
+    ensures exact { ReplaysLogs guards.now logs.now result }
     ensures there { IfErr result (IsPlaceIn logs.now) }
     ensures low { IfOk result (λ steps. All IsLow steps.items) }
 {
@@ -65,7 +64,7 @@ fn lengths(logs: &[Vec<UndoRecord>]) -> [usize; 32]
 
 // The least lane with records left.
 fn least_left(left: &[usize; 32]) -> Option<Lane>
-    ensures { MatchOption result ((l : ℕ) → slice_index left.now l ≡ 0) (λ l. (0 < slice_index left.now l.0) × ((m : ℕ) → m < l.0 → slice_index left.now m ≡ 0)) }
+    ensures { FindsLeft left.now result }
 {
     for lane in 0..32u8 {
         if left[usize::from(lane)] > 0 {

@@ -1,8 +1,8 @@
 //! The places up to which lanes are settled.
 ghost use Rattle.std.specs.Prelude.{◌≡◌, ◌↔◌, ◌+◌, ◌-◌, ◌<◌, ◌≤◌, ◌^◌, ℕ, IsTrue, MatchOption, length, map};
 ghost use Rattle.heap_model.specs.Sections.{holding, ended};
-ghost use Rattle.recover_logs.specs.Logs.{count_of, kept_of, lanes_of, records_of, settled_of};
-ghost use Rattle.recover_logs.specs.Settled.{IsAtRest, FindsRestless};
+ghost use Rattle.recover_logs.specs.Logs.{count_of, records_of, settled_of};
+ghost use Rattle.recover_logs.specs.Settled.{AreWithin, FindsRestlessLane, IsLaneAtRest};
 ghost use Rattle.recover_logs.specs.Tally.{FreesHeld, acts_of, IsRestAfter};
 
 use crate::count_all;
@@ -16,8 +16,8 @@ pub fn least_restless(counts: &[SettledCount], logs: &[Vec<UndoRecord>]) -> Opti
     requires lanes { length logs.now ≤ 32 }
     requires counts { length counts.now ≡ 32 }
     requires held { (l : ℕ) → FreesHeld (acts_of (records_of logs.now l)) }
-    requires within { (l : ℕ) → l < length logs.now → settled_of counts.now l ≤ length (records_of logs.now l) }
-    ensures { FindsRestless (length logs.now) (settled_of counts.now) (kept_of counts.now) (lanes_of logs.now) result }
+    requires within { AreWithin counts.now logs.now }
+    ensures { FindsRestlessLane counts.now logs.now result }
 {
     for lane in 0..logs.len() as u8 {
         if !is_at_rest(counts, logs, Lane(lane)) {
@@ -32,7 +32,7 @@ fn is_at_rest(counts: &[SettledCount], logs: &[Vec<UndoRecord>], lane: Lane) -> 
     requires count { lane.0 < length counts.now }
     requires held { FreesHeld (acts_of (records_of logs.now lane.0)) }
     requires within { settled_of counts.now lane.0 ≤ length (records_of logs.now lane.0) }
-    ensures { IsTrue result ↔ IsAtRest (settled_of counts.now) (kept_of counts.now) (lanes_of logs.now) lane.0 }
+    ensures { IsTrue result ↔ IsLaneAtRest counts.now logs.now lane }
 {
     let count = count(counts, lane);
     rests_after(records_in(logs, lane), count.records, count.sections)

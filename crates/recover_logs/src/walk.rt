@@ -1,21 +1,20 @@
 //! The walk through a replay that finds settled records which take what records that aren't settled freed.
-ghost use Rattle.std.specs.Prelude.{◌≡◌, ◌↔◌, ◌+◌, ◌-◌, ◌<◌, ◌≤◌, ◌^◌, ℕ, All, Bool, if◌then◌else◌, nat_lt, IsTrue, MatchOption, None, Some, false, slice_index_or, length, slice_index, slice_set};
+ghost use Rattle.std.specs.Prelude.{◌≡◌, ◌↔◌, ◌+◌, ◌<◌, ◌^◌, ℕ, All, IsTrue, None, false, slice_index_or, length, slice_index};
 ghost use Rattle.recover_logs.specs.Limits.{IsInRange};
-ghost use Rattle.recover_logs.specs.Logs.{settled_of};
-ghost use Rattle.recover_logs.specs.Crossings.{IsLeastCrossing, Crosses, IsCrossingBy, late_after, lesser, FindsCrossing};
-ghost use Rattle.recover_logs.specs.Tables.{IsLow, log_of};
+ghost use Rattle.recover_logs.specs.Crossings.{FindsCrossing, FindsLeastCrossing, IsCrossingBy, IsCrossingStep, late_after, late_with, lesser, places_after};
+ghost use Rattle.recover_logs.specs.Tables.{IsLow};
 
 use crate::crossings::{Crossings, LanePlace};
 use crate::settled_count::SettledCount;
 use crate::step::Step;
 use heap_model::{MOST_OBJECTS, UndoRecord};
 
-/// The least lane with a settled record that takes an object which a record that isn't settled freed last, and its first
-/// such record. Each step is looked at once.
+/// The least lane with a settled record that takes an object which a record that isn't settled freed last, and the place of
+/// the first record of that kind. Each step is looked at once.
 pub fn least_crossing(counts: &[SettledCount], steps: &[Step]) -> Option<LanePlace>
     requires counts { length counts.now ≡ 32 }
     requires low { All IsLow steps.now }
-    ensures { MatchOption result ((l i : ℕ) → Crosses (settled_of counts.now) (log_of steps.now) l i → ⊥) (λ p. IsLeastCrossing (settled_of counts.now) (log_of steps.now) p.lane.0 p.place) }
+    ensures { FindsLeastCrossing counts.now steps.now result }
 {
     let mut crossings = nothing_met();
     for step in steps {
@@ -42,10 +41,11 @@ fn nothing_met() -> Crossings
 fn look_at(crossings: &mut Crossings, settled: usize, step: Step)
     requires low { IsLow step }
     requires fits { slice_index crossings.old.places step.lane.0 + 1 < 2 ^ 64 }
-    ensures places { crossings.new.places ≡ slice_set crossings.old.places step.lane.0 (slice_index crossings.old.places step.lane.0 + 1) }
-    ensures late { crossings.new.late ≡ late_after crossings.old.late step.entry (nat_lt (slice_index crossings.old.places step.lane.0) settled) }
+    ensures places { crossings.new.places ≡ places_after crossings.old step }
+    ensures late { crossings.new.late ≡ late_with crossings.old settled step }
     ensures found { FindsCrossing crossings.old crossings.new settled step.lane step.entry }
-    ensures none { (IsCrossingBy crossings.old.late step.entry (nat_lt (slice_index crossings.old.places step.lane.0) settled) → ⊥) → crossings.new.least ≡ crossings.old.least }
+    ensures none { (IsCrossingStep crossings.old settled step → ⊥)
+        → crossings.new.least ≡ crossings.old.least }
 {
     let place = crossings.places[usize::from(step.lane.0)];
     let is_settled = place < settled;
