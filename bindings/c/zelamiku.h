@@ -306,7 +306,8 @@ int zelamiku_heap_error(void);
  * The file doesn't say whose its last lane was. Where this plan and the one before differ in that, the report leaves out what threads had
  * in it, or tells the helper's sections as UNSETTLED.
  * A heap that is made by a plan with a fingerprint has one field more, the last: transient, of object 0, with the fingerprint as its first
- * value. The report doesn't count it. A heap without one, with as many fields as the plan, is opened too.
+ * value. The report doesn't count it, and a program has no use of it: a store there lasts until the heap is closed, and changes no
+ * fingerprint. A heap without one, with as many fields as the plan, is opened too.
  * BUSY: another process has the heap, or makes one there, or this one has it open already (by device and inode: another name of the file is
  * the same), or the file was replaced meanwhile. OTHER_HEAP: the file's heap isn't that of the plan: the report has the first difference.
  * NOT_FORMATTED: the file has something else, also a heap whose first bytes were damaged; or there is no heap, and by the plan there must be.

@@ -1,5 +1,5 @@
 /* All schedules with at most so many preemptions of a program in which nothing comes by chance. A preemption is a choice of another task while the
- * one that runs could go on, or of the end of somebody's time. Who goes on when it can't is chosen freely.
+ * one that runs could go on, or of the end of somebody's time while any task could. Who goes on when the one that runs can't is chosen freely.
  *
  * Of two schedules that bring the same steps in the same order, but for the order of steps that touch no word in common, one is tried. Two things
  * leave the other one out:
@@ -70,7 +70,6 @@ static void forget_places(void) {
 
 /* Whether the search has to end: there is no more time; or one more word is contended, and little has been tried. */
 static bool is_at_end(void) {
-    if (counts.runs >= asks.most || asks.is_over()) counts.is_cut_short = true;
     bool is_early = counts.runs - counts.tried < EARLY;
     return counts.is_cut_short || (is_early && order_news() != known_news);
 }
@@ -82,9 +81,14 @@ static bool is_crossing(const search_place *at, uint32_t task) {
     return order_is_contended(at->words[0]) || order_is_contended(at->words[1]);
 }
 
+static bool is_preemption(const search_place *at, uint32_t task) {
+    return !at->is_free || task == TIME;
+}
+
 static bool may_choose(const search_place *at, uint32_t task, uint32_t left) {
     if ((at->able >> task & 1) == 0 || task == at->usual) return false;
-    return at->is_free || (left > 0 && is_crossing(at, task));
+    if (is_preemption(at, task) && left == 0) return false;
+    return at->is_free || is_crossing(at, task);
 }
 
 static void try_path(uint32_t left);
@@ -94,7 +98,7 @@ static void try_choices(const search_place *at, uint32_t place, uint32_t left) {
         if (!may_choose(at, task, left)) continue;
         if (path_length == MOST_DEPTH) search_fail("too many choices");
         path[path_length++] = (search_choice){place, task};
-        try_path(left - !at->is_free);
+        try_path(left - is_preemption(at, task));
         path_length--;
     }
 }
@@ -104,6 +108,7 @@ static void try_path(uint32_t left) {
     size_t first = path_length == 0 ? 0 : path[path_length - 1].place + 1;
     asks.run(path, path_length);
     counts.runs++;
+    if (counts.runs >= asks.most || asks.is_over()) counts.is_cut_short = true;
     if (search_made.last >= MOST_TOLD) search_fail("a run of too many places");
     if (first < search_made.first) first = search_made.first;
     size_t count = search_made.last > first ? search_made.last - first : 0;

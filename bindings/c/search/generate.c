@@ -243,35 +243,36 @@ void program_make(program *it, uint64_t seed) {
 
 /* ---- small programs, of which each schedule is tried ---- */
 
-/* A thread, what it does, and with what. */
+/* A thread, what it does, and with what. `first`: so many deeds are done before the others begin, so that no order of them is tried. With one
+ * processor nobody looks again and again whether a round has ended. */
 typedef struct {
     uint8_t thread, kind, object;
     uint32_t number;
 } small_deed;
 typedef struct {
     const char *name;
-    uint32_t threads, linger;
+    uint32_t threads, linger, processors, first;
     small_deed deeds[16];
 } small_program;
 
 #define SECTION(thread, object) {thread, ENTER, object, 0}, {thread, STORE, object, 0}, {thread, EXIT, object, 0}
 #define LOOKED_AT(thread, object) {thread, ENTER, object, 0}, {thread, LOAD, object, 0}, {thread, EXIT, object, 0}
 static const small_program SMALL[SMALL_PROGRAMS] = {
-    {"one looks and one stores while the helper looks every microsecond", 2, 1, {LOOKED_AT(0, 0), SECTION(1, 1)}},
-    {"two want one monitor", 2, 5000, {SECTION(0, 0), SECTION(1, 0)}},
-    {"three want one monitor, and one of them gives up", 3, 5000,
+    {"one looks and one stores while the helper looks every microsecond", 2, 1, 2, 0, {LOOKED_AT(0, 0), SECTION(1, 1)}},
+    {"two want one monitor", 2, 5000, 2, 0, {SECTION(0, 0), SECTION(1, 0)}},
+    {"three want one monitor, and one of them gives up", 3, 5000, 2, 1,
      {{0, ENTER, 0, 0}, {0, NAP, 0, 4200}, {0, EXIT, 0, 0}, {1, UNTIL, 0, 4000}, {1, EXIT, 0, 0}, {2, ENTER, 0, 0}, {2, EXIT, 0, 0}}},
-    {"one waits in the set, and one notifies it", 2, 5000,
+    {"one waits in the set, and one notifies it", 2, 5000, 2, 0,
      {{0, ENTER, 0, 0}, {0, WAIT, 0, 1}, {0, EXIT, 0, 0}, {1, ENTER, 0, 0}, {1, NOTIFY, 0, 0}, {1, EXIT, 0, 0}}},
-    {"one waits with another monitor held, and one notifies all", 2, 5000,
+    {"one waits with another monitor held, and one notifies all", 2, 5000, 2, 0,
      {{0, ENTER, 1, 0}, {0, ENTER, 0, 0}, {0, WAIT, 0, 1}, {0, EXIT, 0, 0}, {0, EXIT, 1, 0}, {1, ENTER, 0, 0}, {1, NOTIFY_ALL, 0, 0},
       {1, EXIT, 0, 0}}},
-    {"each of two waits for its section", 2, 5000, {SECTION(0, 0), {0, AWAIT, 0, 0}, SECTION(1, 1), {1, AWAIT, 0, 0}}},
-    {"one waits for its section, and another ends one", 2, 5000, {SECTION(0, 0), {0, AWAIT, 0, 0}, SECTION(1, 1)}},
-    {"of two that wait for their sections one has a deadline", 2, 5000,
+    {"each of two waits for its section", 2, 5000, 1, 0, {SECTION(0, 0), {0, AWAIT, 0, 0}, SECTION(1, 1), {1, AWAIT, 0, 0}}},
+    {"one waits for its section, and another ends one", 2, 5000, 2, 0, {SECTION(0, 0), {0, AWAIT, 0, 0}, SECTION(1, 1)}},
+    {"of two that wait for their sections one has a deadline", 2, 5000, 1, 0,
      {SECTION(0, 0), {0, AWAIT, 0, 0}, SECTION(1, 1), {1, AWAIT_UNTIL, 0, 900000}}},
-    {"one waits for what it has looked at, and another stores", 2, 5000, {LOOKED_AT(0, 0), {0, AWAIT, 0, 0}, SECTION(1, 1)}},
-    {"a stop, while one waits for its section", 2, 5000, {SECTION(0, 0), {0, AWAIT, 0, 0}, {1, STOP, 0, 0}}},
+    {"one waits for what it has looked at, and another stores", 2, 5000, 2, 0, {LOOKED_AT(0, 0), {0, AWAIT, 0, 0}, SECTION(1, 1)}},
+    {"a stop, while one waits for its section", 2, 5000, 2, 0, {SECTION(0, 0), {0, AWAIT, 0, 0}, {1, STOP, 0, 0}}},
 };
 
 const char *program_name(uint64_t seed) {
@@ -285,7 +286,8 @@ static void make_small(program *it, unsigned number) {
     it->ring = 4096;
     it->capacity = 2000;
     it->linger = small->linger;
-    it->processors = 2;
+    it->processors = small->processors;
+    it->first = small->first;
     it->is_whole = it->is_small = true;
     for (size_t i = 0; i < sizeof small->deeds / sizeof *small->deeds; i++) {
         const small_deed *deed = &small->deeds[i];

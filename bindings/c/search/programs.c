@@ -461,7 +461,7 @@ static void *work(void *argument) {
     worker *own = argument;
     uint32_t number = (uint32_t)(own - workers);
     for (uint32_t heap = 0; heap < current->heaps && !current->is_small; heap++) begin_lane(own, heap);
-    for (uint32_t i = 0; i < current->count; i++)
+    for (uint32_t i = current->first; i < current->count; i++)
         if (current->deeds[i].thread == number && !current->deeds[i].is_left_out) do_one(own, &current->deeds[i]);
     for (uint32_t heap = 0; heap < current->heaps; heap++) exit_all(own, heap);
     for (uint32_t heap = 0; heap < current->heaps && !current->is_small; heap++) end_lane(own, heap);
@@ -554,6 +554,7 @@ void program_run(program *it, const search_schedule *schedule) {
     search_begin(schedule, it->seed < SMALL_PROGRAMS ? 0 : it->seed);
     for (uint32_t heap = 0; heap < it->heaps; heap++) make_heap(heap);
     for (uint32_t i = 0; i < it->threads && it->is_small; i++) begin_lane(&workers[i], 0);
+    for (uint32_t i = 0; i < it->first; i++) do_one(&workers[it->deeds[i].thread], &it->deeds[i]);
     if (it->is_small) search_nap(1000); /* the helper comes to rest */
     for (uint32_t i = 0; i < it->threads; i++) workers[i].task = search_start(work, &workers[i]);
     search_own_part(true);

@@ -24,7 +24,8 @@ typedef struct {
     uint32_t threads, heaps, lanes, capacity, ring, linger, processors;
     bool is_whole;          /* calls are functions of the library, and not written out */
     bool reverts;           /* the plan */
-    bool is_small;          /* main begins the threads' lanes and ends them, so that they do no more than what is searched */
+    bool is_small;          /* main begins the threads' lanes and ends them, so that they do no more than what is searched; */
+    uint32_t first;         /* and does so many of the deeds before they begin */
     bool is_in_file;        /* the first heap, on no device of the program's, in the folder that it runs in */
     device_fault fault;
     uint64_t fault_at, fault_for;

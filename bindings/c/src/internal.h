@@ -40,6 +40,10 @@
     })
 #define COLD __attribute__((noinline, cold)) static
 
+/* tools/search makes it small, so that its programs have such groups. */
+#ifndef ZELAMIKU_GROUP
+#define ZELAMIKU_GROUP 256
+#endif
 enum {
     BUCKETS = sizeof((zelamiku_signals *)NULL)->waiting / sizeof(uint32_t),
     TRIES = 40,               /* before a thread sleeps for a monitor */
@@ -48,6 +52,7 @@ enum {
     GATHERED_PART = 8,        /* 1/8 of that time: how long a round gathers at most */
     MOST_PART = 20000000,     /* nanoseconds: such a part is no longer, also after calls that hung */
     FEWEST = 4096,            /* records for each lane, which a round may take at least */
+    GROUP = ZELAMIKU_GROUP,   /* sections: one that waits for as many leaves the round to the helper where others have some */
     MOST_SPIN = 250000,       /* nanoseconds: where a round takes less, a thread looks so long for its end before it sleeps */
     LONG_SPIN = 30000,        /* nanoseconds: a look that took longer has let another thread run, */
     UNSPUN_ROUNDS = 64,       /* so nobody looks for so many rounds */

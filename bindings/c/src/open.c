@@ -56,7 +56,8 @@ static zelamiku_status check_plan(door *at) {
     return status;
 }
 
-/* How many lanes a heap has for so many threads: one more for the helper, where a heap may have as many. */
+/* How many lanes a heap has for so many threads: one more for the helper, where a heap may have as many. The same rule as `lanes_for` of
+ * crates/thread_work, by which hosts in Rattle make theirs: the proved library takes the number from whoever makes the heap. */
 static uint32_t lanes_for(uint64_t threads) {
     return threads < ZELAMIKU_MOST_LANES ? (uint32_t)threads + 1 : ZELAMIKU_MOST_LANES;
 }
@@ -170,7 +171,7 @@ static void leave_helper_out(door *at) {
         if (at->of->dropped[i].lane < found->threads) at->of->dropped[count++] = at->of->dropped[i];
     at->of->dropped_count = count;
     found->dropped = count;
-    if (count == 0) found->undone = 0;
+    if (count == 0) found->undone = 0; /* all of these were values that the helper's lane had: zelamiku.h says so of the report */
     for (uint32_t lane = found->threads; lane < found->lanes; lane++) told->kept[lane] = 0;
     at->lanes = found->lanes;
     found->lanes = found->threads;

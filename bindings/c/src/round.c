@@ -3,8 +3,9 @@
  * lane for the helper, else four. It holds no lock meanwhile.
  *
  *  1. Who leads. The first thread that waits for its sections, for all that come meanwhile: so it wakes nobody to have a round made, and
- *     nobody has to wake it. One with a deadline leaves the round to the helper, and so does each after a failed write. Who wants no
- *     round but none underway (a copy, a close) leads as a guest, and goes first.
+ *     nobody has to wake it. One with a deadline leaves the round to the helper, and so does each after a failed write. So does one that
+ *     waits for many sections at once while others have some: then the helper makes round after round, beside those that go on. Who wants
+ *     no round but none underway (a copy, a close) leads as a guest, and goes first.
  *  2. When. At once where a thread waits for its sections or for room, where a lane has sent three quarters of what its ring or its log
  *     takes, or where the last round has reached its bound. Else by the helper, a linger after the end of a section that has stored. A
  *     section that has only loaded asks for none: it goes with the next. After a failed write each second.
@@ -277,20 +278,31 @@ static zelamiku_status lead(heap *of, uint32_t cause, bool is_helper) {
     return status;
 }
 
+/* Whether many sections of the lane aren't durable, and others have some too. To take these into a round lasts, and the next group could begin
+ * meanwhile: so the helper makes it. */
+static bool is_one_of_groups(heap *of, const seat *own) {
+    if (own->ended - own->acknowledged < GROUP) return false;
+    for (uint32_t lane = 0; lane < of->lanes; lane++) {
+        const seat *other = seat_at(of, lane);
+        if (other != own && other->ended > other->acknowledged) return true;
+    }
+    return false;
+}
+
 /* The first that waits for a round makes it, for all that come: it needn't wake the helper, nor be woken by it. Whether it leads now; else it
- * waits from now on until a round has ended, if it doesn't yet since the round `counted`. One with a deadline leaves the round to the helper,
- * and so does each after a failed write. */
-static bool leads_or_counts(heap *of, bool has_deadline, uint64_t *counted) {
+ * waits from now on until a round has ended, if it doesn't yet since the round `counted`. One that is to leave the round to the helper does, and
+ * so does each after a failed write. */
+static bool leads_or_counts(heap *of, bool leaves_it, uint64_t *counted) {
     pthread_mutex_lock(&of->mutex);
     bool has_sections = of->has_work || of->has_reads || of->has_more, is_free = !of->is_led && of->waiting_to_lead == 0 && of->end_status == 0;
-    bool leads = is_free && has_sections && !has_deadline && !of->is_troubled;
+    bool leads = is_free && has_sections && !leaves_it && !of->is_troubled;
     if (leads) {
         of->is_led = of->leader_waits = true;
     } else if (*counted != of->rounds) {
         *counted = of->rounds;
         of->awaiting++;
         of->sleepers++;
-        if (of->is_troubled || (has_deadline && has_sections)) ask(of, ZELAMIKU_ROUND_AWAITED);
+        if (of->is_troubled || (leaves_it && has_sections)) ask(of, ZELAMIKU_ROUND_AWAITED);
     }
     pthread_mutex_unlock(&of->mutex);
     return leads;

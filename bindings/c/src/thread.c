@@ -427,7 +427,7 @@ static zelamiku_status await_sections(heap *of, seat *own, uint64_t sections, ui
         if (*is_all) status = ZELAMIKU_OK;
         if (!*is_all && status == ZELAMIKU_OK) status = trouble_since(of, troubles);
         if (*is_all || status != ZELAMIKU_OK || !is_early) break;
-        if (leads_or_counts(of, deadline != ZELAMIKU_NO_DEADLINE, &counted))
+        if (leads_or_counts(of, deadline != ZELAMIKU_NO_DEADLINE || is_one_of_groups(of, own), &counted))
             (void)lead(of, ZELAMIKU_ROUND_AWAITED, false);
         else
             is_early = sleep_for_round(of, seen, deadline);

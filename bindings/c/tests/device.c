@@ -301,6 +301,7 @@ static unsigned openings(unsigned what) {
             OK(status);
             close_heap();
         } else {
+            /* Also where the device has answered LOST, or nothing that it may: no heap is open that could be lost (zelamiku.h). */
             MUST(status == ZELAMIKU_DEVICE && heap.number == 0 && zelamiku_heap_error() == ENOSPC && says("No space left on device"));
             is_over = true;
             if (strcmp(kind_of_fault, "read") == 0 || strcmp(kind_of_fault, "size") == 0) MUST(memcmp(before, held.now, SIZE) == 0);
