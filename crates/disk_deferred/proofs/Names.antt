@@ -59,5 +59,5 @@ device_same x y is name i = record { name = name i; now = (device_of (is i)).now
 -- what is handed over later doesn't change what it began with
 pub first_more : (handed : List Handed) (batch : Handed) → 0 < length handed → first_in (handed ++ batch ∷ []) ≡ first_in handed
 first_more [] batch some = absurd (omega (arith, some))
-first_more (Begun bytes ∷ later) batch some = refl
+first_more (Begun found ∷ later) batch some = refl
 first_more (Calls calls ∷ later) batch some = refl

@@ -21,7 +21,7 @@ AreToSync (Sync ∷ later) = later ≡ []
 abbrev pub AreLeft : List DeviceCall → Type 0
 AreLeft calls = (calls ≡ []) ⊎ AreToSync calls
 
--- the bytes with which the device begins come first, and then the calls up to a sync, each time
+-- the device with its first bytes comes first, and then the calls up to a sync, each time
 abbrev pub MayHand : (before : List Handed) → Handed → Type 0
-MayHand before (Begun bytes) = before ≡ []
+MayHand before (Begun found) = before ≡ []
 MayHand before (Calls calls) = AreToSync calls.items

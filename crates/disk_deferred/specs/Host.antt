@@ -1,14 +1,14 @@
 -- The host's end: the calls that it has made, and those that it was handed and is yet to make (this project's own).
-use Rattle.std.specs.Prelude.{ℕ, suc, ◌≡◌, ◌<◌, List, [], ◌∷◌, ◌++◌, length, drop}
+use Rattle.std.specs.Prelude.{ℕ, suc, ◌≡◌, ◌<◌, Bool, true, List, [], ◌∷◌, ◌++◌, length, drop, Option, Vec, MatchOption, IsSomeAnd}
 use Rattle.std.specs.Global.{Global}
 use Rattle.rtrb.specs.declared.consumer.Consumer.{Consumer}
-use Rattle.rtrb.specs.Ring.{ConsumerLooked, known_items}
+use Rattle.rtrb.specs.Ring.{ConsumerLooked, known_items, received}
 use Rattle.block_disk.specs.Device.{Image, LeftSince}
 use Rattle.block_disk.specs.Memory.{Stop, moment_after}
 use Rattle.disk_deferred.specs.declared.call.DeviceCall.{DeviceCall}
 use Rattle.disk_deferred.specs.declared.call.Handed.{Handed}
 use Rattle.disk_deferred.specs.declared.handing.Handing.{Handing}
-use Rattle.disk_deferred.specs.Deferred.{Deferred, calls_in, deferred_device, onto, stops_in}
+use Rattle.disk_deferred.specs.Deferred.{Deferred, calls_in, deferred_device, onto, stop_of, stops_in}
 use Rattle.disk_deferred.specs.Handing.{AreLeft}
 use Rattle.disk_deferred.specs.Joined.{joined}
 use Rattle.disk_deferred.specs.Names.{name_of}
@@ -73,3 +73,15 @@ pub record HaveMet (d : Deferred) (h : Host) : Type 0 where
       → LeftAt (suc (syncs_in (onto h.made next))) (moments_of (deferred_device d)) image
   -- Where the host has made all that was handed over, its device was synced as often as the disk.
   pub all : h.left ≡ [] → known_items h.ring ≡ [] → durable_moments (moments_of (deferred_device d)) ≡ suc (syncs_in h.made)
+
+-- where a call is left, the host makes the first
+abbrev pub MakesFirst : (old new : Host) → (is_made : Bool) → Type 0
+MakesFirst old new k = (call : DeviceCall) (later : List DeviceCall) → old.left ≡ call ∷ later → (k ≡ true) × (new.left ≡ later) × (new.made ≡ stop_of call ∷ old.made)
+
+-- a batch is taken from the ring, or none
+abbrev pub TakesBatch : (old new : Consumer Handed Global Handing) → Option (Vec DeviceCall Global) → Type 0
+TakesBatch old new result = MatchOption result (stops_in (received new) ≡ stops_in (received old)) (λ calls. stops_in (received new) ≡ onto (stops_in (received old)) calls.items)
+
+-- where a batch is known to be in the ring, its calls are given
+abbrev pub GivesKnown : Consumer Handed Global Handing → Option (Vec DeviceCall Global) → Type 0
+GivesKnown old result = (next : Handed) (more : List Handed) → known_items old ≡ next ∷ more → IsSomeAnd result (λ calls. calls.items ≡ calls_in next)

@@ -10,7 +10,7 @@ goes_on_with (WriteFailed from len) at more = false
 goes_on_with Synced at more = false
 goes_on_with SyncFailed at more = false
 
--- the write of these bytes too, behind its own
+-- the write of its bytes and then of these too
 abbrev pub longer : Stop → List ℕ → Stop
 longer (Wrote from bytes) more = Wrote from (bytes ++ more)
 longer (WriteFailed from len) more = WriteFailed from len
@@ -30,7 +30,7 @@ abbrev pub join_write : (at : ℕ) → List ℕ → List Stop → List Stop
 join_write at more [] = Wrote at more ∷ []
 join_write at more (newest ∷ older) = if goes_on_with newest at (length more) then longer newest more ∷ older else Wrote at more ∷ newest ∷ older
 
--- these calls, and n more writes of 16 bytes each, one right behind the other
+-- these calls, and n more writes of 16 bytes each, each at the end of the one before
 abbrev pub join_units : (n at : ℕ) → List ℕ → List Stop → List Stop
 join_units zero at bytes calls = calls
 join_units (suc n) at bytes calls = join_units n (at + 16) (drop 16 bytes) (join_write at (take 16 bytes) calls)

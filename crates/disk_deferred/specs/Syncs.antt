@@ -1,4 +1,4 @@
--- Which moments of a device have so many syncs behind them (this project's own).
+-- Which moments of a device come after so many syncs (this project's own).
 use Rattle.std.specs.Prelude.{ℕ, suc, ◌⊎◌, ◌+◌, ◌<◌, ◌≤◌, List, [], ◌∷◌, length}
 use Rattle.block_disk.specs.Device.{Device, Image, LeftSince, Moment, Range}
 use Rattle.block_disk.specs.Images.{Continues}
@@ -17,7 +17,7 @@ abbrev pub one_if_none : List Range → ℕ
 one_if_none [] = 1
 one_if_none (r ∷ rs) = 0
 
--- at how many of these moments nothing was pending: at the first, and behind each sync
+-- at how many of these moments nothing was pending: at the first, and after each sync
 abbrev pub durable_moments : List Moment → ℕ
 durable_moments [] = 0
 durable_moments (m ∷ before) = one_if_none m.pending + durable_moments before
@@ -31,6 +31,6 @@ abbrev pub LeftAt : (n : ℕ) → List Moment → List ℕ → Type 0
 LeftAt n [] image = ⊥
 LeftAt n (m ∷ before) image = ((durable_moments (m ∷ before) ≤ n) × Image m image) ⊎ ((n < durable_moments (m ∷ before)) × LeftAt n before image)
 
--- Where there were at most so many when a device was the earlier one, such an image is of a moment since.
+-- If the earlier device had at most so many, this image is of a moment since then.
 abbrev pub SinceLaw : Type 0
 SinceLaw = (n : ℕ) (old new : Device) (image : List ℕ) → Continues old new → durable_moments (moments_of old) ≤ n → LeftAt n (moments_of new) image → LeftSince (length old.past) new image

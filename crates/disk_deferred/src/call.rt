@@ -2,6 +2,8 @@
 ghost use Rattle.std.specs.Prelude.{◌≡◌, ◌+◌, ◌*◌, ◌<◌, ◌==◌, ◌&&◌, true, false, nat_le};
 ghost use Rattle.disk_deferred.specs.declared.call.TheConstants.{MOST_BYTES};
 
+use block_disk::Trace;
+
 /// Writes that are joined to one call have so many bytes at most.
 pub const MOST_BYTES: usize = 4096;
 
@@ -17,8 +19,8 @@ pub enum DeviceCall {
 /// What goes through the ring at once.
 #[derive(Drop)]
 pub(crate) enum Handed {
-    /// The bytes that the device has when it is taken over.
-    Begun(Vec<u8>),
+    /// The device when it is taken over: its bytes, which only clauses read.
+    Begun(Trace),
     /// Calls, the oldest first.
     Calls(Vec<DeviceCall>),
 }
@@ -40,8 +42,8 @@ impl DeviceCall {
         }
     }
 
-    /// How many writes of 16 bytes each, one right behind the other, go on where this one ended, if they begin at `at`: all
-    /// together have [`MOST_BYTES`] at most.
+    /// How many writes of 16 bytes each, each at the end of the one before, go on where this one ended, if they begin at
+    /// `at`. All together have [`MOST_BYTES`] at most.
     pub(crate) fn room_at(&self, at: u64) -> usize
         ensures some { 0 < result → goes_on_with (stop_of self.now) at (result * 16) ≡ true }
         ensures none { result ≡ 0 → goes_on_with (stop_of self.now) at 16 ≡ false }
@@ -52,7 +54,7 @@ impl DeviceCall {
         }
     }
 
-    /// Writes these bytes too, behind its own, if there is memory for them.
+    /// Writes these bytes too, after its own, if there is memory for them.
     pub(crate) fn lengthen(&mut self, more: &[u8]) -> bool
         ensures { stop_of self.new ≡ (if result then longer (stop_of self.old) more.now
             else stop_of self.old) }

@@ -2,12 +2,12 @@
 ghost use Rattle.std.specs.Prelude.{◌≡◌, ◌+◌, ◌*◌, ◌^◌, ◌<◌, ◌≤◌, ℕ, List, [], ◌∷◌, ◌++◌, length, replicate, OnOk, OnErr, IfOk, IsErrOf, if◌then◌else◌};
 ghost use Rattle.block_disk.specs.Bytes.{part};
 ghost use Rattle.block_disk.specs.Device.{SameMoments, synced, unit_ranges, written, written_units};
-ghost use Rattle.block_disk.specs.Memory.{Stop, Synced, Wrote, failed, fresh, stopped, units_onto};
+ghost use Rattle.block_disk.specs.Memory.{Stop, Synced, Wrote, failed, fresh, stopped};
 ghost use Rattle.block_disk.specs.Since.{CountsOneMore, HasFailedSince, IsSameOrTorn, LeavesBut};
 ghost use Rattle.block_disk.specs.declared.error.DiskError.TheVariants.{Fault, OutOfRange};
-ghost use Rattle.disk_deferred.specs.Deferred.{deferred_device, onto, stops_in};
+ghost use Rattle.disk_deferred.specs.Deferred.{FailsAmong, KeepsCall, KeepsUnits, KeepsWrite, deferred_device, onto, stops_in, units_on};
 ghost use Rattle.disk_deferred.specs.Host.{IsHostOf};
-ghost use Rattle.disk_deferred.specs.Joined.{IsAtSync, TakesAllOrNone, join_units, join_write, joined};
+ghost use Rattle.disk_deferred.specs.Joined.{IsAtSync, TakesAllOrNone, joined};
 ghost use Rattle.disk_deferred.specs.declared.call.DeviceCall.TheVariants as calls;
 ghost use Rattle.disk_deferred.specs.declared.disk.TheConstants.{SYNCS};
 ghost use Rattle.disk_deferred.specs.declared.call.Handed.TheVariants as handed;
@@ -67,7 +67,8 @@ impl DeferredDisk {
         DeferredDisk::holding(alloc, vec![in alloc; 0u8; size as usize]?)
     }
 
-    /// The disk of these bytes, which the host's device has, durably, and the calls that the host has to make from then on.
+    /// The disk of these bytes, which the host's device has, durably, and the calls that the host has to make from then on. They are copied
+    /// once.
     pub fn from_bytes(alloc: Global, bytes: &[u8]) -> Result<(DeferredDisk, HostCalls), AllocError>
         ensures disk { IfOk result (λ r. r.0.memory ≡ fresh bytes.now) }
         // The ring has room for `SYNCS` batches.
@@ -79,14 +80,13 @@ impl DeferredDisk {
     }
 
     // The disk of these bytes.
-    fn holding(alloc: Global, first: Vec<u8>) -> Result<(DeferredDisk, HostCalls), AllocError>
-        ensures disk { IfOk result (λ r. r.0.memory ≡ fresh first.items) }
+    fn holding(alloc: Global, bytes: Vec<u8>) -> Result<(DeferredDisk, HostCalls), AllocError>
+        ensures disk { IfOk result (λ r. r.0.memory ≡ fresh bytes.items) }
         ensures room { IfOk result (λ r. r.0.ring.capacity ≡ SYNCS) }
         ensures host { IfOk result (λ r. (r.1.made ≡ []) × (r.1.left ≡ []) × IsHostOf r.0 r.1) }
     {
-        let bytes = first.to_vec(alloc)?;
         let (mut ring, mut other) = RingBuffer::with_protocol::<Global, Handing>(alloc, SYNCS)?;
-        ring.push_reserved(Handed::Begun(first));
+        ring.push_reserved(Handed::Begun(Trace::of(&bytes)));
         other.slots_beside(&mut ring);
         let _ = other.pop_known();
         let disk = DeferredDisk {
@@ -176,7 +176,7 @@ impl Disk for DeferredDisk {
     }
 
     /// Writes the memory at once, and keeps the units as calls of [`MOST_BYTES`](crate::MOST_BYTES) at most. `Fault` is want of memory
-    /// for one of these; the units behind it aren't written then.
+    /// for one of these; the units after it aren't written then.
     fn write_units(&mut self, at: u64, units: &[u8], count: usize) -> Result<(), block_disk::Fault>
         requires some { 0 < count }
         requires whole { length units.now ≡ count * 16 }
@@ -192,13 +192,10 @@ impl Disk for DeferredDisk {
             (HasFailedSince (deferred_device self.old) (deferred_device self.new)) }
         // A run of units is told to the host as so many writes.
         ensures stopped { OnOk result
-            (self.new.memory ≡ record self.old.memory
-            { stops = units_onto count at units.now self.old.memory.stops }) }
+            (self.new.memory ≡ units_on count at units.now self.old.memory) }
         // A run of units that fails has made the first so many of its writes, and nothing else.
-        ensures failed { OnErr result ((kept : ℕ) × (kept < count)
-            × (self.new.memory ≡ failed
-            (record self.old.memory
-            { stops = units_onto kept at units.now self.old.memory.stops }))) }
+        ensures failed { OnErr result
+            (FailsAmong count at units.now self.old.memory self.new.memory) }
         ensures counted { OnErr result
             (CountsOneMore (deferred_device self.old) (deferred_device self.new)) }
         ensures ring { SameProducer self.old.ring self.new.ring }
@@ -265,10 +262,7 @@ fn keep(calls: &mut Vec<DeviceCall>, call: DeviceCall) -> bool
 
 // Keeps a write of these bytes, if there is memory for it: as one with the last call, where it goes on with that.
 fn keep_write(alloc: Global, calls: &mut Vec<DeviceCall>, at: u64, bytes: &[u8]) -> bool
-    ensures { (before : List Stop) → IsAtSync before
-        → onto before calls.new.items
-        ≡ (if result then join_write at bytes.now (onto before calls.old.items)
-        else onto before calls.old.items) }
+    ensures { KeepsWrite at bytes.now calls.old.items calls.new.items result }
 {
     let count = calls.len();
     if count > 0 && calls[count - 1].takes(at, bytes.len()) {
@@ -288,9 +282,7 @@ fn keep_units(
     requires whole { length units.now ≡ count * 16 }
     requires fits { at + length units.now < 2 ^ 64 }
     ensures few { result ≤ count }
-    ensures kept { (before : List Stop) → IsAtSync before
-        → onto before calls.new.items
-        ≡ join_units result at units.now (onto before calls.old.items) }
+    ensures kept { KeepsUnits result at units.now calls.old.items calls.new.items }
 {
     let mut done = 0;
     while done < count {
@@ -316,9 +308,7 @@ fn keep_run(
     requires some { 0 < count }
     requires whole { length units.now ≡ count * 16 }
     ensures few { result ≤ count }
-    ensures kept { (before : List Stop) → IsAtSync before
-        → onto before calls.new.items
-        ≡ join_units result at units.now (onto before calls.old.items) }
+    ensures kept { KeepsUnits result at units.now calls.old.items calls.new.items }
 {
     let run = run_length(calls, at, count);
     if keep_write(alloc, calls, at, &units[..run * 16]) {
@@ -348,10 +338,7 @@ fn run_length(calls: &Vec<DeviceCall>, at: u64, count: usize) -> usize
 
 // Keeps a write of these bytes as a call of its own, if there is memory for it.
 fn keep_new_write(alloc: Global, calls: &mut Vec<DeviceCall>, at: u64, bytes: &[u8]) -> bool
-    ensures { (before : List Stop)
-        → onto before calls.new.items
-        ≡ (if result then Wrote at bytes.now ∷ onto before calls.old.items
-        else onto before calls.old.items) }
+    ensures { KeepsCall at bytes.now calls.old.items calls.new.items result }
 {
     match bytes.to_vec(alloc) {
         Ok(bytes) => keep(calls, DeviceCall::Write { at, bytes }),

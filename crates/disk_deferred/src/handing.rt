@@ -2,7 +2,7 @@
 use crate::call::Handed;
 use rtrb::Protocol;
 
-/// First the bytes with which the device begins, and then, each time, the calls up to a sync.
+/// First the device with its first bytes, and then, each time, the calls up to a sync.
 #[derive(Clone, Copy)]
 pub(crate) struct Handing;
 

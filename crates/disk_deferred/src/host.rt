@@ -1,9 +1,8 @@
 //! The host's end of a deferred disk.
-ghost use Rattle.std.specs.Prelude.{◌≡◌, ◌<◌, [], ◌∷◌, List, true, false, length, IfSome, IsSomeAnd, MatchOption};
-ghost use Rattle.disk_deferred.specs.Deferred.{calls_in, deferred_device, onto, stop_of, stops_in};
+ghost use Rattle.std.specs.Prelude.{◌≡◌, ◌<◌, [], ◌∷◌, List, true, false, length, IfSome, MatchOption};
+ghost use Rattle.disk_deferred.specs.Deferred.{deferred_device, stops_in};
 ghost use Rattle.disk_deferred.specs.Handing.{AreLeft, AreToSync, IsSmall};
-ghost use Rattle.disk_deferred.specs.Host.{Fetches, HasLooked, HaveMet, IsHostOf};
-ghost use Rattle.disk_deferred.specs.declared.call.Handed.{Handed as Batch};
+ghost use Rattle.disk_deferred.specs.Host.{Fetches, GivesKnown, HasLooked, HaveMet, IsHostOf, MakesFirst, TakesBatch};
 ghost use Rattle.rtrb.specs.Ring.{SameConsumer, received, known_items};
 
 use crate::call::{DeviceCall, Handed};
@@ -87,9 +86,7 @@ impl HostCalls {
     pub fn done(&mut self) -> bool
         ensures ring { SameConsumer self.old.ring self.new.ring }
         ensures none { self.old.left ≡ [] → (result ≡ false) × (self.new ≡ self.old) }
-        ensures one { (call : DeviceCall) (later : List DeviceCall) → self.old.left ≡ call ∷ later
-            → (result ≡ true) × (self.new.left ≡ later)
-            × (self.new.made ≡ stop_of call ∷ self.old.made) }
+        ensures one { MakesFirst self.old self.new result }
     {
         self.left.pop_front().is_some()
     }
@@ -112,11 +109,9 @@ impl HostCalls {
 // Takes what was handed over next, if it is there. The beginning, which has no calls, was taken before.
 fn next_batch(ring: &mut Consumer<Handed, Global, Handing>) -> Option<Vec<DeviceCall>>
     requires begun { 0 < length (received ring.old) }
-    ensures taken { MatchOption result (stops_in (received ring.new) ≡ stops_in (received ring.old))
-        (λ calls. stops_in (received ring.new) ≡ onto (stops_in (received ring.old)) calls.items) }
+    ensures taken { TakesBatch ring.old ring.new result }
     ensures some { MatchOption result (known_items ring.new ≡ []) (λ calls. AreToSync calls.items) }
-    ensures known { (next : Batch) (more : List Batch) → known_items ring.old ≡ next ∷ more
-        → IsSomeAnd result (λ calls. calls.items ≡ calls_in next) }
+    ensures known { GivesKnown ring.old result }
     ensures begun { 0 < length (received ring.new) }
     ensures ring { SameConsumer ring.old ring.new }
 {
