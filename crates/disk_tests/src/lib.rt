@@ -1,4 +1,4 @@
-//! Tests of: block_disk, disk_file, disk_deferred.
+//! Tests of: block_disk, disk_file, disk_sectors, disk_sector_file, disk_deferred.
 //!
 //! Tests of disks, by public calls.
 //!
@@ -16,6 +16,8 @@ mod file;
 mod flaky_file;
 #[cfg(test)]
 mod memory;
+#[cfg(test)]
+mod sectors;
 #[cfg(test)]
 mod steps;
 #[cfg(test)]

@@ -1,11 +1,13 @@
-//! Tests of: heap_model, law_cuts, recover_logs, lock_word.
+//! Tests of: heap_model, law_cuts, dependence, recover_logs, lock_word.
 //!
-//! Tests of the words that every room speaks by, by public calls: what the definitions mean, and how words are spelt.
+//! Tests of the words that every room speaks by, by public calls: what the definitions mean, how words are spelt, and the graph of sections.
 //!
 //! They stand in one crate, since a crate with tests is proved twice. A scenario is a function that answers plain words,
 //! which its test compares once.
 #![tactic(auto)]
 
+#[cfg(test)]
+mod graphs;
 #[cfg(test)]
 mod histories;
 #[cfg(test)]

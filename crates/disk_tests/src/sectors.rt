@@ -1,0 +1,13 @@
+//! Crashes of disks on a device of sectors.
+//!
+//! A disk is written by chance and synced. A crash comes in the sync or after it, and what was in flight becomes what one of four models says.
+//! Then the disk is opened on what is left: each byte that wasn't written since the last sync must be there.
+
+mod again;
+mod chance;
+mod damage;
+mod in_place;
+mod medium;
+mod on_file;
+mod truth;
+mod two_places;

@@ -1,0 +1,6 @@
+use Rattle.std.proofs.Common.{arith}
+use Rattle.model_tests.proofs.Knowing.{release_follows}
+use Rattle.model_tests.proofs.graphs.known.after_release.Goals as goal
+
+pub returns-clause-follows : goal.returns-clause-follows
+returns-clause-follows c = release_follows c.args.known.taken c.args.known.freed c.args.known.holders c.args.lane.0 c.args.object.0 c.args.number (omega arith) (omega arith) (omega arith) (omega arith)
