@@ -4,26 +4,11 @@
  * was killed while two lanes depended on each other), and then what is done to it, a change after the other: `read_change`. A heap that opens is
  * used, closed, and opened again. One that is refused is left as it is, byte by byte. None is made in place of a file that isn't free. */
 #define _GNU_SOURCE
-#include <errno.h>
-#include <fcntl.h>
-#include <stdint.h>
 #include <stdio.h>
 #include <stdlib.h>
-#include <string.h>
-#include <sys/stat.h>
-#include <unistd.h>
+#include "../zelamiku.h"
 
-/* No power fails here. */
-static int no_sync(int file) {
-    (void)file;
-    return 0;
-}
-
-#define fdatasync no_sync
-#define fsync no_sync
-#define posix_fadvise(file, at, size, how) 0
-#include "../zelamiku_threads.c"
-
+/* The fuzzer keeps an input that aborts. */
 #define MUST(is_so) \
     do { \
         if (!(is_so)) { \
@@ -31,35 +16,18 @@ static int no_sync(int file) {
             abort(); \
         } \
     } while (0)
+#include "../tests/altered.h"
 
-enum { FIELDS_THERE = 5, OBJECTS_THERE = 3, MOST_BYTES = 1 << 17, BASES = 4, STATUSES = 64 };
+enum { BASES = 4, STATUSES = 64 };
 /* docs/FORMAT.md: where the two slots of the control begin, and the rows of the fields. */
 enum { SLOTS_AT = 64, SLOT_BYTES = 1048, ROWS_AT = SLOTS_AT + 2 * SLOT_BYTES };
-static const zelamiku_field FIELDS[FIELDS_THERE] = {{0, 0, 10, 0}, {1, 1, 20, 0}, {2, 2, 30, 0}, {2, 2, 0, 1}, {1, 0, 40, 0}};
 static const zelamiku_plan PLAN = {
     .fields = FIELDS, .count = FIELDS_THERE, .objects = OBJECTS_THERE, .lanes = 2, .capacity = 2000, .ring = 4096, .keeps_slice = 1, .upgrades = 1};
 
-typedef struct {
-    size_t size;
-    uint8_t bytes[MOST_BYTES];
-} image;
 static image bases[BASES];
 
 /* What the proved library has found, which the fuzzer doesn't see by itself. */
 __attribute__((section("__libfuzzer_extra_counters"))) static uint8_t found[STATUSES + 64 + 64];
-
-static void read_image(image *into) {
-    int file = open("heap", O_RDONLY | O_CLOEXEC);
-    MUST(file >= 0);
-    ssize_t size = read(file, into->bytes, sizeof into->bytes);
-    MUST(size >= 0 && size < MOST_BYTES && close(file) == 0);
-    into->size = (size_t)size;
-}
-
-static void write_image(const image *from) {
-    int file = open("heap", O_RDWR | O_CREAT | O_CLOEXEC, 0600);
-    MUST(file >= 0 && write(file, from->bytes, from->size) == (ssize_t)from->size && ftruncate(file, (off_t)from->size) == 0 && close(file) == 0);
-}
 
 /* ---- the files ---- */
 

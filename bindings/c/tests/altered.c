@@ -3,58 +3,15 @@
  *
  *     altered FOLDER [SEED]      prints the seed before, and what was tried after, and answers 0, where all is as it must be */
 #define _GNU_SOURCE
-#include <errno.h>
-#include <fcntl.h>
-#include <stdint.h>
-#include <stdio.h>
-#include <stdlib.h>
-#include <string.h>
-#include <sys/stat.h>
 #include <time.h>
-#include <unistd.h>
+#include "must.h"
+#include "altered.h"
 
-/* No power fails here. */
-static int no_sync(int file) {
-    (void)file;
-    return 0;
-}
-
-#define fdatasync no_sync
-#define fsync no_sync
-#define posix_fadvise(file, at, size, how) 0
-#include "../zelamiku_threads.c"
-
-#define MUST(is_so) \
-    do { \
-        if (!(is_so)) { \
-            fprintf(stderr, "line %d: %s: %s\n", __LINE__, #is_so, zelamiku_heap_message()); \
-            exit(1); \
-        } \
-    } while (0)
-
-enum { FIELDS_THERE = 5, OBJECTS_THERE = 3, MOST_BYTES = 1 << 18, TRIES_BY_CHANCE = 10000, CONTROLLED = 2160 };
-static const zelamiku_field FIELDS[FIELDS_THERE] = {{0, 0, 10, 0}, {1, 1, 20, 0}, {2, 2, 30, 0}, {2, 2, 0, 1}, {1, 0, 40, 0}};
+enum { TRIES_BY_CHANCE = 10000, CONTROLLED = 2160 };
 static const zelamiku_plan PLAN = {.fields = FIELDS, .count = FIELDS_THERE, .objects = OBJECTS_THERE, .lanes = 2, .capacity = 2000};
 
-typedef struct {
-    size_t size;
-    uint8_t bytes[MOST_BYTES];
-} image;
 static image bases[3]; /* of heaps that were closed, that was let go in the midst of sections, and that nobody used */
 static unsigned openings, refusals, makings;
-
-static void read_image(image *into) {
-    int file = open("heap", O_RDONLY | O_CLOEXEC);
-    MUST(file >= 0);
-    ssize_t size = read(file, into->bytes, sizeof into->bytes);
-    MUST(size >= 0 && size < MOST_BYTES && close(file) == 0);
-    into->size = (size_t)size;
-}
-
-static void write_image(const image *from) {
-    int file = open("heap", O_RDWR | O_CREAT | O_CLOEXEC, 0600); /* not cut to nothing: some systems write such a file out at once */
-    MUST(file >= 0 && write(file, from->bytes, from->size) == (ssize_t)from->size && ftruncate(file, (off_t)from->size) == 0 && close(file) == 0);
-}
 
 static void use(zelamiku_heap heap, bool leaves) {
     zelamiku_thread own, other;

@@ -28,29 +28,8 @@ static int flaky_fdatasync(int file) {
 #define pwrite flaky_pwrite
 #define fdatasync flaky_fdatasync
 #include "../zelamiku_threads.c"
-
-#ifdef INLINE
-#undef ZELAMIKU_OFTEN
-#undef ZELAMIKU_INLINE
-#define ZELAMIKU_INLINE static inline
-#define zelamiku_is_open inline_is_open
-#define zelamiku_begins inline_begins
-#define zelamiku_ends inline_ends
-#define zelamiku_notes_stores inline_notes_stores
-#define zelamiku_thread_enter inline_enter
-#define zelamiku_thread_exit inline_exit
-#define zelamiku_thread_load inline_load
-#define zelamiku_thread_store inline_store
-#include "../zelamiku_inline.h"
-#endif
-
-#define MUST(is_so) \
-    do { \
-        if (!(is_so)) { \
-            fprintf(stderr, "line %d: %s; %s\n", __LINE__, #is_so, zelamiku_heap_message()); \
-            exit(1); \
-        } \
-    } while (0)
+#include "inline_calls.h"
+#include "must.h"
 
 enum { LANES = 6, A_WHILE = 20, PATIENCE = 20000 }; /* milliseconds */
 

@@ -124,13 +124,7 @@ static void *watched_malloc(size_t size) {
 #undef flock
 #undef malloc
 
-#define MUST(is_so) \
-    do { \
-        if (!(is_so)) { \
-            fprintf(stderr, "line %d: %s: %s\n", __LINE__, #is_so, zelamiku_heap_message()); \
-            exit(1); \
-        } \
-    } while (0)
+#include "must.h"
 
 static const zelamiku_field FIELD = {0, 0, 5, 0};
 static zelamiku_plan plan = {.fields = &FIELD, .count = 1, .objects = 1, .lanes = 2, .capacity = 2000};

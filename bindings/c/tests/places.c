@@ -10,14 +10,7 @@
 #include <string.h>
 #include <unistd.h>
 #include "zelamiku.h"
-
-#define MUST(is_so) \
-    do { \
-        if (!(is_so)) { \
-            fprintf(stderr, "line %d: %s: %s\n", __LINE__, #is_so, zelamiku_heap_message()); \
-            exit(1); \
-        } \
-    } while (0)
+#include "must.h"
 
 enum { OPENERS = 4, ASKERS = 4, KEPT = 64, SECTIONS = 2 };
 

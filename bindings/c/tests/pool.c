@@ -5,16 +5,7 @@
 #include <stdlib.h>
 #include <string.h>
 #include "zelamiku_core.h"
-
-#define MUST(is_so) \
-    do { \
-        if (!(is_so)) { \
-            fprintf(stderr, "line %d: %s\n", __LINE__, #is_so); \
-            exit(1); \
-        } \
-    } while (0)
-
-#define OK(call) MUST((call) == ZELAMIKU_OK)
+#include "must.h"
 
 /* Object 1 guards the stack: its top, the pool, and for each slot a value and the slot below, plus one. Object 0 guards another field. */
 enum { OTHER = 0, STACK = 1, SLOTS = 5, FIRST = 0, TOP = 1, HEAD = 2, VALUE = HEAD + 1 + SLOTS, BELOW = VALUE + SLOTS, FIELDS = BELOW + SLOTS };

@@ -16,16 +16,7 @@
 #include <unistd.h>
 #include "memory.h"
 #include "zelamiku_core.h"
-
-#define MUST(is_so) \
-    do { \
-        if (!(is_so)) { \
-            fprintf(stderr, "line %d: %s: %s\n", __LINE__, #is_so, zelamiku_heap_message()); \
-            exit(1); \
-        } \
-    } while (0)
-
-const char *zelamiku_heap_message(void);
+#include "must.h"
 
 /* The store after so many calls one hook: so the heap ends in the midst of a revert. */
 static unsigned stores_left;
@@ -57,21 +48,7 @@ static void *scarce_alloc(size_t line, size_t size) {
 #undef fdatasync
 #undef aligned_alloc
 
-#ifdef INLINE
-#undef ZELAMIKU_OFTEN
-#undef ZELAMIKU_INLINE
-#define ZELAMIKU_INLINE static inline
-#define zelamiku_is_open inline_is_open
-#define zelamiku_begins inline_begins
-#define zelamiku_ends inline_ends
-#define zelamiku_thread_enter inline_enter
-#define zelamiku_thread_exit inline_exit
-#define zelamiku_thread_load inline_load
-#define zelamiku_thread_store inline_store
-#include "../zelamiku_inline.h"
-#endif
-
-#define OK(call) MUST((call) == ZELAMIKU_OK)
+#include "inline_calls.h"
 
 /* Four objects have 800 fields each, of which each fourth is transient: the field F belongs to object F % 4 and begins with F. Object 4 has a
  * pool, and a field for each of its slots. */

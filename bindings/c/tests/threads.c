@@ -41,14 +41,7 @@ static int flaky_fdatasync(int file) {
 #include <stdio.h>
 #include <stdlib.h>
 #include "zelamiku_core.h"
-
-#define MUST(is_so) \
-    do { \
-        if (!(is_so)) { \
-            fprintf(stderr, "line %d: %s\n", __LINE__, #is_so); \
-            exit(1); \
-        } \
-    } while (0)
+#include "must.h"
 
 static void make_haste(void);
 static unsigned round_waits;          /* so many microseconds before the library's call of a round */
@@ -150,20 +143,7 @@ static long own_SYS_sched_setattr(int process, void *of, unsigned flags) {
 #undef syscall
 #undef prctl
 
-#ifdef INLINE
-#undef ZELAMIKU_OFTEN
-#undef ZELAMIKU_INLINE
-#define ZELAMIKU_INLINE static inline
-#define zelamiku_is_open inline_is_open
-#define zelamiku_begins inline_begins
-#define zelamiku_ends inline_ends
-#define zelamiku_notes_stores inline_notes_stores
-#define zelamiku_thread_enter inline_enter
-#define zelamiku_thread_exit inline_exit
-#define zelamiku_thread_load inline_load
-#define zelamiku_thread_store inline_store
-#include "../zelamiku_inline.h"
-#endif
+#include "inline_calls.h"
 
 enum { LANES = 8, TOTAL = 0, LIST = 1, COUNT = 1, TAKEN = 2, ROUNDS = 500 };
 

@@ -32,13 +32,7 @@ static void look_at(zelamiku_status status, zelamiku_status expected, const char
 
 /* A call, what it must answer, and what its message must have in it. */
 #define IS(call, status, text) look_at((call), ZELAMIKU_##status, (text), #call, __LINE__)
-#define MUST(is_so) \
-    do { \
-        if (!(is_so)) { \
-            fprintf(stderr, "line %d: %s: %s\n", __LINE__, #is_so, zelamiku_heap_message()); \
-            exit(1); \
-        } \
-    } while (0)
+#include "must.h"
 
 enum { OBJECTS = 20, FIELDS = 4 + 9, HEAD = 4, SLOTS = 8, POOL = 1 };
 static zelamiku_field fields[FIELDS];

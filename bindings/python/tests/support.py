@@ -1,13 +1,15 @@
 """What the tests of a heap share."""
 from __future__ import annotations
 
+import contextlib
 import faulthandler
 import subprocess
 import sys
 import tempfile
 import threading
 import unittest
-from collections.abc import Callable
+from collections.abc import Callable, Iterator
+from contextlib import AbstractContextManager
 from pathlib import Path
 from typing import Any
 
@@ -64,6 +66,39 @@ def in_thread(work: Callable[[], Any]) -> Any:
     thread.start()
     thread.join()
     return answers[0]
+
+
+@contextlib.contextmanager
+def held_elsewhere(section: AbstractContextManager[Any]) -> Iterator[Callable[[], None]]:
+    """Another thread is in this section until the block ends, or what it gives is called."""
+    entered, release = threading.Event(), threading.Event()
+
+    def hold() -> None:
+        with section:
+            entered.set()
+            release.wait()
+
+    thread = threading.Thread(target=in_thread, args=(hold,))
+    thread.start()
+    entered.wait()
+
+    def let_go() -> None:
+        release.set()
+        thread.join()
+
+    try:
+        yield let_go
+    finally:
+        let_go()
+
+
+@contextlib.contextmanager
+def bob_in_alice(heap: zelamiku.Heap) -> Iterator[None]:
+    """A section of alice's monitor that goes on, in which bob's was freed: sections that take bob's from now on depend on it."""
+    with heap.synchronized(heap.alice):
+        with heap.synchronized(heap.bob):
+            heap.bob.balance = 1
+        yield
 
 
 def in_process(text: str, *words: str, **how: Any) -> subprocess.CompletedProcess[str]:

@@ -5,7 +5,7 @@ import unittest
 from unittest import mock
 
 import zelamiku
-from support import Account, OnFile, in_thread
+from support import Account, OnFile, bob_in_alice, held_elsewhere, in_thread
 from zelamiku.session import Lane
 
 
@@ -33,31 +33,18 @@ class Tasks(OnFile):
             self.assertEqual(self.values(heap), [1_103, 100])
 
     def test_the_loop_goes_on_while_what_a_section_depends_on_is_open(self):
-        entered, release = threading.Event(), threading.Event()
-
-        def hold(heap):
-            with heap.synchronized(heap.alice):
-                with heap.synchronized(heap.bob):
-                    heap.bob.balance = 1
-                entered.set()
-                release.wait()
-
         async def main(heap):
-            thread = threading.Thread(target=hold, args=(heap,))
-            thread.start()
-            entered.wait()
-            with heap.synchronized(heap.bob):
-                heap.bob.balance += 1
-            waits = asyncio.ensure_future(heap.durable_async())
-            await asyncio.sleep(0.2)
-            self.assertFalse(waits.done())
-            rounds = heap.stats().rounds
-            await asyncio.sleep(0.2)
-            # It doesn't spin.
-            self.assertLess(heap.stats().rounds - rounds, 10)
-            release.set()
+            with held_elsewhere(bob_in_alice(heap)):
+                with heap.synchronized(heap.bob):
+                    heap.bob.balance += 1
+                waits = asyncio.ensure_future(heap.durable_async())
+                await asyncio.sleep(0.2)
+                self.assertFalse(waits.done())
+                rounds = heap.stats().rounds
+                await asyncio.sleep(0.2)
+                # It doesn't spin.
+                self.assertLess(heap.stats().rounds - rounds, 10)
             await asyncio.wait_for(waits, 10)
-            thread.join()
 
         with self.open() as heap:
             asyncio.run(main(heap))
@@ -73,31 +60,17 @@ class Tasks(OnFile):
             asyncio.run(main(heap))
 
     def test_a_stop_answers_those_that_wait(self):
-        entered, release = threading.Event(), threading.Event()
-
-        def hold(heap):
-            with heap.synchronized(heap.alice):
-                with heap.synchronized(heap.bob):
-                    heap.bob.balance = 1
-                entered.set()
-                release.wait()
-
         async def main(heap, end):
-            thread = threading.Thread(target=in_thread, args=(lambda: hold(heap),))
-            thread.start()
-            entered.wait()
-            with heap.synchronized(heap.bob):
-                heap.bob.balance += 1
-            waits = asyncio.ensure_future(heap.durable_async())
-            await asyncio.sleep(0.05)
-            end(heap)
-            release.set()
+            with held_elsewhere(bob_in_alice(heap)):
+                with heap.synchronized(heap.bob):
+                    heap.bob.balance += 1
+                waits = asyncio.ensure_future(heap.durable_async())
+                await asyncio.sleep(0.05)
+                end(heap)
             try:
                 await asyncio.wait_for(waits, 10)
             except zelamiku.Stopped as error:
                 return type(error)
-            finally:
-                thread.join()
 
         def leave(heap):
             with self.assertRaises(ValueError), heap.synchronized(heap.bob):
@@ -105,7 +78,6 @@ class Tasks(OnFile):
                 raise ValueError
 
         for end, kind in ((zelamiku.Heap.stop, zelamiku.Closed), (leave, zelamiku.Abandoned)):
-            entered.clear(), release.clear()
             heap = self.open(alice=Account, bob=Account, reverts=False)
             self.assertIs(asyncio.run(main(heap, end)), kind)
             try:
@@ -252,24 +224,11 @@ class Tasks(OnFile):
             self.assertEqual(self.values(heap), [140, 100])
 
     def test_what_the_end_has_cut_off_is_told(self):
-        entered, release = threading.Event(), threading.Event()
-
-        def hold(heap):
-            with heap.synchronized(heap.alice):
-                with heap.synchronized(heap.bob):
-                    heap.bob.balance = 1
-                entered.set()
-                release.wait()
-
         async def main(heap):
-            thread = threading.Thread(target=in_thread, args=(lambda: hold(heap),))
-            thread.start()
-            entered.wait()
-            with heap.synchronized(heap.bob):
-                heap.bob.balance += 1
-            heap.stop()
-            release.set()
-            thread.join()
+            with held_elsewhere(bob_in_alice(heap)):
+                with heap.synchronized(heap.bob):
+                    heap.bob.balance += 1
+                heap.stop()
             # It depends on a section that was open: it never is durable. Before and after the loop has heard of the end.
             for _ in range(3):
                 with self.assertRaises(zelamiku.Closed):

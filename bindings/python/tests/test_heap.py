@@ -1,4 +1,5 @@
 """Heaps that are made, used, closed and opened again."""
+import contextlib
 import errno
 import gc
 import os
@@ -8,7 +9,7 @@ import unittest
 import warnings
 
 import zelamiku
-from support import Account, OnFile, Queue, in_process, in_thread
+from support import Account, OnFile, Queue, held_elsewhere, in_process, in_thread
 from zelamiku.library import FieldRow, library
 
 
@@ -446,25 +447,12 @@ class Endings(OnFile):
         with self.assertRaises(KeyError), self.open() as heap:
             raise KeyError("its own")
         self.assertIn("closed", repr(heap))
-        release = threading.Event()
-        entered = threading.Event()
-
-        def hold(heap):
-            with heap.synchronized(heap.alice):
-                entered.set()
-                release.wait()
-
         for raised, caught in ((None, zelamiku.Running), (KeyError("its own"), KeyError)):
-            entered.clear(), release.clear()
-            with self.assertRaises(caught):
+            with contextlib.ExitStack() as after, self.assertRaises(caught):
                 with self.open() as heap:
-                    thread = threading.Thread(target=in_thread, args=(lambda: hold(heap),))
-                    thread.start()
-                    entered.wait()
+                    after.enter_context(held_elsewhere(heap.synchronized(heap.alice)))
                     if raised:
                         raise raised
-            release.set()
-            thread.join()
             self.open().close()
 
     def test_one_that_is_forgotten_is_closed(self):

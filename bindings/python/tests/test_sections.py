@@ -6,7 +6,7 @@ import time
 import unittest
 
 import zelamiku
-from support import Account, OnFile, Queue, in_process, in_thread
+from support import Account, OnFile, Queue, bob_in_alice, held_elsewhere, in_process, in_thread
 
 
 class Many(zelamiku.Object):
@@ -65,26 +65,15 @@ class Monitors(OnFile):
 
     def test_a_timeout(self):
         with self.open() as heap:
-            entered, release = threading.Event(), threading.Event()
-
-            def hold():
-                with heap.synchronized(heap.bob):
-                    entered.set()
-                    release.wait()
-
-            thread = threading.Thread(target=hold)
-            thread.start()
-            entered.wait()
-            for timeout in (0, 0.05, -1):
-                begun = time.monotonic()
-                with self.assertRaisesRegex(zelamiku.TimedOut, "bob: another thread has its monitor") as caught:
-                    heap.synchronized(heap.alice, heap.bob, timeout=timeout).__enter__()
-                self.assertGreaterEqual(time.monotonic() - begun, timeout)
-                self.assertIsInstance(caught.exception, TimeoutError)
-            # What it had taken was given back.
-            self.assertIsNone(in_thread(lambda: heap.synchronized(heap.alice, timeout=0).__enter__()))
-            release.set()
-            thread.join()
+            with held_elsewhere(heap.synchronized(heap.bob)):
+                for timeout in (0, 0.05, -1):
+                    begun = time.monotonic()
+                    with self.assertRaisesRegex(zelamiku.TimedOut, "bob: another thread has its monitor") as caught:
+                        heap.synchronized(heap.alice, heap.bob, timeout=timeout).__enter__()
+                    self.assertGreaterEqual(time.monotonic() - begun, timeout)
+                    self.assertIsInstance(caught.exception, TimeoutError)
+                # What it had taken was given back.
+                self.assertIsNone(in_thread(lambda: heap.synchronized(heap.alice, timeout=0).__enter__()))
 
     def test_limits_of_a_section(self):
         with self.open(many=Many, queues=[Queue] * 17) as heap:
@@ -796,22 +785,11 @@ class Sessions(OnFile):
 
     def test_one_that_times_out_after_a_monitor_counts_as_a_section(self):
         with self.open() as heap:
-            entered, release = threading.Event(), threading.Event()
-
-            def hold():
-                with heap.synchronized(heap.bob):
-                    entered.set()
-                    release.wait()
-
-            thread = threading.Thread(target=hold)
-            thread.start()
-            entered.wait()
-            for objects, sections in (((heap.bob,), 0), ((heap.alice, heap.bob), 1)):
-                with self.assertRaises(zelamiku.TimedOut):
-                    heap.synchronized(*objects, timeout=0).__enter__()
-                self.assertEqual(heap.session.sections, sections)
-            release.set()
-            thread.join()
+            with held_elsewhere(heap.synchronized(heap.bob)):
+                for objects, sections in (((heap.bob,), 0), ((heap.alice, heap.bob), 1)):
+                    with self.assertRaises(zelamiku.TimedOut):
+                        heap.synchronized(*objects, timeout=0).__enter__()
+                    self.assertEqual(heap.session.sections, sections)
 
     def test_what_a_report_drops_is_a_threads_own_section(self):
         """Each lane's sections are numbered on, while threads come and go."""
@@ -848,27 +826,15 @@ class Durability(OnFile):
 
     def test_it_waits_for_what_a_section_depends_on(self):
         with self.open() as heap:
-            entered, release = threading.Event(), threading.Event()
-
-            def hold():
-                with heap.synchronized(heap.alice):
-                    with heap.synchronized(heap.bob):
-                        heap.bob.balance = 1
-                    entered.set()
-                    release.wait()
-
-            thread = threading.Thread(target=hold)
-            thread.start()
-            entered.wait()
-            with heap.synchronized(heap.bob):
-                self.assertEqual(heap.bob.balance, 1)
-            begun = time.monotonic()
-            self.assertFalse(heap.durable(timeout=0.3))
-            self.assertGreaterEqual(time.monotonic() - begun, 0.3)
-            self.assertFalse(heap.durable(timeout=0))
-            release.set()
-            self.assertTrue(heap.durable())
-            thread.join()
+            with held_elsewhere(bob_in_alice(heap)) as let_go:
+                with heap.synchronized(heap.bob):
+                    self.assertEqual(heap.bob.balance, 1)
+                begun = time.monotonic()
+                self.assertFalse(heap.durable(timeout=0.3))
+                self.assertGreaterEqual(time.monotonic() - begun, 0.3)
+                self.assertFalse(heap.durable(timeout=0))
+                let_go()
+                self.assertTrue(heap.durable())
 
     def test_a_signal_is_handled_while_the_main_thread_sleeps(self):
         class Ring(Exception):
@@ -878,29 +844,16 @@ class Durability(OnFile):
             raise Ring
 
         with self.open() as heap:
-            entered, release = threading.Event(), threading.Event()
-
-            def hold():
-                with heap.synchronized(heap.alice):
-                    with heap.synchronized(heap.bob):
-                        heap.bob.balance = 1
-                    entered.set()
-                    release.wait()
-
-            thread = threading.Thread(target=hold)
-            thread.start()
-            entered.wait()
-            with heap.synchronized(heap.bob):
-                heap.bob.balance = 2
-            before = signal.signal(signal.SIGALRM, ring)
-            try:
-                signal.setitimer(signal.ITIMER_REAL, 0.3)
-                with self.assertRaises(Ring):
-                    heap.durable()
-            finally:
-                signal.signal(signal.SIGALRM, before)
-            release.set()
-            thread.join()
+            with held_elsewhere(bob_in_alice(heap)):
+                with heap.synchronized(heap.bob):
+                    heap.bob.balance = 2
+                before = signal.signal(signal.SIGALRM, ring)
+                try:
+                    signal.setitimer(signal.ITIMER_REAL, 0.3)
+                    with self.assertRaises(Ring):
+                        heap.durable()
+                finally:
+                    signal.signal(signal.SIGALRM, before)
             self.assertTrue(heap.durable())
 
     def test_what_is_answered_durable_survives_a_kill(self):
