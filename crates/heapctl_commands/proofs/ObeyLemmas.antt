@@ -7,7 +7,7 @@ use Rattle.script_lines.specs.declared.error.ScriptError.{ScriptError}
 use Rattle.script_play.specs.Runs.{Ends}
 use Rattle.image_file.specs.declared.error.FormatError.{FormatError}
 use Rattle.disk_sectors.specs.declared.size.SectorSize.{SectorSize}
-use Rattle.recover.specs.declared.error.RecoverError.TheVariants.{Fault}
+use Rattle.recover_heap.specs.declared.error.RecoverError.TheVariants.{Fault}
 use Rattle.image_file.specs.Beside.{MakesBeside}
 use Rattle.image_file.specs.Formatting.{IsSilent, MakesAt, MayBeMade, MayBlameNumbers, PrintsLess}
 use Rattle.image_file.specs.Images.{Stays}

@@ -14,7 +14,7 @@ use Rattle.image_parts.specs.declared.slot.Slot.TheVariants.{A, B}
 use Rattle.image_file.specs.declared.error.ImageFault.{ImageFault}
 use Rattle.image_file.specs.declared.error.ImageFault.TheVariants as images
 use Rattle.image_file.specs.declared.error.NamedFault.{NamedFault}
-use Rattle.recover.specs.declared.error.RecoverError.TheVariants.{Fault}
+use Rattle.recover_heap.specs.declared.error.RecoverError.TheVariants.{Fault}
 use Rattle.recover.specs.declared.studied.Study.{Study}
 use Rattle.recover.specs.declared.versions.Versions.{Versions}
 use Rattle.recover.specs.declared.versions.Versions.TheVariants.{Current, Both}

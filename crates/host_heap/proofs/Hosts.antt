@@ -11,7 +11,7 @@ use Rattle.image_parts.specs.Recovered.{Parts as Recovered}
 use Rattle.image_parts.specs.declared.layout.Layout.{Layout}
 use Rattle.monitor.specs.Seats.{Helping, Home}
 use Rattle.recover.specs.Ending.{end_calls}
-use Rattle.recover.specs.Putting.{put_calls}
+use Rattle.recover_heap.specs.Putting.{put_calls}
 use Rattle.recover.specs.Recovery.{IsRecovery, put_back_on}
 use Rattle.recover.specs.declared.report.Report.{Report}
 use Rattle.rtrb.specs.Ring.{SameConsumer}

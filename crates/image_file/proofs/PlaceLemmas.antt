@@ -9,8 +9,8 @@ use Rattle.image_parts.specs.declared.layout.Layout.{Layout}
 use Rattle.recover.specs.Recovery.{IsOnTheWay, LeavesOnTheWay}
 use Rattle.recover.specs.Study.{IsStudyOf}
 use Rattle.recover.specs.declared.studied.Study.{Study}
-use Rattle.recover.specs.declared.error.RecoverError.{RecoverError}
-use Rattle.recover.specs.declared.error.RecoverError.TheVariants.{Fault}
+use Rattle.recover_heap.specs.declared.error.RecoverError.{RecoverError}
+use Rattle.recover_heap.specs.declared.error.RecoverError.TheVariants.{Fault}
 use Rattle.recover.specs.declared.versions.Versions.{Versions}
 use Rattle.image_file.specs.Formatting.{IsImageFor, MayBeMade, StaysOrIsMade}
 use Rattle.image_file.specs.Images.{IsLeft, IsThere, Stays}

@@ -1,8 +1,8 @@
 -- What is told of an image that isn't recovered, by the versions that are taken.
 use Rattle.std.proofs.Common.{ℕ, List}
 use Rattle.recover.specs.Recovery.{RefusesOf}
-use Rattle.recover.specs.declared.error.RecoverError.{RecoverError}
-use Rattle.recover.specs.declared.error.RecoverError.TheVariants.{Fault, NotFormatted, BadHeader, TooSmall, NoControl, BadControl, OldVersion, Worn, BadRecord, IllegalLog, NoMemory}
+use Rattle.recover_heap.specs.declared.error.RecoverError.{RecoverError}
+use Rattle.recover_heap.specs.declared.error.RecoverError.TheVariants.{Fault, NotFormatted, BadHeader, TooSmall, NoControl, BadControl, OldVersion, Worn, BadRecord, IllegalLog, NoMemory}
 use Rattle.recover.specs.declared.versions.Versions.{Versions}
 use Rattle.image_file.specs.Showing.{told_of_attaching}
 use Rattle.image_file.specs.Telling.{MayBeRefusedBy}

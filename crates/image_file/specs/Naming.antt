@@ -7,7 +7,7 @@ use Rattle.script_declarations.specs.declared.schema_fault.SchemaFaultKind.{Sche
 use Rattle.script_declarations.specs.declared.schema_fault.SchemaFaultKind.TheVariants as kinds
 use Rattle.image_schema.specs.declared.error.DumpError.{DumpError}
 use Rattle.image_schema.specs.declared.error.DumpError.TheVariants as dumps
-use Rattle.recover.specs.declared.error.RecoverError.TheVariants.{Fault, NoMemory}
+use Rattle.recover_heap.specs.declared.error.RecoverError.TheVariants.{Fault, NoMemory}
 use Rattle.image_file.specs.Showing.{told_of_attaching}
 use Rattle.image_file.specs.declared.error.FileFault.{FileFault}
 use Rattle.image_file.specs.declared.error.ImageFault.TheVariants as images

@@ -9,8 +9,8 @@ use Rattle.image_file.specs.declared.error.ImageFault.TheVariants as images
 use Rattle.inspect.specs.Inspection.{Inspects, Refuses}
 use Rattle.inspect.specs.declared.error.InspectError.{InspectError}
 use Rattle.inspect.specs.declared.error.InspectError.TheVariants as inspections
-use Rattle.recover.specs.declared.error.RecoverError.{RecoverError}
-use Rattle.recover.specs.declared.error.RecoverError.TheVariants.{Fault, NoMemory, NotFormatted}
+use Rattle.recover_heap.specs.declared.error.RecoverError.{RecoverError}
+use Rattle.recover_heap.specs.declared.error.RecoverError.TheVariants.{Fault, NoMemory, NotFormatted}
 use Rattle.recover.specs.declared.studied.Study.{Study}
 
 -- all that the reader had left was read: this image

@@ -4,7 +4,7 @@ use Rattle.std.specs.Io.KnownBytes.{Appends}
 use Rattle.inspect.specs.Inspection.{InspectsPart}
 use Rattle.inspect.specs.ReportText.{report_text}
 use Rattle.recover.specs.Recovery.{IsTooOld}
-use Rattle.recover.specs.declared.error.RecoverError.TheVariants.{OldVersion}
+use Rattle.recover_heap.specs.declared.error.RecoverError.TheVariants.{OldVersion}
 use Rattle.recover.specs.declared.studied.Study.{Study}
 use Rattle.recover.specs.declared.versions.Versions.{Versions}
 use Rattle.image_file.specs.declared.error.ImageFault.{ImageFault}

@@ -5,7 +5,7 @@ ghost use Rattle.block_disk.specs.Device.{HasFailed, SameMoments, synced};
 ghost use Rattle.block_disk.specs.Images.{LeavesOnly};
 ghost use Rattle.recover.specs.Recovery.{IsOnTheWay, LeavesOnTheWay, RefusesOf};
 ghost use Rattle.recover.specs.Study.{IsStudyOf};
-ghost use Rattle.recover.specs.declared.error.RecoverError.TheVariants.{Fault};
+ghost use Rattle.recover_heap.specs.declared.error.RecoverError.TheVariants.{Fault};
 ghost use Rattle.recover.specs.declared.studied.Study.{Study};
 ghost use Rattle.inspect.specs.ReportText.{report_text};
 ghost use Rattle.image_file.specs.declared.error.ImageFault.TheVariants.{Image};

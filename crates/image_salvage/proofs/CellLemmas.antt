@@ -1,9 +1,9 @@
 -- From the cells that were read to the image that has them.
 use Rattle.std.proofs.Common.{ℕ, ◌≡◌, Option, List, Result, Ok, Err, IfErr, sym, subst, ◌∙◌}
 use Rattle.guards.specs.Schema.{Declarations}
-use Rattle.recover.specs.Heap.{RefusesHeap}
-use Rattle.recover.specs.declared.error.RecoverError.{RecoverError}
-use Rattle.recover.specs.declared.error.RecoverError.TheVariants.{Fault, NotFormatted, BadHeader, TooSmall, NoControl, BadControl, OldVersion, Worn, BadRecord, IllegalLog, NoMemory}
+use Rattle.recover_heap.specs.Heap.{RefusesHeap}
+use Rattle.recover_heap.specs.declared.error.RecoverError.{RecoverError}
+use Rattle.recover_heap.specs.declared.error.RecoverError.TheVariants.{Fault, NotFormatted, BadHeader, TooSmall, NoControl, BadControl, OldVersion, Worn, BadRecord, IllegalLog, NoMemory}
 use Rattle.image_schema.specs.declared.error.DumpError.{DumpError}
 use Rattle.image_schema.specs.declared.error.DumpError.TheVariants.{Study, OtherSchema, Write}
 use Rattle.image_salvage.specs.Cells.{DumpsCells, DumpsRead, HasCells, RefusesCells, RefusesRead, RefusesToRead}

@@ -12,8 +12,8 @@ use Rattle.image_schema.specs.declared.error.DumpError.TheVariants as dump_error
 use Rattle.inspect.specs.Written.{AppendsPart}
 use Rattle.image_parts.specs.NumberedRows.{numbered}
 use Rattle.recover.specs.Reading.{HasBadHeader, HasFront, RefusesLayout}
-use Rattle.recover.specs.declared.error.RecoverError.{RecoverError}
-use Rattle.recover.specs.declared.error.RecoverError.TheVariants.{Fault, NotFormatted, BadHeader, TooSmall, NoMemory}
+use Rattle.recover_heap.specs.declared.error.RecoverError.{RecoverError}
+use Rattle.recover_heap.specs.declared.error.RecoverError.TheVariants.{Fault, NotFormatted, BadHeader, TooSmall, NoMemory}
 use Rattle.image_salvage.specs.Notes.{cells_note, noted_text}
 use Rattle.image_salvage.specs.declared.found.Cells.{Cells}
 

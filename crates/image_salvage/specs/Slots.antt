@@ -11,7 +11,7 @@ use Rattle.image_schema.specs.declared.error.DumpError.TheVariants as dump_error
 use Rattle.inspect.specs.Written.{AppendsPart}
 use Rattle.recover.specs.Reading.{RefusesImage}
 use Rattle.recover.specs.Study.{IsStudyOf}
-use Rattle.recover.specs.declared.error.RecoverError.TheVariants.{NoMemory}
+use Rattle.recover_heap.specs.declared.error.RecoverError.TheVariants.{NoMemory}
 use Rattle.recover.specs.declared.studied.Study.{Study}
 use Rattle.image_salvage.specs.Notes.{noted_text, slot_note}
 

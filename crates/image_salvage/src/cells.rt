@@ -4,8 +4,8 @@ ghost use Rattle.block_disk.specs.Device.{SameMoments};
 ghost use Rattle.block_disk.specs.Since.{HasCauseSince};
 ghost use Rattle.image_parts.specs.Cells.{HasHome, HasHomes};
 ghost use Rattle.image_parts.specs.Layout.{size_of};
-ghost use Rattle.recover.specs.Heap.{RefusesHeap};
-ghost use Rattle.recover.specs.declared.error.RecoverError.TheVariants.{Fault};
+ghost use Rattle.recover_heap.specs.Heap.{RefusesHeap};
+ghost use Rattle.recover_heap.specs.declared.error.RecoverError.TheVariants.{Fault};
 ghost use Rattle.image_salvage.specs.Cells.{HasCells, RefusesToRead};
 
 use crate::found::Cells;

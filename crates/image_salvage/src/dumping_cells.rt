@@ -2,7 +2,7 @@
 ghost use Rattle.std.specs.Prelude.{◌≡◌, IfErr, OnOk};
 ghost use Rattle.block_disk.specs.Device.{HasCause, SameMoments};
 ghost use Rattle.image_schema.specs.declared.error.DumpError.TheVariants as kinds;
-ghost use Rattle.recover.specs.declared.error.RecoverError.TheVariants.{Fault};
+ghost use Rattle.recover_heap.specs.declared.error.RecoverError.TheVariants.{Fault};
 ghost use Rattle.image_salvage.specs.Cells.{AreOfImage, DumpsCells, DumpsRead, RefusesCells, RefusesRead};
 
 use crate::cells::read_cells;

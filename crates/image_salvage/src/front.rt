@@ -5,7 +5,7 @@ ghost use Rattle.block_disk.specs.Since.{HasCauseSince};
 ghost use Rattle.image_parts.specs.Guards.{HasGuards};
 ghost use Rattle.image_parts.specs.Layout.{IsLayout, size_of};
 ghost use Rattle.recover.specs.Reading.{HasFront, HasLayout, RefusesLayout, RefusesRows};
-ghost use Rattle.recover.specs.declared.error.RecoverError.TheVariants.{Fault};
+ghost use Rattle.recover_heap.specs.declared.error.RecoverError.TheVariants.{Fault};
 ghost use Rattle.image_salvage.specs.Cells.{RefusesToRead};
 
 use block_disk::Disk;

@@ -2,7 +2,7 @@
 use Rattle.std.proofs.Common.{ℕ, ◌≡◌, Option, List, Result, Ok, Err, IfErr, sym, subst, ◌∙◌}
 use Rattle.guards.specs.Schema.{Declarations}
 use Rattle.recover.specs.Study.{IsStudyOf}
-use Rattle.recover.specs.declared.error.RecoverError.TheVariants.{Fault, NoMemory}
+use Rattle.recover_heap.specs.declared.error.RecoverError.TheVariants.{Fault, NoMemory}
 use Rattle.recover.specs.Reading.{RefusesImage}
 use Rattle.recover.specs.declared.studied.Study.{Study as Studied}
 use Rattle.image_schema.specs.Drawing.{Draws, DrawsStudy, RefusesDrawing, RefusesDrawnStudy}

@@ -6,7 +6,7 @@ use Rattle.inspect.specs.WholeGraph.{picture_text}
 use Rattle.inspect.specs.Written.{AppendsPart}
 use Rattle.recover.specs.Reading.{RefusesImage}
 use Rattle.recover.specs.Study.{IsStudyOf}
-use Rattle.recover.specs.declared.error.RecoverError.TheVariants.{NoMemory}
+use Rattle.recover_heap.specs.declared.error.RecoverError.TheVariants.{NoMemory}
 use Rattle.recover.specs.declared.studied.Study.{Study}
 use Rattle.image_schema.specs.OfImage.{FitsImage}
 use Rattle.image_schema.specs.declared.error.DumpError.{DumpError}

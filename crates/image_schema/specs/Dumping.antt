@@ -7,7 +7,7 @@ use Rattle.guards.specs.Schema.{Declarations, IsSchema, nothing}
 use Rattle.inspect.specs.Written.{AppendsPart}
 use Rattle.recover.specs.Reading.{RefusesImage}
 use Rattle.recover.specs.Study.{IsStudyOf}
-use Rattle.recover.specs.declared.error.RecoverError.TheVariants.{NoMemory}
+use Rattle.recover_heap.specs.declared.error.RecoverError.TheVariants.{NoMemory}
 use Rattle.recover.specs.declared.studied.Study.{Study}
 use Rattle.script_lines.specs.Lines.{lines_of}
 use Rattle.image_schema.specs.OfImage.{FitsImage, named_as}

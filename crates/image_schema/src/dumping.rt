@@ -4,7 +4,7 @@ ghost use Rattle.block_disk.specs.Device.{HasCause, SameMoments};
 ghost use Rattle.image_schema.specs.Dumping.{Dumps, DumpsStudy, RefusesDump, RefusesStudy};
 ghost use Rattle.image_schema.specs.OfImage.{IsStudied};
 ghost use Rattle.image_schema.specs.declared.error.DumpError.TheVariants as kinds;
-ghost use Rattle.recover.specs.declared.error.RecoverError.TheVariants.{Fault};
+ghost use Rattle.recover_heap.specs.declared.error.RecoverError.TheVariants.{Fault};
 
 use crate::error::{DumpError, NamingError};
 use crate::naming::schema_of;

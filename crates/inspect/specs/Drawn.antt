@@ -1,7 +1,7 @@
 -- What of a study is drawn: of each lane the section that it is in, and the last so many that have ended (this project's own).
 use Rattle.std.specs.Prelude.{ℕ, ◌+◌, ◌-◌, Bool, nat_le, List, [], ◌∷◌, reverse, slice_index_or}
 use Rattle.recover_logs.specs.Lanes.{count_of}
-use Rattle.recover.specs.Logs.{records_of}
+use Rattle.recover_heap.specs.Logs.{records_of}
 use Rattle.recover.specs.declared.studied.Study.{Study}
 use Rattle.inspect.specs.declared.section.SectionId.{SectionId}
 use Rattle.inspect.specs.Sections.{by_lane, numbering_of}

@@ -6,7 +6,7 @@ use Rattle.recover.specs.Study.{IsStudyOf}
 use Rattle.recover.specs.declared.studied.Study.{Study}
 use Rattle.inspect.specs.declared.error.InspectError.{InspectError}
 use Rattle.inspect.specs.declared.error.InspectError.TheVariants as inspect_error
-use Rattle.recover.specs.declared.error.RecoverError.TheVariants.{NoMemory}
+use Rattle.recover_heap.specs.declared.error.RecoverError.TheVariants.{NoMemory}
 use Rattle.inspect.specs.Written.{AppendsPart}
 
 -- this text of a study of the image was written

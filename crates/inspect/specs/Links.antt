@@ -5,7 +5,7 @@ use Rattle.std.specs.BTreeMap.{BTreeMap, get}
 use Rattle.heap_model.specs.declared.record.UndoRecord.{UndoRecord}
 use Rattle.heap_model.specs.declared.record.UndoRecord.TheVariants.{Acq, Rel, WaitRel, Put}
 use Rattle.heap_model.specs.declared.ids.ObjectId.{ObjectId}
-use Rattle.recover.specs.Logs.{records_of}
+use Rattle.recover_heap.specs.Logs.{records_of}
 use Rattle.recover.specs.declared.studied.Study.{Study}
 use Rattle.inspect.specs.declared.numbering.Numbering.{Numbering}
 use Rattle.recover_logs.specs.declared.lane_count.LaneCount.{LaneCount}

@@ -5,7 +5,7 @@ use Rattle.image_parts.specs.declared.lane_row.LaneRow.{LaneRow}
 use Rattle.recover_logs.specs.Lanes.{count_of, ends_at}
 use Rattle.recover_logs.specs.declared.lane_count.LaneCount.{LaneCount}
 use Rattle.undo_log.specs.StandsFor.{row_of}
-use Rattle.recover.specs.Logs.{records_of}
+use Rattle.recover_heap.specs.Logs.{records_of}
 use Rattle.recover.specs.declared.studied.Study.{Study}
 use Rattle.inspect.specs.declared.numbering.Numbering.{Numbering}
 use Rattle.inspect.specs.declared.section.Section.{Section}

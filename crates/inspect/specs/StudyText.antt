@@ -9,7 +9,7 @@ use Rattle.image_parts.specs.declared.layout.Layout.{Layout}
 use Rattle.image_parts.specs.declared.slot.Slot.{Slot}
 use Rattle.image_parts.specs.declared.slot.Slot.TheVariants.{A, B}
 use Rattle.undo_log.specs.StandsFor.{row_of}
-use Rattle.recover.specs.Logs.{records_of}
+use Rattle.recover_heap.specs.Logs.{records_of}
 use Rattle.recover.specs.declared.studied.Study.{Study}
 use Rattle.inspect.specs.declared.form.Form.TheVariants.{Lines}
 use Rattle.inspect.specs.declared.numbering.Numbering.{Numbering}

@@ -8,7 +8,7 @@ ghost use Rattle.inspect.specs.WholeGraph.{graph_text};
 ghost use Rattle.image_parts.specs.Layout.{IsLayout};
 ghost use Rattle.std.specs.Io.KnownBytes.{Appends};
 ghost use Rattle.inspect.specs.declared.error.InspectError.TheVariants as kinds;
-ghost use Rattle.recover.specs.declared.error.RecoverError.TheVariants.{Fault};
+ghost use Rattle.recover_heap.specs.declared.error.RecoverError.TheVariants.{Fault};
 
 use crate::error::{InspectError, ShowError};
 use crate::graph::write_graph;

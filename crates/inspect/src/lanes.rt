@@ -1,6 +1,6 @@
 //! The live records of a study's lanes.
 ghost use Rattle.std.specs.Prelude.{◌≡◌};
-ghost use Rattle.recover.specs.Logs.{records_of};
+ghost use Rattle.recover_heap.specs.Logs.{records_of};
 
 use heap_model::{Lane, UndoRecord};
 

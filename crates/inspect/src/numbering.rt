@@ -1,7 +1,7 @@
 //! How a lane's live sections are numbered.
 ghost use Rattle.std.specs.Prelude.{◌≡◌, ◌+◌, ◌<◌, ◌^◌, length};
 ghost use Rattle.undo_log.specs.StandsFor.{row_of};
-ghost use Rattle.recover.specs.Logs.{records_of};
+ghost use Rattle.recover_heap.specs.Logs.{records_of};
 ghost use Rattle.inspect.specs.Sections.{first_number, numbering_of, section_id};
 
 use crate::lanes::records_in;

@@ -1,7 +1,7 @@
 //! The live releases of a study, by object and number.
 ghost use Rattle.std.specs.Prelude.{◌≡◌, ◌+◌, ◌<◌, ◌≤◌, ◌^◌, ◌++◌, ℕ, List, IfOk, OnOk, OnErr, length, reverse};
 ghost use Rattle.undo_log.specs.StandsFor.{row_of};
-ghost use Rattle.recover.specs.Logs.{records_of};
+ghost use Rattle.recover_heap.specs.Logs.{records_of};
 ghost use Rattle.inspect.specs.Sections.{told};
 ghost use Rattle.inspect.specs.Links.{Release, Tells, finds, releases_of, released_by};
 ghost use Rattle.recover.specs.Fits.{FitsNumbers};

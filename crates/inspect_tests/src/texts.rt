@@ -1,7 +1,7 @@
 //! Texts of hand-made studies, by the rules of docs/SCRIPTS.md and, for graphs, of `write_graph`.
 ghost use Rattle.std.specs.Prelude.{◌≡◌, ◌<◌, IfOk, length};
 ghost use Rattle.image_parts.specs.Layout.{IsLayout};
-ghost use Rattle.recover.specs.Logs.{records_of};
+ghost use Rattle.recover_heap.specs.Logs.{records_of};
 ghost use Rattle.recover.specs.Fits.{FitsNumbers};
 
 mod images;

@@ -18,10 +18,10 @@ use Rattle.undo_log.specs.Area.{IsOfImage, HasRecord, HasRecords}
 use Rattle.undo_log.specs.Dropped.{undo_logs}
 use Rattle.undo_log.specs.StandsFor.{row_of, row_in, is_transient_in, settled_of}
 use Rattle.recover_logs.specs.Replay.{Replays}
-use Rattle.recover.specs.Logs.{logged_guard_in}
+use Rattle.recover_heap.specs.Logs.{logged_guard_in}
 use Rattle.recover.specs.Reading.{HasControl}
 use Rattle.recover.specs.Settled.{settled_records, first_of, AreLegal, IsAtRest, TakesUnsettled}
-use Rattle.recover.proofs.HomeLemmas.{persistent_logged}
+use Rattle.recover_heap.proofs.HomeLemmas.{persistent_logged}
 use Rattle.law_survival.proofs.Blank.{blanks, undone, valueless, blank_legal, holder_blank}
 use Rattle.law_survival.proofs.LaneParts.{contains_reverse, lane_map}
 use Rattle.law_survival.proofs.Replays.{replay_there}

@@ -14,7 +14,7 @@ use Rattle.undo_log.specs.StandsFor.{row_of, settled_of, HasLive}
 use Rattle.store_image.specs.KeptHeap.{values_below}
 use Rattle.store_image.proofs.Stands.{kept_at as value_at, kept_size as values_size}
 use Rattle.recover_logs.specs.Replay.{Replays}
-use Rattle.recover.specs.Logs.{lanes_of, logged_guard_in}
+use Rattle.recover_heap.specs.Logs.{lanes_of, logged_guard_in}
 use Rattle.recover.specs.Reading.{Holds, IsOfOldVersion}
 use Rattle.recover.specs.Recovery.{StudiedLaw}
 use Rattle.recover.specs.Settled.{AreLegal}

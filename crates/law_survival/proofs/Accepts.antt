@@ -45,14 +45,14 @@ use Rattle.store_image.proofs.Places.{live_size, cut_place}
 use Rattle.store_image.proofs.Stands.{empty, kept_at, kept_size}
 use Rattle.law_survival.specs.Accepted.{IsLeftBy, FindsPast}
 use Rattle.law_survival.specs.Old.{IsLeftOf}
-use Rattle.recover.specs.Logs.{AreLogs, IsBadAt, lanes_of, logged_guard_in}
+use Rattle.recover_heap.specs.Logs.{AreLogs, IsBadAt, lanes_of, logged_guard_in}
 use Rattle.recover.specs.Reading.{HasFront, HasLayout, HasControl, HasStrayMark, IsOfOldVersion, RefusesRows, RefusesImage, Holds}
 use Rattle.recover_logs.specs.Replay.{IsStuckAt, Replays}
 use Rattle.recover.specs.Settled.{first_of, settled_records, AreLegal, IsAtRest, TakesUnsettled, IsIllegalAt, Stuck, Restless, Crossing}
-use Rattle.recover.specs.declared.error.RecoverError.{RecoverError}
-use Rattle.recover.specs.declared.error.RecoverError.TheVariants.{Fault, NotFormatted, BadHeader, TooSmall, NoControl, BadControl, OldVersion, Worn, BadRecord, IllegalLog, NoMemory}
+use Rattle.recover_heap.specs.declared.error.RecoverError.{RecoverError}
+use Rattle.recover_heap.specs.declared.error.RecoverError.TheVariants.{Fault, NotFormatted, BadHeader, TooSmall, NoControl, BadControl, OldVersion, Worn, BadRecord, IllegalLog, NoMemory}
 use Rattle.recover.specs.declared.logged_image.LoggedImage.{LoggedImage}
-use Rattle.recover.proofs.HomeLemmas.{persistent_logged}
+use Rattle.recover_heap.proofs.HomeLemmas.{persistent_logged}
 use Rattle.recover.proofs.RecoveryLemmas.{not_old}
 use Rattle.recover.specs.declared.versions.Versions.TheVariants.{Current}
 use Rattle.law_survival.proofs.LaneParts.{contains_reverse, lane_map}

@@ -29,11 +29,11 @@ use Rattle.recover_logs.specs.Settled.{TakesUnsettled}
 use Rattle.recover_logs.proofs.FirstLemmas.{begins_at, lowered_more, lowered_none, lowered_one, lowest_more, lowest_none}
 use Rattle.recover_logs.proofs.LaneLemmas.{records_past}
 use Rattle.recover_logs.proofs.SettledLemmas.{all_rest}
-use Rattle.recover.specs.Logs.{AreLogs, IsReadTo, lanes_of, logged_guard_in, records_of}
+use Rattle.recover_heap.specs.Logs.{AreLogs, IsReadTo, lanes_of, logged_guard_in, records_of}
 use Rattle.recover.specs.Reading.{HasControl, HasFront, HasLayout, Holds, RefusesImage}
 use Rattle.recover.specs.Settled.{AreAtRest, AreLegal, IsAtRest, Stuck, Restless, Crossing, kept_of}
-use Rattle.recover.specs.declared.error.RecoverError.{RecoverError}
-use Rattle.recover.specs.declared.error.RecoverError.TheVariants.{Fault, NotFormatted, BadHeader, TooSmall, NoControl, BadControl, BadRecord, IllegalLog, NoMemory}
+use Rattle.recover_heap.specs.declared.error.RecoverError.{RecoverError}
+use Rattle.recover_heap.specs.declared.error.RecoverError.TheVariants.{Fault, NotFormatted, BadHeader, TooSmall, NoControl, BadControl, BadRecord, IllegalLog, NoMemory}
 use Rattle.recover.specs.declared.logged_image.LoggedImage.{LoggedImage}
 use Rattle.recover.proofs.LogLemmas.{row_is}
 use Rattle.law_survival.proofs.Greedy.{Ended, ends_there, left_or_done, none_there}

@@ -14,7 +14,7 @@ use Rattle.durable.specs.Store.{Known}
 use Rattle.durable.specs.declared.store_call.StoreCall.{StoreCall}
 use Rattle.durable.specs.declared.store_call.StoreCall.TheVariants.{Apply, Log, Settle, Trim}
 use Rattle.durable.specs.declared.store_call.StoreCall.TheVariants.{Home as HomeStep}
-use Rattle.recover.specs.declared.error.RecoverError.{RecoverError}
+use Rattle.recover_heap.specs.declared.error.RecoverError.{RecoverError}
 use Rattle.recover.specs.declared.report.Report.{Report}
 use Rattle.law_survival.specs.WholeRun.{CannotRecover, IsSettling, KeepsCut, Next, Before, Survives, SurvivesBy}
 use Rattle.law_survival.proofs.WholeRuns.{grows, grows_by}

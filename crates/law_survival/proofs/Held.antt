@@ -14,15 +14,15 @@ use Rattle.image_parts.specs.declared.lane_row.LaneRow.{LaneRow}
 use Rattle.image_parts.proofs.Numbers.{AreBytes, bytes-part, is_64}
 use Rattle.undo_log.specs.StandsFor.{StandsFor, first_in, is_transient_in, row_in, row_of, guard_in, settled_of}
 use Rattle.store_image.specs.KeptHeap.{values_below}
-use Rattle.recover.specs.Heap.{first_old, IsOldOrHome}
-use Rattle.recover.specs.Logs.{lanes_of, logged_guard_in}
+use Rattle.recover_heap.specs.Heap.{first_old, IsOldOrHome}
+use Rattle.recover_heap.specs.Logs.{lanes_of, logged_guard_in}
 use Rattle.recover.specs.Reading.{Holds}
 use Rattle.recover.specs.Study.{AreUndone, IsReportOf, IsStudyOf}
 use Rattle.recover.specs.declared.logged_image.LoggedImage.{LoggedImage}
 use Rattle.recover.specs.declared.report.Report.{Report}
 use Rattle.recover.specs.declared.studied.Study.{Study}
-use Rattle.recover.proofs.HeapLemmas.{takes_back}
-use Rattle.recover.proofs.HomeLemmas.{logged_agrees}
+use Rattle.recover_heap.proofs.HeapLemmas.{takes_back}
+use Rattle.recover_heap.proofs.HomeLemmas.{logged_agrees}
 use Rattle.recover.proofs.LogLemmas.{row_is}
 use Rattle.law_survival.proofs.Reports.{Drops, drops_few, drops_there, fields_there}
 use Rattle.law_survival.proofs.Studies.{kept_at}

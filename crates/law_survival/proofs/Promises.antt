@@ -3,7 +3,7 @@ use Rattle.std.proofs.Common.{Result, Ok, Err, IfErr, IfOk, MatchResult}
 use Rattle.block_disk.specs.Device.{Device}
 use Rattle.image_parts.specs.Recovered.{Parts}
 use Rattle.recover.specs.Recovery.{IsRecovery, RefusesRecovery, RefusesUpgrade}
-use Rattle.recover.specs.declared.error.RecoverError.{RecoverError}
+use Rattle.recover_heap.specs.declared.error.RecoverError.{RecoverError}
 use Rattle.recover.specs.declared.report.Report.{Report}
 
 pub found_or_refused : {E : Type 0} (device : E → Device) (there : Device) (answer : Result (Parts E × Report) (E × RecoverError)) →

@@ -13,12 +13,12 @@ use Rattle.image_parts.specs.declared.lane_row.LaneRow.{LaneRow}
 use Rattle.undo_log.specs.StandsFor.{guard_in}
 use Rattle.recover_logs.specs.Replay.{Replays}
 use Rattle.recover.specs.Dropping.{acts_in, live_sections, sections_after, settled_sections, trimmed_sections, unsettled_sections, AreDropped, AreEntriesOf, IsEntryOf}
-use Rattle.recover.specs.Heap.{AreFields, IsUndone, first_old}
-use Rattle.recover.specs.Logs.{logged_guard_in}
+use Rattle.recover_heap.specs.Heap.{AreFields, IsUndone, first_old}
+use Rattle.recover_heap.specs.Logs.{logged_guard_in}
 use Rattle.recover.specs.declared.report.Dropped.{Dropped}
 use Rattle.recover.specs.declared.report.Why.TheVariants.{Unfinished, After, Unsettled}
-use Rattle.recover.proofs.HeapLemmas.{fields_as, fields_next, undone_is}
-use Rattle.recover.proofs.HomeLemmas.{logged_agrees}
+use Rattle.recover_heap.proofs.HeapLemmas.{fields_as, fields_next, undone_is}
+use Rattle.recover_heap.proofs.HomeLemmas.{logged_agrees}
 use Rattle.recover.proofs.LiveLemmas.{live_few}
 use Rattle.recover.proofs.PushingLemmas.{ended_short}
 use Rattle.law_survival.proofs.Reasons.{reason_there}

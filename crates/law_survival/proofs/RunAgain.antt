@@ -9,7 +9,7 @@ use Rattle.image_parts.specs.declared.control.Control.{Control}
 use Rattle.image_parts.specs.declared.layout.Layout.{Layout}
 use Rattle.heap_model.specs.Past.{Past}
 use Rattle.recover.specs.Recovery.{AreAlike, IsCutOff, IsEnded, IsOnTheWay, IsRecovery, OneStudyLaw, SameReports, StudiedLaw}
-use Rattle.recover.specs.declared.error.RecoverError.{RecoverError}
+use Rattle.recover_heap.specs.declared.error.RecoverError.{RecoverError}
 use Rattle.recover.specs.declared.versions.Versions.TheVariants.{Current}
 use Rattle.recover.specs.Reading.{IsOfOldVersion}
 use Rattle.recover.proofs.RecoveryLemmas.{not_old}

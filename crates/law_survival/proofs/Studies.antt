@@ -14,7 +14,7 @@ use Rattle.undo_log.specs.StandsFor.{row_of, settled_of, HasLive}
 use Rattle.heap_model.specs.Past.{Past}
 use Rattle.store_image.specs.KeptHeap.{kept_heap}
 use Rattle.store_image.proofs.Stands.{kept_size}
-use Rattle.recover.specs.Logs.{lanes_of, logged_guard_in}
+use Rattle.recover_heap.specs.Logs.{lanes_of, logged_guard_in}
 use Rattle.recover.specs.Reading.{Holds}
 use Rattle.recover.specs.Settled.{AreLegal}
 use Rattle.recover.specs.Study.{AreUndone, IsReportOf, IsStudyOf, held_by}

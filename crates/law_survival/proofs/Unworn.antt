@@ -17,8 +17,8 @@ use Rattle.durable.specs.Store.{Known, HasPast}
 use Rattle.durable.specs.declared.store_call.StoreCall.{StoreCall}
 use Rattle.recover.specs.Recovery.{IsWorn, RefusesOf}
 use Rattle.recover.specs.Study.{IsStudyOf}
-use Rattle.recover.specs.declared.error.RecoverError.{RecoverError}
-use Rattle.recover.specs.declared.error.RecoverError.TheVariants.{Worn}
+use Rattle.recover_heap.specs.declared.error.RecoverError.{RecoverError}
+use Rattle.recover_heap.specs.declared.error.RecoverError.TheVariants.{Worn}
 use Rattle.recover.specs.declared.studied.Study.{Study}
 use Rattle.recover.specs.declared.versions.Versions.{Versions}
 use Rattle.recover.specs.declared.versions.Versions.TheVariants.{Current}

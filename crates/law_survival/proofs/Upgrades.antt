@@ -8,7 +8,7 @@ use Rattle.image_parts.specs.Recovered.{Parts}
 use Rattle.image_parts.specs.declared.layout.Layout.{Layout}
 use Rattle.recover.specs.Recovery.{IsRecovery, RefusesUpgrade}
 use Rattle.recover.specs.Study.{IsStudyOf}
-use Rattle.recover.specs.declared.error.RecoverError.{RecoverError}
+use Rattle.recover_heap.specs.declared.error.RecoverError.{RecoverError}
 use Rattle.recover.specs.declared.report.Report.{Report}
 use Rattle.recover.specs.declared.studied.Study.{Study}
 use Rattle.recover.specs.declared.versions.Versions.TheVariants.{Both}

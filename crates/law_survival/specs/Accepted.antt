@@ -13,10 +13,10 @@ use Rattle.store_image.specs.Consistent.{TellsCut, IsConsistent}
 use Rattle.store_image.specs.KeptHeap.{kept_heap}
 use Rattle.store_image.specs.declared.committed.Committed.{Committed}
 pub use Rattle.durable.specs.Runs.{IsLeftBy}
-use Rattle.recover.specs.Logs.{lanes_of}
+use Rattle.recover_heap.specs.Logs.{lanes_of}
 use Rattle.recover.specs.Reading.{Holds, IsOfOldVersion, RefusesImage}
-use Rattle.recover.specs.declared.error.RecoverError.{RecoverError}
-use Rattle.recover.specs.declared.error.RecoverError.TheVariants.{Fault, NoMemory}
+use Rattle.recover_heap.specs.declared.error.RecoverError.{RecoverError}
+use Rattle.recover_heap.specs.declared.error.RecoverError.TheVariants.{Fault, NoMemory}
 use Rattle.recover.specs.declared.logged_image.LoggedImage.{LoggedImage}
 
 -- Whatever a crash leaves of a store's device is such an image.

@@ -2,8 +2,8 @@
 use Rattle.std.specs.Prelude.{ℕ, ◌≢◌, ◌<◌, All, List}
 use Rattle.recover.specs.Reading.{Holds, RefusesImage}
 use Rattle.recover.specs.Study.{IsStudyOf}
-use Rattle.recover.specs.declared.error.RecoverError.{RecoverError}
-use Rattle.recover.specs.declared.error.RecoverError.TheVariants.{Fault, NoMemory}
+use Rattle.recover_heap.specs.declared.error.RecoverError.{RecoverError}
+use Rattle.recover_heap.specs.declared.error.RecoverError.TheVariants.{Fault, NoMemory}
 use Rattle.recover.specs.declared.logged_image.LoggedImage.{LoggedImage}
 use Rattle.recover.specs.declared.studied.Study.{Study}
 

@@ -15,8 +15,8 @@ use Rattle.heap_model.specs.Past.{Past}
 use Rattle.heap_model.specs.declared.store_error.StoreError.{StoreError}
 use Rattle.recover.specs.Recovery.{IsCutOff, IsOnTheWay, IsRecovery, LeavesOnTheWay, RefusesRecovery}
 use Rattle.recover.specs.Study.{IsStudyOf}
-use Rattle.recover.specs.declared.error.RecoverError.{RecoverError}
-use Rattle.recover.specs.declared.error.RecoverError.TheVariants.{Fault, Worn}
+use Rattle.recover_heap.specs.declared.error.RecoverError.{RecoverError}
+use Rattle.recover_heap.specs.declared.error.RecoverError.TheVariants.{Fault, Worn}
 use Rattle.recover.specs.declared.report.Report.{Report}
 use Rattle.recover.specs.declared.studied.Study.{Study}
 use Rattle.law_survival.specs.Again.{AreCutOff, Attempt, SurvivesAgain, TellsAgain}

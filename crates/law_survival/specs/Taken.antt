@@ -2,7 +2,7 @@
 use Rattle.std.specs.Prelude.{ℕ, List}
 use Rattle.recover.specs.Recovery.{RefusesRecovery}
 use Rattle.recover.specs.Study.{IsStudyOf}
-use Rattle.recover.specs.declared.error.RecoverError.{RecoverError}
+use Rattle.recover_heap.specs.declared.error.RecoverError.{RecoverError}
 use Rattle.recover.specs.declared.studied.Study.{Study}
 use Rattle.law_survival.specs.WholeRun.{CannotRecover}
 

@@ -10,7 +10,7 @@ use Rattle.heap_model.specs.Setting.{Setting}
 use Rattle.image_parts.specs.declared.layout.Layout.{Layout}
 use Rattle.recover.specs.Recovery.{IsCutOff, IsRecovery, RefusesUpgrade}
 use Rattle.recover.specs.Study.{IsStudyOf}
-use Rattle.recover.specs.declared.error.RecoverError.TheVariants.{Fault, Worn}
+use Rattle.recover_heap.specs.declared.error.RecoverError.TheVariants.{Fault, Worn}
 use Rattle.recover.specs.declared.report.Report.{Report}
 use Rattle.recover.specs.declared.studied.Study.{Study}
 use Rattle.store_image.specs.KeptHeap.{kept_heap}

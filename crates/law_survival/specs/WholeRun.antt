@@ -12,8 +12,8 @@ use Rattle.durable.specs.Calls.{IsClean, MakeAll}
 use Rattle.durable.specs.Store.{Known}
 use Rattle.store_image.specs.KeptHeap.{kept_heap}
 use Rattle.heap_model.specs.Past.{Past, IsPast}
-use Rattle.recover.specs.declared.error.RecoverError.{RecoverError}
-use Rattle.recover.specs.declared.error.RecoverError.TheVariants.{Fault, NoMemory, Worn}
+use Rattle.recover_heap.specs.declared.error.RecoverError.{RecoverError}
+use Rattle.recover_heap.specs.declared.error.RecoverError.TheVariants.{Fault, NoMemory, Worn}
 use Rattle.recover.specs.Recovery.{IsWorn}
 
 -- a crash at some moment since this device may leave these bytes of the other

@@ -21,7 +21,7 @@ use Rattle.recover.specs.declared.report.Dropped.{Dropped}
 use Rattle.recover.specs.declared.report.Report.{Report}
 use Rattle.recover.specs.declared.studied.Study.{Study}
 use Rattle.recover.specs.Dropping.{AreDropped, AreEntriesOf, sections_after, settled_sections, trimmed_sections, unsettled_sections}
-use Rattle.recover.specs.Logs.{lanes_of, records_of, logged_guard_in}
+use Rattle.recover_heap.specs.Logs.{lanes_of, records_of, logged_guard_in}
 use Rattle.recover.specs.Reading.{HasFront, Holds}
 use Rattle.recover.specs.Recovery.{IsEnded}
 use Rattle.recover_logs.specs.Replay.{Replays}

@@ -21,8 +21,8 @@ use Rattle.undo_log.specs.OldValues.{NothingBack, FirstBack}
 use Rattle.undo_log.specs.StandsFor.{row_in}
 use Rattle.recover.specs.declared.studied.Study.{Study}
 use Rattle.recover.specs.Ending.{IsEnding}
-use Rattle.recover.specs.Logs.{lanes_of}
-use Rattle.recover.specs.Putting.{cell_ranges}
+use Rattle.recover_heap.specs.Logs.{lanes_of}
+use Rattle.recover_heap.specs.Putting.{cell_ranges}
 use Rattle.recover.specs.Reading.{HasFront, Holds}
 use Rattle.recover.specs.Recovery.{IsOnTheWay}
 use Rattle.recover.specs.Study.{AreUndone, IsStudyOf, held_by}

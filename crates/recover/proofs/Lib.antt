@@ -1,8 +1,6 @@
 pub mod LogLemmas
-pub mod HomeLemmas
 pub mod LegalLemmas
 pub mod ReadingLemmas
-pub mod PuttingLemmas
 pub mod EndingLemmas
 pub mod StudyLemmas
 pub mod StudyLimits
@@ -13,7 +11,6 @@ pub mod RecoveryLemmas
 pub mod Unrefused
 pub mod EndedLemmas
 pub mod FinishLemmas
-pub mod HeapLemmas
 pub mod PushingLemmas
 pub mod DroppingLemmas
 pub mod LiveLemmas

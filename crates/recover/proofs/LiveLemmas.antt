@@ -12,7 +12,7 @@ use Rattle.image_parts.specs.declared.layout.Layout.{Layout}
 use Rattle.image_parts.specs.declared.lane_row.LaneRow.{LaneRow}
 use Rattle.undo_log.specs.StandsFor.{row_of, settled_of}
 use Rattle.recover.specs.declared.live_sections.LiveSections.{LiveSections}
-use Rattle.recover.specs.Logs.{records_of, lanes_of}
+use Rattle.recover_heap.specs.Logs.{records_of, lanes_of}
 use Rattle.recover.specs.Settled.{settled_records}
 use Rattle.recover_logs.specs.Tally.{FreesHeld, acts_of}
 use Rattle.recover.specs.Dropping.{whole_sections, settled_sections, live_sections}

@@ -10,10 +10,10 @@ use Rattle.image_parts.specs.declared.lane_row.LaneRow.{LaneRow}
 use Rattle.undo_log.specs.Area.{HasSpan}
 use Rattle.undo_log.specs.Runs.{IsFull}
 use Rattle.undo_log.specs.StandsFor.{row_of}
-use Rattle.recover.specs.declared.error.RecoverError.{RecoverError}
-use Rattle.recover.specs.declared.error.RecoverError.TheVariants.{Fault, NotFormatted, BadHeader, TooSmall, NoControl, BadControl, OldVersion, Worn, BadRecord, IllegalLog, NoMemory}
+use Rattle.recover_heap.specs.declared.error.RecoverError.{RecoverError}
+use Rattle.recover_heap.specs.declared.error.RecoverError.TheVariants.{Fault, NotFormatted, BadHeader, TooSmall, NoControl, BadControl, OldVersion, Worn, BadRecord, IllegalLog, NoMemory}
 use Rattle.recover_logs.proofs.LaneLemmas.{records_past}
-use Rattle.recover.specs.Logs.{records_of, AreLogs, IsReadTo, IsBadAt, RefusesLane, RefusesLogs}
+use Rattle.recover_heap.specs.Logs.{records_of, AreLogs, IsReadTo, IsBadAt, RefusesLane, RefusesLogs}
 
 -- the row of a lane of the image
 pub row_is : (l : Layout) (rows : List LaneRow) (lane : ℕ) (d : LaneRow) → AreRows l rows → l.lanes ≤ 32 → lane < l.lanes → IsRow l.capacity (get_or rows lane d)

@@ -14,7 +14,7 @@ use Rattle.dependence.specs.Next.{IsBelow, IsNext}
 use Rattle.dependence.specs.Reason.{IsReason, Previous, Releaser, TookFrom, TookInside}
 use Rattle.image_parts.specs.declared.lane_row.LaneRow.{LaneRow}
 use Rattle.recover.specs.Dropping.{acts_in, trimmed_sections, unsettled_sections, AreDropped, AreEntriesOf, IsAfter, IsCalled, IsEntryOf, IsWhy}
-use Rattle.recover.specs.Heap.{AreFields}
+use Rattle.recover_heap.specs.Heap.{AreFields}
 use Rattle.image_parts.specs.declared.guard_row.GuardRow.{GuardRow}
 use Rattle.image_parts.specs.declared.layout.Layout.{Layout}
 use Rattle.recover.specs.Live.{ArePushable}
@@ -25,7 +25,7 @@ use Rattle.recover.specs.declared.report.Report.{Report}
 use Rattle.recover.specs.declared.report.Why.{Why}
 use Rattle.recover.specs.declared.report.Why.TheVariants.{Unfinished, After, Unsettled}
 use Rattle.recover.proofs.OneReplay.{ends_with, one_replay, same_end}
-use Rattle.recover.specs.Logs.{logged_guard_in}
+use Rattle.recover_heap.specs.Logs.{logged_guard_in}
 use Rattle.recover.proofs.PushingLemmas.{pushable}
 
 -- The section that freed an object at a number is one.

@@ -14,9 +14,9 @@ use Rattle.image_parts.specs.declared.lane_row.LaneRow.{LaneRow}
 use Rattle.image_parts.specs.declared.guard_row.GuardRow.{GuardRow}
 use Rattle.undo_log.specs.Area.{IsLoggable, HasRecords, HasSpan}
 use Rattle.undo_log.specs.StandsFor.{is_transient_in, row_of}
-use Rattle.recover.specs.declared.error.RecoverError.{RecoverError}
-use Rattle.recover.specs.declared.error.RecoverError.TheVariants.{Fault, NotFormatted, BadHeader, TooSmall, NoControl, BadControl, OldVersion, Worn, BadRecord, IllegalLog, NoMemory}
-use Rattle.recover.specs.Logs.{records_of, lanes_of, AreLogs, AreLoggable, RefusesLogs, logged_guard_in}
+use Rattle.recover_heap.specs.declared.error.RecoverError.{RecoverError}
+use Rattle.recover_heap.specs.declared.error.RecoverError.TheVariants.{Fault, NotFormatted, BadHeader, TooSmall, NoControl, BadControl, OldVersion, Worn, BadRecord, IllegalLog, NoMemory}
+use Rattle.recover_heap.specs.Logs.{records_of, lanes_of, AreLogs, AreLoggable, RefusesLogs, logged_guard_in}
 use Rattle.recover.specs.Settled.{RefusesLegal}
 use Rattle.recover.specs.Reading.{HasLayout, HasControl, RefusesFront, RefusesLive, RefusesImage}
 use Rattle.recover_logs.proofs.LaneLemmas.{records_past}

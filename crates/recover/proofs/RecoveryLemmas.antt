@@ -20,15 +20,15 @@ use Rattle.image_parts.specs.declared.slot.Slot.{Slot}
 use Rattle.image_parts.proofs.Reading.{guards_are_read, one_layout}
 use Rattle.undo_log.specs.StandsFor.{HasLive, StandsFor}
 use Rattle.undo_log.proofs.OneHeap.{one_heap}
-use Rattle.recover.specs.declared.error.RecoverError.{RecoverError}
-use Rattle.recover.specs.declared.error.RecoverError.TheVariants.{Fault, NotFormatted, BadHeader, TooSmall, NoControl, BadControl, OldVersion, Worn, BadRecord, IllegalLog, NoMemory}
+use Rattle.recover_heap.specs.declared.error.RecoverError.{RecoverError}
+use Rattle.recover_heap.specs.declared.error.RecoverError.TheVariants.{Fault, NotFormatted, BadHeader, TooSmall, NoControl, BadControl, OldVersion, Worn, BadRecord, IllegalLog, NoMemory}
 use Rattle.recover.specs.declared.findings.Findings.{Findings}
 use Rattle.recover.specs.declared.studied.Study.{Study}
 use Rattle.recover.specs.declared.versions.Versions.{Versions}
 use Rattle.recover.specs.declared.versions.Versions.TheVariants.{Current, Both}
 use Rattle.recover.specs.Ending.{end_calls}
-use Rattle.recover.specs.Logs.{lanes_of, records_of}
-use Rattle.recover.specs.Putting.{put_calls}
+use Rattle.recover_heap.specs.Logs.{lanes_of, records_of}
+use Rattle.recover_heap.specs.Putting.{put_calls}
 use Rattle.recover.specs.Reading.{HasControl, HasFront, IsOfOldVersion, RefusesFront, RefusesLive}
 use Rattle.recover.specs.Recovery.{AreAlike, IsEnded, IsMadeBy, IsOnTheWay, IsTooOld, IsWorn, OneStudyLaw, RefusesOf, SameHeapLaw, SameStudyLaw, put_back_on}
 use Rattle.recover.specs.Study.{AreUndone, IsReportOf, IsStudyOf}

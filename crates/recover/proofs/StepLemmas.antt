@@ -21,7 +21,7 @@ use Rattle.undo_log.specs.Area.{IsLoggable}
 use Rattle.undo_log.specs.StandsFor.{row_of}
 use Rattle.recover.specs.declared.live_sections.LiveSections.{LiveSections}
 use Rattle.recover_logs.specs.declared.step.Step.{Step}
-use Rattle.recover.specs.Logs.{records_of, lanes_of, AreLoggable}
+use Rattle.recover_heap.specs.Logs.{records_of, lanes_of, AreLoggable}
 use Rattle.recover_logs.specs.Replay.{Replays}
 use Rattle.recover_logs.specs.Tables.{log_of}
 use Rattle.recover_logs.specs.Tally.{acts_of}

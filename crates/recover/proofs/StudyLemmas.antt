@@ -15,12 +15,12 @@ use Rattle.image_parts.specs.declared.guard_row.GuardRow.{GuardRow}
 use Rattle.undo_log.specs.OldValues.{TakesBack, IsUnsettled}
 use Rattle.undo_log.specs.StandsFor.{StandsFor, settled_of, guard_in, row_in}
 use Rattle.recover.specs.declared.logged_image.LoggedImage.{LoggedImage}
-use Rattle.recover.specs.declared.error.RecoverError.{RecoverError}
-use Rattle.recover.specs.declared.error.RecoverError.TheVariants.{Fault, NotFormatted, BadHeader, TooSmall, NoControl, BadControl, OldVersion, Worn, BadRecord, IllegalLog, NoMemory}
-use Rattle.recover.specs.declared.heap.OldHeap.{OldHeap}
-use Rattle.recover.specs.Heap.{AreFields, RefusesHeap}
+use Rattle.recover_heap.specs.declared.error.RecoverError.{RecoverError}
+use Rattle.recover_heap.specs.declared.error.RecoverError.TheVariants.{Fault, NotFormatted, BadHeader, TooSmall, NoControl, BadControl, OldVersion, Worn, BadRecord, IllegalLog, NoMemory}
+use Rattle.recover_heap.specs.declared.heap.OldHeap.{OldHeap}
+use Rattle.recover_heap.specs.Heap.{AreFields, RefusesHeap}
 use Rattle.recover.specs.Study.{AreUndone}
-use Rattle.recover.specs.Logs.{lanes_of}
+use Rattle.recover_heap.specs.Logs.{lanes_of}
 use Rattle.recover.specs.Reading.{Holds, RefusesLive}
 
 -- an image whose parts are known stands for what its fields take back

@@ -6,7 +6,7 @@ use Rattle.image_parts.specs.Control.{AreRows}
 use Rattle.image_parts.specs.Layout.{IsLayout}
 use Rattle.image_parts.specs.Rows.{IsRow, empty_row}
 use Rattle.undo_log.specs.StandsFor.{row_of}
-use Rattle.recover.specs.Logs.{records_of}
+use Rattle.recover_heap.specs.Logs.{records_of}
 use Rattle.recover.specs.Fits.{StudyLimitsLaw, StudyNumbersLaw}
 
 pub limits_of : StudyLimitsLaw

@@ -28,14 +28,14 @@ use Rattle.undo_log.proofs.Frames.{records_survive}
 use Rattle.undo_log.proofs.OneHeap.{one_span}
 use Rattle.recover.specs.declared.logged_image.LoggedImage.{LoggedImage}
 use Rattle.recover.specs.declared.studied.Study.{Study}
-use Rattle.recover.specs.Heap.{IsUndone}
-use Rattle.recover.specs.Logs.{AreLogs, lanes_of, logged_guard_in}
-use Rattle.recover.specs.Putting.{cell_ranges}
+use Rattle.recover_heap.specs.Heap.{IsUndone}
+use Rattle.recover_heap.specs.Logs.{AreLogs, lanes_of, logged_guard_in}
+use Rattle.recover_heap.specs.Putting.{cell_ranges}
 use Rattle.recover.specs.Reading.{HasFront, Holds}
 use Rattle.recover.specs.Study.{AreUndone, IsStudyOf, TransientFirstLaw, held_by}
-use Rattle.recover.proofs.HeapLemmas.{stored_needs}
-use Rattle.recover.proofs.HomeLemmas.{logged_agrees, logged_persistent}
-use Rattle.recover.proofs.PuttingLemmas.{cells_apart}
+use Rattle.recover_heap.proofs.HeapLemmas.{stored_needs}
+use Rattle.recover_heap.proofs.HomeLemmas.{logged_agrees, logged_persistent}
+use Rattle.recover_heap.proofs.PuttingLemmas.{cells_apart}
 use Rattle.recover.proofs.StudyLemmas.{stands_for}
 
 -- the ranges lie apart from the header, the guard rows and the lanes' areas

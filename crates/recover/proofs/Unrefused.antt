@@ -18,14 +18,14 @@ use Rattle.image_parts.specs.declared.slot.Slot.{Slot}
 use Rattle.image_parts.proofs.Reading.{header_is_read, guards_are_read}
 use Rattle.undo_log.specs.Area.{HasRecord, HasRecords}
 use Rattle.undo_log.specs.StandsFor.{is_transient_in, row_of, HasLive}
-use Rattle.recover.specs.Logs.{AreLogs, IsBadAt, lanes_of, logged_guard_in}
+use Rattle.recover_heap.specs.Logs.{AreLogs, IsBadAt, lanes_of, logged_guard_in}
 use Rattle.recover.specs.Reading.{HasFront, HasLayout, HasControl, HasStrayMark, RefusesRows, RefusesImage}
 use Rattle.recover.specs.Recovery.{StudiedLaw}
 use Rattle.recover_logs.specs.Replay.{IsStuckAt, Replays}
 use Rattle.recover.specs.Settled.{AreLegal, IsIllegalAt, Stuck, Restless, Crossing}
 use Rattle.recover.specs.Study.{IsStudyOf}
-use Rattle.recover.specs.declared.error.RecoverError.{RecoverError}
-use Rattle.recover.specs.declared.error.RecoverError.TheVariants.{Fault, NotFormatted, BadHeader, TooSmall, NoControl, BadControl, OldVersion, Worn, BadRecord, IllegalLog, NoMemory}
+use Rattle.recover_heap.specs.declared.error.RecoverError.{RecoverError}
+use Rattle.recover_heap.specs.declared.error.RecoverError.TheVariants.{Fault, NotFormatted, BadHeader, TooSmall, NoControl, BadControl, OldVersion, Worn, BadRecord, IllegalLog, NoMemory}
 use Rattle.recover.specs.declared.studied.Study.{Study}
 use Rattle.recover.proofs.OneReplay.{one_replay}
 use Rattle.recover.proofs.RecoveryLemmas.{same_layout}

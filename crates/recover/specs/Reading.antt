@@ -13,9 +13,9 @@ use Rattle.image_parts.specs.declared.guard_row.GuardRow.{GuardRow}
 use Rattle.image_parts.specs.declared.error.ControlError.TheVariants as control_error
 use Rattle.undo_log.specs.StandsFor.{is_transient_in}
 use Rattle.recover.specs.declared.logged_image.LoggedImage.{LoggedImage}
-use Rattle.recover.specs.declared.error.RecoverError.{RecoverError}
-use Rattle.recover.specs.declared.error.RecoverError.TheVariants.{Fault, NotFormatted, BadHeader, TooSmall, NoControl, BadControl, OldVersion, Worn, BadRecord, IllegalLog, NoMemory}
-use Rattle.recover.specs.Logs.{AreLogs, RefusesLogs, lanes_of, logged_guard_in}
+use Rattle.recover_heap.specs.declared.error.RecoverError.{RecoverError}
+use Rattle.recover_heap.specs.declared.error.RecoverError.TheVariants.{Fault, NotFormatted, BadHeader, TooSmall, NoControl, BadControl, OldVersion, Worn, BadRecord, IllegalLog, NoMemory}
+use Rattle.recover_heap.specs.Logs.{AreLogs, RefusesLogs, lanes_of, logged_guard_in}
 use Rattle.recover.specs.Settled.{AreLegal, IsIllegalAt}
 
 -- the image has the header of this layout, and room for it

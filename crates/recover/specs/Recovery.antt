@@ -12,15 +12,15 @@ use Rattle.image_parts.specs.declared.control.Control.{Control}
 use Rattle.image_parts.specs.declared.guard_row.GuardRow.{GuardRow}
 use Rattle.image_parts.specs.declared.layout.Layout.{Layout}
 use Rattle.image_parts.specs.declared.slot.Slot.{Slot}
-use Rattle.recover.specs.declared.error.RecoverError.{RecoverError}
-use Rattle.recover.specs.declared.error.RecoverError.TheVariants.{Fault, NotFormatted, BadHeader, TooSmall, NoControl, BadControl, OldVersion, Worn, BadRecord, IllegalLog, NoMemory}
+use Rattle.recover_heap.specs.declared.error.RecoverError.{RecoverError}
+use Rattle.recover_heap.specs.declared.error.RecoverError.TheVariants.{Fault, NotFormatted, BadHeader, TooSmall, NoControl, BadControl, OldVersion, Worn, BadRecord, IllegalLog, NoMemory}
 use Rattle.recover.specs.declared.report.Report.{Report}
 use Rattle.recover.specs.declared.studied.Study.{Study}
 use Rattle.recover.specs.declared.versions.Versions.{Versions}
 use Rattle.recover.specs.declared.versions.Versions.TheVariants.{Current, Both}
 use Rattle.recover.specs.Ending.{end_calls}
-use Rattle.recover.specs.Logs.{lanes_of, records_of}
-use Rattle.recover.specs.Putting.{put_calls}
+use Rattle.recover_heap.specs.Logs.{lanes_of, records_of}
+use Rattle.recover_heap.specs.Putting.{put_calls}
 use Rattle.recover.specs.Reading.{HasControl, IsOfOldVersion, RefusesImage}
 use Rattle.recover.specs.Study.{AreUndone, IsStudyOf}
 

@@ -8,8 +8,8 @@ use Rattle.undo_log.specs.StandsFor.{row_of, settled_of}
 use Rattle.recover_logs.specs.Replay.{Replays, IsStuckAt}
 use Rattle.recover_logs.specs.Settled as logs
 pub use Rattle.recover_logs.specs.Settled.{first_of, HasAt, TakesUnsettled, IsLeastUnsettled}
-use Rattle.recover.specs.declared.error.RecoverError.{RecoverError}
-use Rattle.recover.specs.declared.error.RecoverError.TheVariants.{IllegalLog, NoMemory}
+use Rattle.recover_heap.specs.declared.error.RecoverError.{RecoverError}
+use Rattle.recover_heap.specs.declared.error.RecoverError.TheVariants.{IllegalLog, NoMemory}
 
 -- how many sections of the lane the control keeps
 abbrev pub kept_of : List LaneRow → (lane : ℕ) → ℕ

@@ -11,8 +11,8 @@ use Rattle.recover.specs.declared.logged_image.LoggedImage.{LoggedImage}
 use Rattle.recover.specs.declared.report.Report.{Report}
 use Rattle.recover.specs.declared.studied.Study.{Study}
 use Rattle.recover.specs.Dropping.{AreDropped}
-use Rattle.recover.specs.Heap.{AreFields, IsUndone}
-use Rattle.recover.specs.Logs.{lanes_of, logged_guard_in}
+use Rattle.recover_heap.specs.Heap.{AreFields, IsUndone}
+use Rattle.recover_heap.specs.Logs.{lanes_of, logged_guard_in}
 use Rattle.recover.specs.Reading.{Holds}
 use Rattle.recover_logs.specs.Replay.{Replays}
 

@@ -6,13 +6,13 @@ ghost use Rattle.undo_log.specs.StandsFor.{settled_of};
 ghost use Rattle.recover_logs.specs.Logs.{guard_in as guard_among, count_of};
 ghost use Rattle.recover_logs.specs.Replay.{Replays};
 ghost use Rattle.recover_logs.specs.Tables.{IsLow, log_of};
-ghost use Rattle.recover.specs.Logs.{AreGuards, AreLoggable, lanes_of, logged_guard as logged, logged_guard_in};
+ghost use Rattle.recover_heap.specs.Logs.{AreGuards, AreLoggable, lanes_of, logged_guard as logged, logged_guard_in};
 ghost use Rattle.recover.specs.Settled.{AreLegal, RefusesLegal, kept_of};
-ghost use Rattle.recover.specs.declared.error.RecoverError.TheVariants.{NoMemory};
+ghost use Rattle.recover_heap.specs.declared.error.RecoverError.TheVariants.{NoMemory};
 
-use crate::error::RecoverError;
 use heap_model::{ObjectId, UndoRecord};
 use image::{GuardRow, LaneRow, Layout};
+use recover_heap::RecoverError;
 use recover_logs::{LogsError, SettledCount, Step};
 use std::alloc::Global;
 

@@ -3,15 +3,14 @@ ghost use Rattle.std.specs.Prelude.{◌≡◌, ◌+◌, ◌<◌, ◌≤◌, ℕ,
 ghost use Rattle.heap_model.specs.Cuts.{IsStable};
 ghost use Rattle.image_parts.specs.Control.{AreRows};
 ghost use Rattle.image_parts.specs.Layout.{IsLayout};
-ghost use Rattle.recover.specs.Logs.{AreGuards, AreLoggable, lanes_of, logged_guard_in};
+ghost use Rattle.recover_heap.specs.Logs.{AreGuards, AreLoggable, lanes_of, logged_guard_in};
 ghost use Rattle.recover_logs.specs.Replay.{Replays};
 ghost use Rattle.recover.specs.Settled.{AreLegal};
 ghost use Rattle.recover_logs.specs.Tables.{log_of};
 ghost use Rattle.recover.specs.Dropping.{AreDropped, IsWhy, IsEntryOf};
 ghost use Rattle.recover.specs.Live.{AddsReports, IsReady, live_at, trimmed_at};
-ghost use Rattle.recover.specs.declared.error.RecoverError.TheVariants.{NoMemory};
+ghost use Rattle.recover_heap.specs.declared.error.RecoverError.TheVariants.{NoMemory};
 
-use crate::error::RecoverError;
 use crate::graph_of::graph_of;
 use crate::live_counts::live_counts;
 use crate::live_sections::LiveSections;
@@ -19,6 +18,7 @@ use crate::report::{Dropped, Why};
 use dependence::Graph;
 use heap_model::{Lane, UndoRecord};
 use image::{GuardRow, LaneRow, Layout};
+use recover_heap::RecoverError;
 use recover_logs::Step;
 use std::alloc::Global;
 

@@ -8,12 +8,11 @@ ghost use Rattle.image_parts.specs.Layout.{IsLayout};
 ghost use Rattle.image_parts.specs.Slots.{Shows, other};
 ghost use Rattle.image_parts.specs.declared.control.Control.{Control as Content};
 ghost use Rattle.recover.specs.Ending.{AlwaysShows, IsEnding, end_calls};
-ghost use Rattle.recover.specs.declared.error.RecoverError.TheVariants.{Fault};
+ghost use Rattle.recover_heap.specs.declared.error.RecoverError.TheVariants.{Fault};
 
-use crate::device::sync;
-use crate::error::RecoverError;
 use block_disk::Disk;
 use image::{LaneRow, Layout, Slot, commit_control};
+use recover_heap::{RecoverError, sync};
 
 /// Makes what was put back durable, and then a control with empty logs and the next sequence, and answers its slot.
 ///

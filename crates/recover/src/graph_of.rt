@@ -4,10 +4,10 @@ ghost use Rattle.dependence.specs.Next.{IsObjectBelow};
 ghost use Rattle.recover.specs.Dropping.{acts_in};
 ghost use Rattle.recover.specs.Live.{ArePushable, IsGraphOf};
 ghost use Rattle.recover_logs.specs.Tables.{log_of};
-ghost use Rattle.recover.specs.declared.error.RecoverError.TheVariants.{NoMemory};
+ghost use Rattle.recover_heap.specs.declared.error.RecoverError.TheVariants.{NoMemory};
 
-use crate::error::RecoverError;
 use dependence::Graph;
+use recover_heap::RecoverError;
 use recover_logs::Step;
 use std::alloc::Global;
 

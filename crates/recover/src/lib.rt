@@ -10,20 +10,16 @@
 #![tactic(auto)]
 
 mod check;
-mod device;
 mod dropping;
 mod ending;
-mod error;
 mod findings;
 mod front;
 mod graph_of;
-mod heap;
 mod laws;
 mod live_counts;
 mod live_sections;
 mod logged_image;
 mod logs;
-mod putting;
 mod reading;
 mod recovering;
 mod replayed;
@@ -33,8 +29,8 @@ mod studying;
 mod version;
 mod versions;
 
-pub use error::RecoverError;
 pub use laws::{one_study_law, same_heap_law, studied_law, study_law, transient_law};
+pub use recover_heap::RecoverError;
 pub use recovering::{recover, recover_of, upgrade};
 pub use report::{Dropped, Report, Why};
 pub use studied::Study;

@@ -2,7 +2,7 @@
 ghost use Rattle.std.specs.Prelude.{◌≡◌, ◌<◌, ◌≤◌, ℕ, length, take};
 ghost use Rattle.undo_log.specs.StandsFor.{row_of, settled_of};
 ghost use Rattle.image_parts.specs.Rows.{empty_row};
-ghost use Rattle.recover.specs.Logs.{records_of, lanes_of};
+ghost use Rattle.recover_heap.specs.Logs.{records_of, lanes_of};
 ghost use Rattle.heap_model.specs.Sections.{ended};
 ghost use Rattle.recover.specs.Settled.{IsAtRest};
 ghost use Rattle.recover_logs.specs.Tally.{FreesHeld, acts_of};

@@ -6,13 +6,13 @@ ghost use Rattle.image_parts.specs.Control.{AreRows};
 ghost use Rattle.image_parts.specs.Layout.{IsLayout, size_of};
 ghost use Rattle.image_parts.specs.Rows.{IsRow};
 ghost use Rattle.undo_log.specs.Area.{HasSpan};
-ghost use Rattle.recover.specs.Logs.{AreLogs, RefusesLane, RefusesLogs};
-ghost use Rattle.recover.specs.declared.error.RecoverError.TheVariants.{Fault};
+ghost use Rattle.recover_heap.specs.Logs.{AreLogs, RefusesLane, RefusesLogs};
+ghost use Rattle.recover_heap.specs.declared.error.RecoverError.TheVariants.{Fault};
 
-use crate::error::RecoverError;
 use block_disk::Disk;
 use heap_model::{Lane, UndoRecord};
 use image::{LaneRow, Layout};
+use recover_heap::RecoverError;
 use std::alloc::Global;
 use undo_log::LogError;
 

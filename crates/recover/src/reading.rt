@@ -5,14 +5,13 @@ ghost use Rattle.block_disk.specs.Since.{HasCauseSince};
 ghost use Rattle.image_parts.specs.Guards.{HasGuards};
 ghost use Rattle.image_parts.specs.Layout.{IsLayout, size_of};
 ghost use Rattle.image_parts.specs.Slots.{Shows};
-ghost use Rattle.recover.specs.Logs.{lanes_of, logged_guard_in};
+ghost use Rattle.recover_heap.specs.Logs.{lanes_of, logged_guard_in};
 ghost use Rattle.recover.specs.Reading.{HasControl, HasLayout, Holds, RefusesControl, RefusesFront, RefusesLayout, RefusesLive, RefusesRows};
 ghost use Rattle.recover_logs.specs.Replay.{Replays};
 ghost use Rattle.recover_logs.specs.Tables.{IsLow, log_of};
-ghost use Rattle.recover.specs.declared.error.RecoverError.TheVariants.{Fault};
+ghost use Rattle.recover_heap.specs.declared.error.RecoverError.TheVariants.{Fault};
 
 use crate::check::check_logs;
-use crate::error::RecoverError;
 use crate::front::Front;
 use crate::logged_image::LoggedImage;
 use crate::logs::read_logs;
@@ -23,6 +22,7 @@ use image::{
     Control, ControlError, GuardRow, GuardsError, HeaderError, Layout, Slot, choose_control,
     read_guards, read_header,
 };
+use recover_heap::RecoverError;
 use std::alloc::Global;
 
 /// Reads what the image on the device, of which nothing has to be known, holds before its lanes' areas, whichever its

@@ -6,13 +6,10 @@ ghost use Rattle.block_disk.specs.Since.{HasCauseSince, HasFailedSince};
 ghost use Rattle.recover.specs.Reading.{IsOfOldVersion};
 ghost use Rattle.recover.specs.Recovery.{EndsOnTheWay, IsCutOff, IsLeftAlone, IsMadeBy, IsOnTheWay, IsRecoveredFrom, IsRecovery, IsTooOld, RefusesOf, RefusesRecovery, RefusesUpgrade, StaysOnTheWay, finished_on};
 ghost use Rattle.recover.specs.Study.{AreUndoneOf, IsStudyOf};
-ghost use Rattle.recover.specs.declared.error.RecoverError.TheVariants.{Fault};
+ghost use Rattle.recover_heap.specs.declared.error.RecoverError.TheVariants.{Fault};
 
-use crate::device::sync;
 use crate::ending::end_recovery;
-use crate::error::RecoverError;
 use crate::findings::Findings;
-use crate::putting::put_back;
 use crate::reading::read_front;
 use crate::report::Report;
 use crate::studied::Study;
@@ -21,6 +18,7 @@ use crate::version::test_version;
 use crate::versions::Versions;
 use block_disk::Disk;
 use image::Recovered;
+use recover_heap::{RecoverError, put_back, sync};
 use std::alloc::Global;
 
 /// Recovers the image on the device, of which nothing has to be known: puts the old values back, and then commits a

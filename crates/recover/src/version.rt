@@ -1,12 +1,12 @@
 //! The version of an image, by its control.
 ghost use Rattle.std.specs.Prelude.{◌≡◌, ◌≢◌, ℕ, MatchResult, IfErr, false, true};
 ghost use Rattle.undo_log.specs.StandsFor.{is_transient_in};
-ghost use Rattle.recover.specs.declared.error.RecoverError.TheVariants.{BadControl, OldVersion};
+ghost use Rattle.recover_heap.specs.declared.error.RecoverError.TheVariants.{BadControl, OldVersion};
 ghost use Rattle.recover.specs.declared.versions.Versions.TheVariants.{Current};
 
-use crate::error::RecoverError;
 use crate::versions::Versions;
 use image::{Control, GuardRow, OLD_VERSION};
+use recover_heap::RecoverError;
 
 /// Tests that a control of version 1, which is from before there were transient fields, stands with no marked row.
 pub fn test_marks(control: &Control, guards: &[GuardRow]) -> Result<(), RecoverError>

@@ -5,8 +5,8 @@ use Rattle.script_lines.specs.declared.error.ScriptErrorKind.{ScriptErrorKind}
 use Rattle.script_lines.specs.declared.error.ScriptErrorKind.TheVariants as kinds
 use Rattle.script_lines.specs.declared.reader.Ending.{Ending}
 use Rattle.script_lines.specs.declared.reader.Ending.TheVariants as endings
-use Rattle.recover.specs.declared.error.RecoverError.{RecoverError}
-use Rattle.recover.specs.declared.error.RecoverError.TheVariants as recover
+use Rattle.recover_heap.specs.declared.error.RecoverError.{RecoverError}
+use Rattle.recover_heap.specs.declared.error.RecoverError.TheVariants as recover
 use Rattle.script_machine.specs.declared.answer.Answer.{Answer}
 use Rattle.script_machine.specs.declared.answer.Answer.TheVariants as answers
 use Rattle.script_machine.specs.declared.answer.Refusal.{Refusal}

@@ -17,7 +17,7 @@ use Rattle.image_file.specs.declared.error.NamedFault.{NamedFault}
 use Rattle.image_file.specs.declared.error.NamedFault.TheVariants as named
 use Rattle.recover.specs.Recovery.{RefusesOf}
 use Rattle.recover.specs.Reading.{RefusesImage}
-use Rattle.recover.specs.declared.error.RecoverError.TheVariants as recover
+use Rattle.recover_heap.specs.declared.error.RecoverError.TheVariants as recover
 use Rattle.recover.specs.declared.versions.Versions.TheVariants.{Current}
 use Rattle.script_lines.specs.declared.error.ScriptError.{ScriptError}
 use Rattle.script_lines.specs.declared.reader.Ending.{Ending}

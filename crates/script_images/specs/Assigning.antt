@@ -16,8 +16,8 @@ use Rattle.image_file.specs.declared.error.NamedFault.TheVariants as named
 use Rattle.image_schema.specs.OfImage.{named_as}
 use Rattle.recover.specs.Reading.{RefusesImage}
 use Rattle.recover.specs.Study.{IsStudyOf}
-use Rattle.recover.specs.declared.error.RecoverError.{RecoverError}
-use Rattle.recover.specs.declared.error.RecoverError.TheVariants.{NoMemory}
+use Rattle.recover_heap.specs.declared.error.RecoverError.{RecoverError}
+use Rattle.recover_heap.specs.declared.error.RecoverError.TheVariants.{NoMemory}
 use Rattle.recover.specs.declared.studied.Study.{Study}
 use Rattle.script_lines.specs.Lines.{lines_of}
 use Rattle.script_lines.specs.declared.reader.Ending.TheVariants.{Whole}

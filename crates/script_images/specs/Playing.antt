@@ -11,7 +11,7 @@ use Rattle.image_file.specs.declared.error.NamedFault.TheVariants as named
 use Rattle.image_schema.specs.OfImage.{named_as}
 use Rattle.recover.specs.Reading.{RefusesImage}
 use Rattle.recover.specs.Recovery.{RefusesOf}
-use Rattle.recover.specs.declared.error.RecoverError.TheVariants as recover
+use Rattle.recover_heap.specs.declared.error.RecoverError.TheVariants as recover
 use Rattle.recover.specs.declared.studied.Study.{Study}
 use Rattle.recover.specs.declared.versions.Versions.TheVariants.{Current}
 use Rattle.script_lines.specs.Endings.{IsWhole}

@@ -2,8 +2,8 @@
 use Rattle.script_lines.specs.declared.error.ScriptError.{ScriptError}
 use Rattle.script_lines.specs.declared.error.ScriptErrorKind.{ScriptErrorKind}
 use Rattle.script_lines.specs.declared.error.ScriptErrorKind.TheVariants as kinds
-use Rattle.recover.specs.declared.error.RecoverError.{RecoverError}
-use Rattle.recover.specs.declared.error.RecoverError.TheVariants as recover
+use Rattle.recover_heap.specs.declared.error.RecoverError.{RecoverError}
+use Rattle.recover_heap.specs.declared.error.RecoverError.TheVariants as recover
 use Rattle.std.specs.Prelude.{Option, None, Some, Result, Ok, Err}
 use Rattle.script_machine.specs.declared.answer.Answer.{Answer}
 use Rattle.script_machine.specs.declared.answer.Answer.TheVariants.{Refused}

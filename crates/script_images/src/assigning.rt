@@ -7,7 +7,7 @@ ghost use Rattle.image_schema.specs.OfImage.{IsStudied};
 ghost use Rattle.script_images.specs.Assigning.{HasAssignments, HasHeap, HasSection, IsAssigned, IsAssignment, IsPlanned, IsPlannedOf, IsPlayedPlan, IsSetOver, IsUnchecked, Misses, NoAssignment, RefusesPlan, RefusesPlayed, RefusesStudied, RefusesTexts, RefusesThere, RefusesToSet, SetsAt, SetsHeld, SetsThere, acknowledging, exiting, storing, told_of_miss};
 ghost use Rattle.script_images.specs.declared.error.RunFault.TheVariants as runs;
 ghost use Rattle.script_images.specs.declared.error.SetFault.TheVariants.{Run};
-ghost use Rattle.recover.specs.declared.error.RecoverError.TheVariants.{NoMemory};
+ghost use Rattle.recover_heap.specs.declared.error.RecoverError.TheVariants.{NoMemory};
 
 use crate::error::{RunFault, SetFault};
 use crate::opening::{refused, schema_for};

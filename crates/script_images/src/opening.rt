@@ -7,7 +7,7 @@ ghost use Rattle.image_file.specs.declared.error.NamedFault.TheVariants.{Image};
 ghost use Rattle.image_schema.specs.OfImage.{IsStudied, named_as};
 ghost use Rattle.script_images.specs.Playing.{IsDown, IsNotNamed, IsNotRecovered, IsOver, IsRecovered, RefusesOver};
 ghost use Rattle.script_images.specs.Schemas.{IsNamed, IsSchemaOf};
-ghost use Rattle.recover.specs.declared.error.RecoverError.TheVariants.{NoMemory};
+ghost use Rattle.recover_heap.specs.declared.error.RecoverError.TheVariants.{NoMemory};
 ghost use Rattle.script_play.specs.Texts.{text_of};
 
 use crate::firsts::begin_as;

@@ -36,7 +36,7 @@ use Rattle.heap_model.specs.declared.store_error.StoreError.{StoreError}
 use Rattle.recover.specs.Reading as reading
 use Rattle.recover.specs.Recovery.{IsTooOld}
 use Rattle.recover.specs.Study.{IsStudyOf}
-use Rattle.recover.specs.declared.error.RecoverError.{RecoverError}
+use Rattle.recover_heap.specs.declared.error.RecoverError.{RecoverError}
 use Rattle.recover.specs.declared.studied.Study.{Study}
 use Rattle.recover.specs.declared.versions.Versions.{Versions}
 use Rattle.recover.specs.declared.versions.Versions.TheVariants.{Current, Both}

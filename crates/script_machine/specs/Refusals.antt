@@ -5,8 +5,8 @@ use Rattle.script_monitors.specs.declared.monitors.MonitorRefusal.{MonitorRefusa
 use Rattle.script_monitors.specs.declared.monitors.MonitorRefusal.TheVariants as monitor
 use Rattle.heap_model.specs.declared.store_error.StoreError.{StoreError}
 use Rattle.heap_model.specs.declared.store_error.StoreError.TheVariants as store
-use Rattle.recover.specs.declared.error.RecoverError.{RecoverError}
-use Rattle.recover.specs.declared.error.RecoverError.TheVariants as image
+use Rattle.recover_heap.specs.declared.error.RecoverError.{RecoverError}
+use Rattle.recover_heap.specs.declared.error.RecoverError.TheVariants as image
 use Rattle.script_declarations.specs.declared.declared.Declared.{Declared}
 use Rattle.script_declarations.specs.declared.declared.Declared.TheVariants as declared
 use Rattle.script_declarations.specs.declared.declared.DeclarationRefusal.TheVariants as declining

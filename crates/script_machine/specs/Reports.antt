@@ -11,7 +11,7 @@ use Rattle.heap_model.specs.Past.{no_past}
 use Rattle.durable.specs.Store.{Parts}
 use Rattle.image_parts.specs.Recovered as image
 use Rattle.recover.specs.declared.report.Report as recover
-use Rattle.recover.specs.declared.error.RecoverError.{RecoverError}
+use Rattle.recover_heap.specs.declared.error.RecoverError.{RecoverError}
 use Rattle.recover.specs.declared.studied.Study.{Study}
 use Rattle.recover.specs.declared.versions.Versions.{Versions}
 use Rattle.recover.specs.Recovery.{IsRecovery, IsOnTheWay, RefusesOf}

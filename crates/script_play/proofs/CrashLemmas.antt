@@ -26,7 +26,7 @@ use Rattle.recover.specs.Reading.{Holds}
 use Rattle.recover.specs.Recovery.{IsRecovery, IsWorn, RefusesRecovery}
 use Rattle.recover.specs.Study.{held_by}
 use Rattle.law_survival.specs.WholeRun.{CannotRecover, MayBeLeft}
-use Rattle.recover.specs.declared.error.RecoverError.{RecoverError}
+use Rattle.recover_heap.specs.declared.error.RecoverError.{RecoverError}
 use Rattle.recover.specs.declared.logged_image.LoggedImage.{LoggedImage}
 use Rattle.law_survival.proofs.WholeRuns.{Keeps, keeps}
 use Rattle.script_machine.specs.declared.answer.Answer.{Answer}

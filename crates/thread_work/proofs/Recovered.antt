@@ -6,7 +6,7 @@ use Rattle.block_disk.proofs.Failures.{moments_trans}
 use Rattle.image_parts.specs.Calls.{Call, Write, Sync, after, after_one}
 use Rattle.image_parts.specs.Recovered.{Parts}
 use Rattle.recover.specs.Ending.{end_calls}
-use Rattle.recover.specs.Putting.{put_calls}
+use Rattle.recover_heap.specs.Putting.{put_calls}
 use Rattle.recover.specs.Recovery.{IsMadeBy, IsRecovery, put_back_on}
 use Rattle.recover.specs.Study.{IsStudyOf}
 use Rattle.recover.specs.declared.report.Report.{Report}

@@ -9,8 +9,8 @@ use Rattle.monitor.specs.Seats.{Home}
 use Rattle.recover.specs.Recovery.{RefusesRecovery}
 use Rattle.law_survival.specs.Taken.{IsTaken}
 use Rattle.law_survival.specs.WholeRun.{CannotRecover}
-use Rattle.recover.specs.declared.error.RecoverError.{RecoverError}
-use Rattle.recover.specs.declared.error.RecoverError.TheVariants as recover
+use Rattle.recover_heap.specs.declared.error.RecoverError.{RecoverError}
+use Rattle.recover_heap.specs.declared.error.RecoverError.TheVariants as recover
 use Rattle.thread_heap.specs.Closed.{IsClosed}
 use Rattle.thread_heap.specs.Joined.{IsHelping}
 use Rattle.thread_steps.specs.Views.{plan}

@@ -15,7 +15,7 @@ use Rattle.image_parts.specs.declared.layout.Layout.{Layout}
 use Rattle.recover.specs.Reading.{IsOfOldVersion}
 use Rattle.recover.specs.Recovery.{IsCutOff, IsOnTheWay, IsRecovery, OneStudyLaw, StudiedLaw}
 use Rattle.recover.specs.Study.{IsStudyOf}
-use Rattle.recover.specs.declared.error.RecoverError.TheVariants.{OldVersion}
+use Rattle.recover_heap.specs.declared.error.RecoverError.TheVariants.{OldVersion}
 use Rattle.recover.specs.declared.report.Report.{Report}
 use Rattle.recover.specs.declared.studied.Study.{Study}
 use Rattle.recover.specs.declared.versions.Versions.TheVariants.{Current}

@@ -11,8 +11,8 @@ use Rattle.monitor.specs.Seats.{Home}
 use Rattle.recover.specs.Reading.{IsOfOldVersion, RefusesImage}
 use Rattle.recover.specs.Recovery.{IsCutOff, IsRecovery, IsWorn}
 use Rattle.recover.specs.Study.{IsStudyOf}
-use Rattle.recover.specs.declared.error.RecoverError.{RecoverError}
-use Rattle.recover.specs.declared.error.RecoverError.TheVariants as recover
+use Rattle.recover_heap.specs.declared.error.RecoverError.{RecoverError}
+use Rattle.recover_heap.specs.declared.error.RecoverError.TheVariants as recover
 use Rattle.recover.specs.declared.report.Report.{Report}
 use Rattle.recover.specs.declared.studied.Study.{Study}
 use Rattle.session.specs.declared.session.Session.{Session}

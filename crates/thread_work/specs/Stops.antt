@@ -7,8 +7,8 @@ use Rattle.image_parts.specs.Recovered.{Parts}
 use Rattle.image_parts.specs.declared.layout.Layout.{Layout}
 use Rattle.monitor.specs.Seats.{Home}
 use Rattle.recover.specs.Recovery.{IsWorn, RefusesRecovery}
-use Rattle.recover.specs.declared.error.RecoverError.{RecoverError}
-use Rattle.recover.specs.declared.error.RecoverError.TheVariants as recover
+use Rattle.recover_heap.specs.declared.error.RecoverError.{RecoverError}
+use Rattle.recover_heap.specs.declared.error.RecoverError.TheVariants as recover
 use Rattle.thread_heap.specs.Closed.{IsClosed}
 use Rattle.session.specs.declared.session.Session.{Session}
 use Rattle.heap_model.specs.declared.store_error.StoreError.{StoreError}

@@ -14,8 +14,8 @@ use Rattle.host_heap.specs.declared.error.RoundError.{RoundError}
 use Rattle.host_heap.specs.declared.error.RoundError.TheVariants as rounds
 use Rattle.image_parts.specs.declared.error.ImageError.{ImageError}
 use Rattle.image_parts.specs.declared.error.ImageError.TheVariants as image
-use Rattle.recover.specs.declared.error.RecoverError.{RecoverError}
-use Rattle.recover.specs.declared.error.RecoverError.TheVariants as recover
+use Rattle.recover_heap.specs.declared.error.RecoverError.{RecoverError}
+use Rattle.recover_heap.specs.declared.error.RecoverError.TheVariants as recover
 use Rattle.heap_model.specs.declared.store_error.StoreError.{StoreError}
 use Rattle.heap_model.specs.declared.store_error.StoreError.TheVariants as store
 use Rattle.trim_helper.specs.declared.close_error.CloseError.TheVariants as close

@@ -8,7 +8,7 @@ use Rattle.host_heap.specs.Opening.{HasRings, IsFound, RefusesOpening}
 use Rattle.host_heap.specs.declared.error.HostError.{HostError}
 use Rattle.host_heap.specs.declared.error.HostError.TheVariants as host
 use Rattle.image_parts.specs.declared.layout.Layout.{Layout}
-use Rattle.recover.specs.declared.error.RecoverError.TheVariants as recover
+use Rattle.recover_heap.specs.declared.error.RecoverError.TheVariants as recover
 use Rattle.recover.specs.declared.report.Dropped.{Dropped as Section}
 use Rattle.recover.specs.declared.report.Report.{Report}
 use Rattle.recover.specs.declared.report.Why.{Why}

@@ -1,6 +1,6 @@
 use Rattle.std.proofs.Common.{ℕ, ◌≡◌, ◌+◌, ◌<◌, ◌++◌, length, reverse, sym, ap, subst, ◌∙◌, List, arith, length-append}
 use Rattle.heap_model.specs.declared.record.UndoRecord.{UndoRecord}
-use Rattle.recover.specs.Logs.{records_of}
+use Rattle.recover_heap.specs.Logs.{records_of}
 use Rattle.inspect.specs.declared.numbering.Numbering.{Numbering}
 use Rattle.inspect.specs.Sections.{told, by_lane, numbering_of}
 use Rattle.inspect.specs.Links.{Release, Tells, released_by}

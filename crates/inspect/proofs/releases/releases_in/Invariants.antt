@@ -1,5 +1,5 @@
 use Rattle.std.proofs.Common.{ℕ, reverse}
-use Rattle.recover.specs.Logs.{records_of}
+use Rattle.recover_heap.specs.Logs.{records_of}
 use Rattle.inspect.specs.Sections.{by_lane, told, numbering_of}
 use Rattle.inspect.specs.Links.{Tells, released_by}
 use Rattle.inspect.proofs.releases.releases_in.Given as goal

@@ -2,7 +2,7 @@ use Rattle.std.proofs.Common.{◌≡◌, reverse, ap, subst, ◌∙◌, List, On
 use Rattle.std.specs.List.{flat_map}
 use Rattle.std.specs.Io.KnownBytes.{Appends}
 use Rattle.heap_model.specs.declared.record.UndoRecord.{UndoRecord}
-use Rattle.recover.specs.Logs.{records_of}
+use Rattle.recover_heap.specs.Logs.{records_of}
 use Rattle.inspect.specs.declared.numbering.Numbering.{Numbering}
 use Rattle.inspect.specs.Written.{AppendsPart}
 use Rattle.inspect.specs.Sections.{numbering_of, live_sections}

@@ -10,9 +10,9 @@ use Rattle.recover_logs.specs.Replay.{Replays}
 use Rattle.recover_logs.specs.Settled as logs
 use Rattle.recover_logs.specs.Tables.{log_of}
 use Rattle.recover_logs.specs.declared.settled_count.SettledCount.{SettledCount}
-use Rattle.recover.specs.Logs.{lanes_of, logged_guard_in, records_of}
+use Rattle.recover_heap.specs.Logs.{lanes_of, logged_guard_in, records_of}
 use Rattle.recover.specs.Settled.{IsIllegalAt, kept_of}
-use Rattle.recover.proofs.HomeLemmas.{named_low}
+use Rattle.recover_heap.proofs.HomeLemmas.{named_low}
 use Rattle.recover.proofs.LegalLemmas.{illegal_at}
 use Rattle.recover.proofs.LogLemmas.{row_is}
 use Rattle.recover.proofs.check.check_logs.Goals as goal

@@ -1,7 +1,7 @@
 use Rattle.std.proofs.Common.{ℕ, ◌≡◌, ◌<◌, ◌≤◌, length}
 use Rattle.std.specs.Prelude.{vec_capacity}
 use Rattle.recover_logs.specs.Logs as logs
-use Rattle.recover.specs.Logs.{logged_guard_in}
+use Rattle.recover_heap.specs.Logs.{logged_guard_in}
 use Rattle.recover.proofs.check.guarding_objects.Given as goal
 
 abbrev pub invariant-loop-row : goal.invariant-loop-row

@@ -1,5 +1,5 @@
 use Rattle.std.proofs.Common.{◌≡◌}
-use Rattle.recover.specs.Logs.{lanes_of}
+use Rattle.recover_heap.specs.Logs.{lanes_of}
 use Rattle.recover.specs.Dropping.{unsettled_sections}
 use Rattle.recover.specs.Live.{AreReported}
 use Rattle.recover.proofs.dropping.dropped_sections.Given as goal

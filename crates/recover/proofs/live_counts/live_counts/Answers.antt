@@ -5,7 +5,7 @@ use Rattle.heap_model.specs.declared.record.UndoRecord.{UndoRecord}
 use Rattle.image_parts.specs.declared.lane_row.LaneRow.{LaneRow}
 use Rattle.undo_log.specs.StandsFor.{row_of, settled_of}
 use Rattle.recover.specs.declared.live_sections.LiveSections.{LiveSections}
-use Rattle.recover.specs.Logs.{records_of, lanes_of}
+use Rattle.recover_heap.specs.Logs.{records_of, lanes_of}
 use Rattle.recover.specs.Live.{IsLiveIn, IsLiveOf, live_at, nothing_live}
 use Rattle.recover.proofs.LiveLemmas.{live_in}
 use Rattle.recover.proofs.live_counts.live_counts.Goals as goal

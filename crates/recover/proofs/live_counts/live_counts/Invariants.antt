@@ -1,5 +1,5 @@
 use Rattle.std.proofs.Common.{ℕ, ◌≡◌, ◌<◌, ◌≤◌, length}
-use Rattle.recover.specs.Logs.{lanes_of}
+use Rattle.recover_heap.specs.Logs.{lanes_of}
 use Rattle.recover.specs.Live.{IsLiveIn, live_at, nothing_live}
 use Rattle.recover.proofs.live_counts.live_counts.Given as goal
 

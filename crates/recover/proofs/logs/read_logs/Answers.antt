@@ -8,7 +8,7 @@ use Rattle.image_parts.specs.declared.lane_row.LaneRow.{LaneRow}
 use Rattle.block_disk.proofs.Failures.{moments_trans}
 use Rattle.undo_log.specs.Area.{HasSpan}
 use Rattle.undo_log.specs.StandsFor.{row_of}
-use Rattle.recover.specs.Logs.{records_of, RefusesLane}
+use Rattle.recover_heap.specs.Logs.{records_of, RefusesLane}
 use Rattle.recover_logs.proofs.LaneLemmas.{records_before, records_new}
 use Rattle.recover.proofs.LogLemmas.{logs_are, row_is, refused_lane}
 use Rattle.recover.proofs.logs.read_logs.Goals as goal

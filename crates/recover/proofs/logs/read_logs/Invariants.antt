@@ -3,7 +3,7 @@ use Rattle.std.specs.Prelude.{vec_capacity}
 use Rattle.block_disk.specs.Device.{SameMoments}
 use Rattle.undo_log.specs.Area.{HasSpan}
 use Rattle.undo_log.specs.StandsFor.{row_of}
-use Rattle.recover.specs.Logs.{records_of}
+use Rattle.recover_heap.specs.Logs.{records_of}
 use Rattle.recover.proofs.logs.read_logs.Given as goal
 
 abbrev pub invariant-loop-lane : goal.invariant-loop-lane

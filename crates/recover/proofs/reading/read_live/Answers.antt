@@ -2,7 +2,7 @@ use Rattle.std.proofs.Common.{List, sym, subst, Vec, Global}
 use Rattle.std.proofs.lemmas.Result.{err_from_is_err_and}
 use Rattle.heap_model.specs.declared.record.UndoRecord.{UndoRecord}
 use Rattle.image_parts.specs.declared.guard_row.GuardRow.{GuardRow}
-use Rattle.recover.specs.Logs.{lanes_of, AreLoggable, logged_guard_in}
+use Rattle.recover_heap.specs.Logs.{lanes_of, AreLoggable, logged_guard_in}
 use Rattle.recover.specs.Settled.{RefusesLegal}
 use Rattle.recover.proofs.ReadingLemmas.{refused_logs, refused_legal, logs_loggable}
 use Rattle.recover.proofs.reading.read_live.Goals as goal

@@ -3,7 +3,7 @@ use Rattle.std.specs.Prelude.{slice_index}
 use Rattle.heap_model.specs.declared.ids.FieldId.{FieldId}
 use Rattle.block_disk.specs.Images.{ImageBut, LeavesOnly}
 use Rattle.image_parts.specs.Cells.{HasCell}
-use Rattle.recover.specs.Putting.{cell_ranges}
+use Rattle.recover_heap.specs.Putting.{cell_ranges}
 use Rattle.recover.proofs.SurvivalLemmas.{undone_below}
 use Rattle.recover.proofs.FinishLemmas.{put_on_the_way, put_shows, end_on_the_way, end_recovers}
 use Rattle.recover.proofs.recovering.finish.Goals as goal

@@ -1,8 +1,8 @@
 use Rattle.std.proofs.Common.{List, ◌<◌, ◌≤◌, length, sym, subst, arith, Vec, Global}
 use Rattle.heap_model.specs.declared.record.UndoRecord.{UndoRecord}
 use Rattle.undo_log.specs.StandsFor.{guard_in, settled_of}
-use Rattle.recover.specs.Heap.{IsUndone}
-use Rattle.recover.specs.Logs.{AreLoggable, lanes_of}
+use Rattle.recover_heap.specs.Heap.{IsUndone}
+use Rattle.recover_heap.specs.Logs.{AreLoggable, lanes_of}
 use Rattle.recover.proofs.ReadingLemmas.{logs_loggable}
 use Rattle.recover.proofs.StudyLemmas.{few_fields}
 use Rattle.recover.proofs.studying.report_on.Goals as goal

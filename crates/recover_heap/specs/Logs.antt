@@ -11,8 +11,8 @@ use Rattle.undo_log.specs.Area.{HasRecord, IsLoggable}
 use Rattle.undo_log.specs.Runs.{IsFull}
 use Rattle.undo_log.specs.StandsFor.{row_of, guard_in, HasLive}
 pub use Rattle.recover_logs.specs.Logs.{records_of, lanes_of}
-use Rattle.recover.specs.declared.error.RecoverError.{RecoverError}
-use Rattle.recover.specs.declared.error.RecoverError.TheVariants.{Fault, BadRecord, NoMemory}
+use Rattle.recover_heap.specs.declared.error.RecoverError.{RecoverError}
+use Rattle.recover_heap.specs.declared.error.RecoverError.TheVariants.{Fault, BadRecord, NoMemory}
 
 -- the object whose monitor the stores of the row's field need that logs keep; none where it is transient, as logs keep none of them
 abbrev pub logged_guard : GuardRow → Option ObjectId

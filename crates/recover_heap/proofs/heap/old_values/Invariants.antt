@@ -2,9 +2,9 @@ use Rattle.std.proofs.Common.{ℕ, ◌≡◌, ◌<◌, length, take, slice_index
 use Rattle.std.specs.Prelude.{slice_index_or}
 use Rattle.heap_model.specs.Log.{lane}
 use Rattle.undo_log.specs.StandsFor.{settled_of}
-use Rattle.recover.specs.Heap.{first_old}
+use Rattle.recover_heap.specs.Heap.{first_old}
 use Rattle.recover_logs.specs.Tables.{log_of}
-use Rattle.recover.proofs.heap.old_values.Given as goal
+use Rattle.recover_heap.proofs.heap.old_values.Given as goal
 
 abbrev pub invariant-loop-step : goal.invariant-loop-step
 invariant-loop-step l = record {

@@ -4,14 +4,14 @@ ghost use Rattle.block_disk.specs.Since.{HasCauseSince, LeavesBut};
 ghost use Rattle.image_parts.specs.Calls.{after};
 ghost use Rattle.image_parts.specs.Cells.{HasCell};
 ghost use Rattle.image_parts.specs.Layout.{size_of};
-ghost use Rattle.recover.specs.Putting.{cell_ranges, put_calls};
-ghost use Rattle.recover.specs.declared.error.RecoverError.TheVariants.{Fault};
+ghost use Rattle.recover_heap.specs.Putting.{cell_ranges, put_calls};
+ghost use Rattle.recover_heap.specs.declared.error.RecoverError.TheVariants.{Fault};
 
 use crate::device::put_value;
 use crate::error::RecoverError;
 use block_disk::Disk;
 use heap_model::FieldId;
-use image::Layout;
+use image_parts::Layout;
 
 /// Writes the home cell of each of these fields, in their order, with its value of the heap, which has values by field.
 /// Until the next sync that succeeds, a crash may leave any bytes in these cells; no other byte of any image changes.

@@ -1,10 +1,10 @@
 use Rattle.std.proofs.Common.{ℕ, ◌≡◌, ◌≢◌, ◌<◌, ◌∙◌, true, false, Option, Some, None, refl, Vec, Global, length, sym, ap, subst, inl, inr, arith}
 use Rattle.std.specs.Prelude.{is_some, slice_index_or}
 use Rattle.heap_model.specs.declared.ids.FieldId.{FieldId}
-use Rattle.recover.specs.Heap.{AreFields}
-use Rattle.recover.proofs.HeapLemmas.{fields_next}
-use Rattle.recover.proofs.heap.fields_with.Goals as goal
-use Rattle.recover.proofs.heap.fields_with.Goals.{then-is_some+in-Ok, else-is_some}
+use Rattle.recover_heap.specs.Heap.{AreFields}
+use Rattle.recover_heap.proofs.HeapLemmas.{fields_next}
+use Rattle.recover_heap.proofs.heap.fields_with.Goals as goal
+use Rattle.recover_heap.proofs.heap.fields_with.Goals.{then-is_some+in-Ok, else-is_some}
 
 some_is : (old : Option ℕ) → is_some old ≡ true → old ≢ None
 some_is old some e = let f : true ≡ false = sym some ∙ ap is_some e in cc

@@ -3,8 +3,8 @@ use Rattle.std.specs.Prelude.{slice_index}
 use Rattle.block_disk.specs.Images.{Always, ImageBut, LeavesOnly}
 use Rattle.image_parts.specs.Calls.{after}
 use Rattle.image_parts.specs.Cells.{HasCell}
-use Rattle.recover.specs.Putting.{cell_ranges, put_calls}
-use Rattle.recover.proofs.putting.put_back.Given as goal
+use Rattle.recover_heap.specs.Putting.{cell_ranges, put_calls}
+use Rattle.recover_heap.proofs.putting.put_back.Given as goal
 
 abbrev pub invariant-loop-field : goal.invariant-loop-field
 invariant-loop-field g l = record {

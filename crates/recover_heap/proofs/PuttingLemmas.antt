@@ -14,7 +14,7 @@ use Rattle.image_parts.specs.Cells.{HasCell, cell_range}
 use Rattle.image_parts.specs.Layout.{cell_at, size_of}
 use Rattle.image_parts.specs.declared.layout.Layout.{Layout}
 use Rattle.image_parts.proofs.Places.{cell_survives}
-use Rattle.recover.specs.Putting.{cell_ranges, put_calls}
+use Rattle.recover_heap.specs.Putting.{cell_ranges, put_calls}
 
 -- one write more
 pub calls_more : (l : Layout) (heap : List ℕ) (xs : List FieldId) (f : FieldId) (d : Device) →

@@ -5,14 +5,14 @@ use Rattle.heap_model.specs.Log.{lane}
 use Rattle.heap_model.specs.declared.record.UndoRecord.{UndoRecord}
 use Rattle.image_parts.specs.declared.lane_row.LaneRow.{LaneRow}
 use Rattle.undo_log.specs.StandsFor.{settled_of}
-use Rattle.recover.specs.Heap.{earlier, first_old, stored}
+use Rattle.recover_heap.specs.Heap.{earlier, first_old, stored}
 use Rattle.recover_logs.specs.Tables.{log_of}
-use Rattle.recover.proofs.HeapLemmas.{old_more, written_back}
+use Rattle.recover_heap.proofs.HeapLemmas.{old_more, written_back}
 use Rattle.heap_model.specs.declared.record.UndoRecord.TheVariants.{Acq}
 use Rattle.recover_logs.specs.declared.step.Step.{Step}
 use Rattle.recover_logs.proofs.ReplayLemmas.{log_more, zeros}
 use Rattle.recover_logs.proofs.WalkLemmas.{few_places, places_more}
-use Rattle.recover.proofs.heap.old_values.Goals as goal
+use Rattle.recover_heap.proofs.heap.old_values.Goals as goal
 
 abbrev none : Step
 none = record { lane = record { 0 = 0 }; entry = Acq (record { 0 = 0 }) 0 }

@@ -8,9 +8,9 @@ use Rattle.block_disk.specs.Device.{Device, written}
 use Rattle.image_parts.specs.Calls.{after}
 use Rattle.image_parts.specs.Cells.{HasCell}
 use Rattle.image_parts.specs.Layout.{cell_at, size_of}
-use Rattle.recover.specs.Putting.{put_calls}
-use Rattle.recover.proofs.PuttingLemmas.{calls_more, put_follows, put_always, put_holds, put_size}
-use Rattle.recover.proofs.putting.put_back.Goals as goal
+use Rattle.recover_heap.specs.Putting.{put_calls}
+use Rattle.recover_heap.proofs.PuttingLemmas.{calls_more, put_follows, put_always, put_holds, put_size}
+use Rattle.recover_heap.proofs.putting.put_back.Goals as goal
 
 -- no field
 abbrev none : FieldId

@@ -9,7 +9,7 @@ use Rattle.image_parts.specs.declared.layout.Layout.{Layout}
 use Rattle.recover_logs.specs.Limits.{IsBelow, IsOfObjects}
 use Rattle.undo_log.specs.Area.{IsLoggable}
 use Rattle.undo_log.specs.StandsFor.{guard_in, is_transient_in, row_in}
-use Rattle.recover.specs.Logs.{AreGuards, logged_guard_in}
+use Rattle.recover_heap.specs.Logs.{AreGuards, logged_guard_in}
 
 one_guard : (b : Bool) (g o : ObjectId) → (let w : Option ObjectId = if b then None else Some g in w ≡ Some o) → (b ≡ false) × (g ≡ o)
 one_guard true g o is = absurd cc

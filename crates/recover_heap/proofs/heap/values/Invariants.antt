@@ -3,8 +3,8 @@ use Rattle.std.specs.Prelude.{slice_index_or, vec_capacity}
 use Rattle.block_disk.specs.Device.{SameMoments}
 use Rattle.image_parts.specs.Cells.{HasHome}
 use Rattle.undo_log.specs.StandsFor.{row_in}
-use Rattle.recover.specs.Heap.{IsOldOrHome}
-use Rattle.recover.proofs.heap.values.Given as goal
+use Rattle.recover_heap.specs.Heap.{IsOldOrHome}
+use Rattle.recover_heap.proofs.heap.values.Given as goal
 
 abbrev pub invariant-loop-field : goal.invariant-loop-field
 invariant-loop-field g l = record {

@@ -5,16 +5,16 @@ ghost use Rattle.block_disk.specs.Since.{HasCauseSince};
 ghost use Rattle.image_parts.specs.Cells.{HasHome};
 ghost use Rattle.image_parts.specs.Layout.{size_of};
 ghost use Rattle.undo_log.specs.StandsFor.{guard_in, row_in, settled_of};
-ghost use Rattle.recover.specs.Heap.{AreFields, IsOldOrHome, IsUndone, RefusesHeap, TakesAllBack, earlier, first_old, stored};
-ghost use Rattle.recover.specs.Logs.{lanes_of, logged_guard_in};
+ghost use Rattle.recover_heap.specs.Heap.{AreFields, IsOldOrHome, IsUndone, RefusesHeap, TakesAllBack, earlier, first_old, stored};
+ghost use Rattle.recover_heap.specs.Logs.{lanes_of, logged_guard_in};
 ghost use Rattle.recover_logs.specs.Replay.{Replays};
 ghost use Rattle.recover_logs.specs.Tables.{IsLow, log_of};
-ghost use Rattle.recover.specs.declared.error.RecoverError.TheVariants.{Fault, NoMemory};
+ghost use Rattle.recover_heap.specs.declared.error.RecoverError.TheVariants.{Fault, NoMemory};
 
 use crate::error::RecoverError;
 use block_disk::Disk;
 use heap_model::{FieldId, Lane, UndoRecord};
-use image::{GuardRow, LaneRow, Layout, get_cell};
+use image_parts::{GuardRow, LaneRow, Layout, get_cell};
 use recover_logs::Step;
 use std::alloc::Global;
 

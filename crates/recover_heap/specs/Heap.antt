@@ -13,8 +13,8 @@ use Rattle.image_parts.specs.declared.lane_row.LaneRow.{LaneRow}
 use Rattle.image_parts.specs.declared.layout.Layout.{Layout}
 use Rattle.undo_log.specs.OldValues.{OldValue, HasOld, IsUnsettled, TakesBack}
 use Rattle.undo_log.specs.StandsFor.{guard_in, row_in, settled_of}
-use Rattle.recover.specs.declared.error.RecoverError.{RecoverError}
-use Rattle.recover.specs.declared.error.RecoverError.TheVariants.{Fault, NoMemory}
+use Rattle.recover_heap.specs.declared.error.RecoverError.{RecoverError}
+use Rattle.recover_heap.specs.declared.error.RecoverError.TheVariants.{Fault, NoMemory}
 
 -- the value before it, if the record is a store to the field
 abbrev pub stored : (field : ℕ) → UndoRecord → Option ℕ

@@ -3,12 +3,12 @@ use Rattle.std.specs.Prelude.{slice_index_or}
 use Rattle.heap_model.specs.declared.record.UndoRecord.{UndoRecord}
 use Rattle.image_parts.specs.Cells.{HasHome}
 use Rattle.undo_log.specs.StandsFor.{guard_in, row_in, settled_of}
-use Rattle.recover.specs.Heap.{first_old, IsOldOrHome, IsUndone}
-use Rattle.recover.specs.Logs.{lanes_of, logged_guard_in}
+use Rattle.recover_heap.specs.Heap.{first_old, IsOldOrHome, IsUndone}
+use Rattle.recover_heap.specs.Logs.{lanes_of, logged_guard_in}
 use Rattle.recover_logs.specs.Tables.{log_of}
-use Rattle.recover.proofs.HomeLemmas.{logged_agrees}
-use Rattle.recover.proofs.HeapLemmas.{takes_back, undone_is, fields_as}
-use Rattle.recover.proofs.heap.old_heap.Goals as goal
+use Rattle.recover_heap.proofs.HomeLemmas.{logged_agrees}
+use Rattle.recover_heap.proofs.HeapLemmas.{takes_back, undone_is, fields_as}
+use Rattle.recover_heap.proofs.heap.old_heap.Goals as goal
 
 pub returns-clause-takes : goal.returns-clause-takes
 returns-clause-takes g c = λ f lt.

@@ -17,7 +17,7 @@ use Rattle.heap_model.specs.declared.record.UndoRecord.TheVariants.{Acq, Rel, Wa
 use Rattle.undo_log.specs.OldValues.{held_since, OldValue, IsOld, HasOld, IsNoLater, TakesBack, NothingBack, FirstBack, IsUnsettled}
 use Rattle.recover_logs.specs.Monitors.{MayStore}
 use Rattle.recover_logs.specs.Replay.{holder, number, IsAllowed, IsGreedy, Replays}
-use Rattle.recover.specs.Heap.{stored, earlier, first_old, AreFields, IsOldOrHome, IsUndone}
+use Rattle.recover_heap.specs.Heap.{stored, earlier, first_old, AreFields, IsOldOrHome, IsUndone}
 
 -- a lane's stores with one more record of some lane
 old_cons : (o f l m : ℕ) (r : UndoRecord) (older : List (ℕ × UndoRecord)) (k : OldValue) → HasOld o f (lane l ((m, r) ∷ older)) k → ((m ≡ l) × IsOld o f (lane l older) r k) ⊎ HasOld o f (lane l older) k

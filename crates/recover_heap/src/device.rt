@@ -5,12 +5,12 @@ ghost use Rattle.block_disk.specs.Device.{SameMoments, synced, written};
 ghost use Rattle.block_disk.specs.Since.{HasCauseSince, LeavesBut};
 ghost use Rattle.image_parts.specs.Cells.{HasCell, cell_range};
 ghost use Rattle.image_parts.specs.Layout.{cell_at, size_of};
-ghost use Rattle.recover.specs.declared.error.RecoverError.TheVariants.{Fault};
+ghost use Rattle.recover_heap.specs.declared.error.RecoverError.TheVariants.{Fault};
 
 use crate::error::RecoverError;
 use block_disk::{Disk, make_durable};
 use heap_model::FieldId;
-use image::{Layout, put_cell};
+use image_parts::{Layout, put_cell};
 
 /// Makes what was written durable. `Fault` fixes nothing.
 pub fn sync<D: Disk>(disk: &mut D) -> Result<(), RecoverError>
