@@ -1,8 +1,8 @@
 -- What the end of a recovery does to the device (this project's own).
-use Rattle.std.specs.Prelude.{ℕ, ◌+◌, ◌⊎◌, List, [], ◌∷◌}
+use Rattle.std.specs.Prelude.{ℕ, ◌+◌, ◌⊎◌, List, [], ◌∷◌, ◌≡◌}
 use Rattle.block_disk.specs.Device.{Device, synced}
-use Rattle.block_disk.specs.Images.{Always, ImageBut}
-use Rattle.image_parts.specs.Calls.{Call, Sync}
+use Rattle.block_disk.specs.Images.{Always, ImageBut, LeavesOnly}
+use Rattle.image_parts.specs.Calls.{Call, Sync, after}
 use Rattle.image.specs.Commit.{OldOrNew, commit_calls}
 use Rattle.image_parts.specs.Control.{control_bytes, empty_control}
 use Rattle.image_parts.specs.Slots.{Shows}
@@ -21,3 +21,15 @@ IsEnding l d chosen old image = ImageBut d [] image ⊎ OldOrNew l (synced d) ch
 -- each image of the device shows this control
 abbrev pub AlwaysShows : Layout → Device → (chosen : Slot) → (old : Control) → Type 0
 AlwaysShows l d chosen old = Always d (λ image. Shows l image chosen old)
+
+-- each image of the device shows a control with this sequence
+abbrev pub ShowsSequence : Layout → Device → (chosen : Slot) → (sequence : ℕ) → Type 0
+ShowsSequence l d chosen n = (old : Control) × (old.sequence ≡ n) × AlwaysShows l d chosen old
+
+-- the device after the end
+abbrev pub ended_on : (chosen : Slot) → (sequence : ℕ) → Device → Device
+ended_on chosen n d = after (end_calls chosen n d.now.bytes) d
+
+-- if each image shows one, each moment of the end leaves an image from before it, or one that shows that control or the next
+abbrev pub LeavesEnding : Layout → (chosen : Slot) → (sequence : ℕ) → (old new : Device) → Type 0
+LeavesEnding l chosen n d e = (old : Control) → old.sequence ≡ n → AlwaysShows l d chosen old → LeavesOnly d e (IsEnding l d chosen old)

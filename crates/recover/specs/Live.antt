@@ -9,8 +9,9 @@ use Rattle.dependence.specs.Trace.{Trace, base_of}
 use Rattle.dependence.specs.Next.{IsNext}
 use Rattle.recover.specs.declared.live_sections.LiveSections.{LiveSections}
 use Rattle.recover.specs.declared.report.Dropped.{Dropped}
+use Rattle.recover.specs.declared.report.Why.{Why}
 use Rattle.recover_logs.specs.Tally.{acts_of}
-use Rattle.recover.specs.Dropping.{whole_sections, settled_sections, trimmed_sections, live_sections, acts_in, AreEntriesOf, sections_after}
+use Rattle.recover.specs.Dropping.{IsEntryOf, IsWhy, whole_sections, settled_sections, trimmed_sections, live_sections, acts_in, AreEntriesOf, sections_after}
 
 -- a lane that has no records
 abbrev pub nothing_live : LiveSections
@@ -64,3 +65,10 @@ abbrev pub AddsReports : List LiveSections → Trace → (lane : ℕ) → (old n
 AddsReports counts g lane old new =
     (before : List Section) → AreReported counts g before old
     → AreReported counts g (before ++ sections_after lane (live_at counts lane).settled ((live_at counts lane).live - (live_at counts lane).settled)) new
+
+-- the report's entry, and its reason, for the lane's live section, by the graph and the counts
+abbrev pub IsEntryBy : List LiveSections → Trace → (lane section : ℕ) → Dropped → Type 0
+IsEntryBy counts g l section entry = (cut : ℕ → ℕ) → IsStable g.log cut → IsEntryOf (trimmed_at counts) g.log cut (record { lane = l; number = section }) entry
+
+abbrev pub IsWhyBy : List LiveSections → Trace → (lane section : ℕ) → Why → Type 0
+IsWhyBy counts g l section why = (cut : ℕ → ℕ) → IsStable g.log cut → IsWhy (trimmed_at counts) g.log cut (record { lane = l; number = section }) why

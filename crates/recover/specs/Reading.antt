@@ -1,5 +1,5 @@
 -- Which image is refused, and by what: the first thing that is wrong (docs/FORMAT.md, "Which image is refused").
-use Rattle.std.specs.Prelude.{ℕ, ◌≡◌, ◌<◌, ◌≤◌, ◌⊎◌, true, false, List, length, Err, Vec}
+use Rattle.std.specs.Prelude.{ℕ, ◌≡◌, ◌<◌, ◌≤◌, ◌⊎◌, true, false, List, length, Err, Vec, Result, MatchResult}
 use Rattle.std.specs.declared.alloc.Global.{Global}
 use Rattle.heap_model.specs.declared.record.UndoRecord.{UndoRecord}
 use Rattle.image_parts.specs.Layout.{size_of}
@@ -13,6 +13,8 @@ use Rattle.image_parts.specs.declared.guard_row.GuardRow.{GuardRow}
 use Rattle.image_parts.specs.declared.error.ControlError.TheVariants as control_error
 use Rattle.undo_log.specs.StandsFor.{is_transient_in}
 use Rattle.recover.specs.declared.logged_image.LoggedImage.{LoggedImage}
+use Rattle.recover.specs.declared.front.Front.{Front}
+use Rattle.recover.specs.declared.replayed.Replayed.{Replayed}
 use Rattle.recover_heap.specs.declared.error.RecoverError.{RecoverError}
 use Rattle.recover_heap.specs.declared.error.RecoverError.TheVariants.{Fault, NotFormatted, BadHeader, TooSmall, NoControl, BadControl, OldVersion, Worn, BadRecord, IllegalLog, NoMemory}
 use Rattle.recover_heap.specs.Logs.{AreLogs, RefusesLogs, lanes_of, logged_guard_in}
@@ -121,3 +123,28 @@ RefusesImage image (BadRecord lane place) =
 RefusesImage image (IllegalLog lane place) =
     (l : Layout) × (guards : List GuardRow) × (s : Slot) × (c : Control) × HasControl image l guards s c × RefusesLive image l guards c (IllegalLog lane place)
 RefusesImage image NoMemory = Unit {0}
+
+-- a front as it was read: the image has that
+abbrev pub IsFrontOf : List ℕ → Front → Type 0
+IsFrontOf image f = HasControl image f.layout f.guards.items f.slot f.control
+
+-- to read and to replay the live records of an image with this front
+abbrev pub RefusesRest : List ℕ → Front → RecoverError → Type 0
+RefusesRest image f e = RefusesLive image f.layout f.guards.items f.control e
+
+-- What a reader answers: what the image has, or the first test that it doesn't pass.
+
+abbrev pub ReadsLayout : List ℕ → Result Layout RecoverError → Type 0
+ReadsLayout image result = MatchResult result (HasLayout image) (RefusesLayout image)
+
+abbrev pub ReadsRows : Layout → List ℕ → Result (Vec GuardRow Global) RecoverError → Type 0
+ReadsRows l image result = MatchResult result (λ rows. HasGuards l image rows.items) (RefusesRows l image)
+
+abbrev pub ReadsControl : Layout → List ℕ → Result (Slot × Control) RecoverError → Type 0
+ReadsControl l image result = MatchResult result (λ found. Shows l image found.0 found.1) (RefusesControl l image)
+
+abbrev pub ReadsFront : List ℕ → Result Front RecoverError → Type 0
+ReadsFront image result = MatchResult result (IsFrontOf image) (RefusesFront image)
+
+abbrev pub ReadsLive : List ℕ → Front → Result Replayed RecoverError → Type 0
+ReadsLive image f result = MatchResult result (λ r. Holds image r.image) (RefusesRest image f)

@@ -1,5 +1,5 @@
 -- What recovery gives, and what it leaves of an image at every moment (this project's own).
-use Rattle.std.specs.Prelude.{ℕ, ◌≡◌, ◌+◌, ◌-◌, ◌^◌, ◌⊎◌, List, []}
+use Rattle.std.specs.Prelude.{ℕ, ◌≡◌, ◌+◌, ◌-◌, ◌^◌, ◌⊎◌, List, [], Result, MatchResult}
 use Rattle.heap_model.specs.Cuts.{counts_of}
 use Rattle.heap_model.specs.declared.ids.FieldId.{FieldId}
 use Rattle.block_disk.specs.Device.{Device, SameMoments, synced}
@@ -15,6 +15,8 @@ use Rattle.image_parts.specs.declared.slot.Slot.{Slot}
 use Rattle.recover_heap.specs.declared.error.RecoverError.{RecoverError}
 use Rattle.recover_heap.specs.declared.error.RecoverError.TheVariants.{Fault, NotFormatted, BadHeader, TooSmall, NoControl, BadControl, OldVersion, Worn, BadRecord, IllegalLog, NoMemory}
 use Rattle.recover.specs.declared.report.Report.{Report}
+use Rattle.recover.specs.declared.findings.Findings.{Findings}
+use Rattle.block_disk.specs.Since.{HasFailedSince}
 use Rattle.recover.specs.declared.studied.Study.{Study}
 use Rattle.recover.specs.declared.versions.Versions.{Versions}
 use Rattle.recover.specs.declared.versions.Versions.TheVariants.{Current, Both}
@@ -56,7 +58,7 @@ pub record AreAlike (a b : Study) : Type 0 where
   pub heaps : a.heap.items ≡ b.heap.items
   pub reports_same : SameReports a.report b.report
 
--- An image that has a study isn't refused: only the device can fail, and memory be wanting.
+-- An image that has a study isn't refused: only the device can fail, or memory run out.
 abbrev pub StudiedLaw : Type 0
 StudiedLaw = (image : List ℕ) (s : Study) (e : RecoverError) → IsStudyOf image s → RefusesImage image e → (e ≡ Fault) ⊎ (e ≡ NoMemory)
 
@@ -140,7 +142,7 @@ pub record IsRecovery {D : Type 0} (old new : Device) (r : Parts D) (report : Re
   pub report_is : report ≡ study.report
   pub made : IsMadeBy study old new
 
--- the images that a recovery leaves: until its first sync those from before, and from then on only such as are on the way
+-- the images that a recovery leaves: until its first sync those from before, and from then on only images that are on the way
 abbrev pub LeavesOnTheWay : Study → (old new : Device) → Type 0
 LeavesOnTheWay s old new = SameMoments old new ⊎ LeavesOnly (synced old) new (IsOnTheWay s)
 
@@ -160,3 +162,19 @@ IsLeftAlone old new = SameMoments old new ⊎ SameMoments (synced old) new
 -- first sync left only images that are on the way
 abbrev pub IsCutOff : (old new : Device) → Type 0
 IsCutOff old new = SameMoments old new ⊎ SameMoments (synced old) new ⊎ ((s : Study) × IsStudyOf old.now.bytes s × LeavesOnly (synced old) new (IsOnTheWay s))
+
+-- a recovery that this refusal ends has done nothing but a sync, unless it is a fault
+abbrev pub HasOnlySynced : (old new : Device) → RecoverError → Type 0
+HasOnlySynced old new e = (e ≡ Fault) ⊎ SameMoments (synced old) new
+
+-- a fault comes only where the device has failed
+abbrev pub IsCaused : (old new : Device) → RecoverError → Type 0
+IsCaused old new e = e ≡ Fault → HasFailedSince old new
+
+-- an image that is too old is left alone
+abbrev pub LeavesTooOld : Versions → (old new : Device) → Type 0
+LeavesTooOld v old new = IsTooOld v old.now.bytes → IsLeftAlone old new
+
+-- an image that can be recovered is studied, or refused by the first test that it doesn't pass
+abbrev pub FindsRecoverable : Versions → List ℕ → Result Findings RecoverError → Type 0
+FindsRecoverable v image result = MatchResult result (λ found. IsStudyOf image found.study) (RefusesOf v image)

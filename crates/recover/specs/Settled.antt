@@ -1,9 +1,12 @@
 -- The acknowledged sections of an image's live records, by the rows of its control (this project's own). Lists have their
 -- newest element first; a place is one of the image, and counts the lane's records since the heap was opened.
-use Rattle.std.specs.Prelude.{ℕ, ◌≡◌, ◌+◌, List, Option}
+use Rattle.std.specs.Prelude.{ℕ, ◌≡◌, ◌+◌, List, Option, Result, MatchResult, Vec}
+use Rattle.std.specs.declared.alloc.Global.{Global}
 use Rattle.heap_model.specs.declared.ids.ObjectId.{ObjectId}
 use Rattle.heap_model.specs.declared.record.UndoRecord.{UndoRecord}
 use Rattle.image_parts.specs.declared.lane_row.LaneRow.{LaneRow}
+use Rattle.image_parts.specs.declared.guard_row.GuardRow.{GuardRow}
+use Rattle.recover_heap.specs.Logs.{lanes_of, logged_guard_in}
 use Rattle.undo_log.specs.StandsFor.{row_of, settled_of}
 use Rattle.recover_logs.specs.Replay.{Replays, IsStuckAt}
 use Rattle.recover_logs.specs.Settled as logs
@@ -47,3 +50,7 @@ abbrev pub RefusesLegal : (guard : ℕ → Option ObjectId) → List LaneRow →
 RefusesLegal guard rows lanes (IllegalLog lane place) = IsIllegalAt guard rows lanes lane.0 place
 RefusesLegal guard rows lanes NoMemory = Unit {0}
 RefusesLegal guard rows lanes _ = ⊥
+
+-- the logs of an image with these guard rows and these rows of its control are accepted where they are legal, or refused for what the refusal says
+abbrev pub TestsLive : {T : Type 0} → List GuardRow → List LaneRow → List (Vec UndoRecord Global) → Result T RecoverError → Type 0
+TestsLive guards rows logs result = MatchResult result (λ _. AreLegal (logged_guard_in guards) rows (lanes_of logs)) (RefusesLegal (logged_guard_in guards) rows (lanes_of logs))

@@ -1,5 +1,5 @@
 -- What a study of an image answers (this project's own).
-use Rattle.std.specs.Prelude.{ℕ, ◌≡◌, ◌<◌, true, List, length, slice_index}
+use Rattle.std.specs.Prelude.{ℕ, ◌≡◌, ◌<◌, true, List, length, slice_index, Result, MatchResult}
 use Rattle.heap_model.specs.Cuts.{counts_of}
 use Rattle.heap_model.specs.declared.ids.FieldId.{FieldId}
 use Rattle.heap_model.specs.declared.record.UndoRecord.{UndoRecord}
@@ -8,21 +8,22 @@ use Rattle.image_parts.specs.declared.lane_row.LaneRow.{LaneRow}
 use Rattle.image_parts.specs.declared.guard_row.GuardRow.{GuardRow}
 use Rattle.undo_log.specs.StandsFor.{StandsFor, row_of, settled_of, guard_in, first_in, is_transient_in}
 use Rattle.recover.specs.declared.logged_image.LoggedImage.{LoggedImage}
+use Rattle.recover.specs.declared.findings.Findings.{Findings}
+use Rattle.recover.specs.declared.front.Front.{Front}
 use Rattle.recover.specs.declared.report.Report.{Report}
 use Rattle.recover.specs.declared.studied.Study.{Study}
 use Rattle.recover.specs.Dropping.{AreDropped}
-use Rattle.recover_heap.specs.Heap.{AreFields, IsUndone}
-use Rattle.recover_heap.specs.Logs.{lanes_of, logged_guard_in}
-use Rattle.recover.specs.Reading.{Holds}
+pub use Rattle.recover_heap.specs.Heap.{AreUndone}
+use Rattle.recover_heap.specs.Logs.{AreReplayOf, lanes_of, logged_guard_in}
+use Rattle.recover.specs.Reading.{Holds, RefusesImage, RefusesRest}
 use Rattle.recover_logs.specs.Replay.{Replays}
+use Rattle.recover_heap.specs.declared.error.RecoverError.{RecoverError}
+use Rattle.recover_heap.specs.declared.error.RecoverError.TheVariants.{NoMemory}
+use Rattle.recover_logs.specs.declared.step.Step.{Step}
 
 -- what the study says that the image holds
 abbrev pub held_by : Study → LoggedImage
 held_by s = record { layout = s.layout; slot = s.slot; control = s.control; guards = s.guards; records = s.records }
-
--- these are the fields with a live store past the place up to which its lane is settled, by number: each takes an old value back
-abbrev pub AreUndone : Layout → List GuardRow → List LaneRow → (lanes : ℕ → List UndoRecord) → List FieldId → Type 0
-AreUndone l guards rows lanes fields = AreFields (λ f. (f < l.fields) × IsUndone (guard_in guards f) f lanes (settled_of rows)) fields
 
 -- what a report says of an image with these guard rows, rows of the control and live records: the acknowledged sections
 -- are kept, the others are dropped, each with its reason, and so many fields take an old value back
@@ -48,3 +49,22 @@ TransientFirstLaw = (image : List ℕ) (s : Study) (f : ℕ) → IsStudyOf image
 -- the fields whose old values recovery puts back, of this study
 abbrev pub AreUndoneOf : Study → List FieldId → Type 0
 AreUndoneOf s fields = AreUndone s.layout s.guards.items s.control.rows (lanes_of s.records.items) fields
+
+-- the fields that take an old value back, and the replay, of what was read of an image
+abbrev pub AreUndoneIn : LoggedImage → List FieldId → Type 0
+AreUndoneIn x fields = AreUndone x.layout x.guards.items x.control.rows (lanes_of x.records.items) fields
+
+abbrev pub IsReplayIn : LoggedImage → List Step → Type 0
+IsReplayIn x steps = AreReplayOf x.guards.items x.records.items steps
+
+-- the image is studied, or refused by the first test that it doesn't pass
+abbrev pub Studies : List ℕ → Result Study RecoverError → Type 0
+Studies image result = MatchResult result (IsStudyOf image) (RefusesImage image)
+
+-- so is the rest of an image with this front
+abbrev pub FindsRest : List ℕ → Front → Result Findings RecoverError → Type 0
+FindsRest image f result = MatchResult result (λ found. IsStudyOf image found.study) (RefusesRest image f)
+
+-- what is read of an image is reported on, unless there is no memory
+abbrev pub ReportsOn : LoggedImage → Result Report RecoverError → Type 0
+ReportsOn x result = MatchResult result (IsReportOf x.layout x.guards.items x.control.rows (lanes_of x.records.items)) (λ e. e ≡ NoMemory)

@@ -1,13 +1,12 @@
 //! Whether an image's live records are logs that threads can have left.
-ghost use Rattle.std.specs.Prelude.{◌≡◌, ◌-◌, ℕ, All, IfErr, IfOk, MatchResult};
+ghost use Rattle.std.specs.Prelude.{◌≡◌, ◌-◌, ℕ, All, IfErr, IfOk};
 ghost use Rattle.image_parts.specs.Control.{AreRows};
 ghost use Rattle.image_parts.specs.Layout.{IsLayout};
 ghost use Rattle.undo_log.specs.StandsFor.{settled_of};
 ghost use Rattle.recover_logs.specs.Logs.{guard_in as guard_among, count_of};
-ghost use Rattle.recover_logs.specs.Replay.{Replays};
-ghost use Rattle.recover_logs.specs.Tables.{IsLow, log_of};
-ghost use Rattle.recover_heap.specs.Logs.{AreGuards, AreLoggable, lanes_of, logged_guard as logged, logged_guard_in};
-ghost use Rattle.recover.specs.Settled.{AreLegal, RefusesLegal, kept_of};
+ghost use Rattle.recover_logs.specs.Tables.{IsLow};
+ghost use Rattle.recover_heap.specs.Logs.{AreGuards, AreLoggable, AreReplayOf, logged_guard as logged, logged_guard_in};
+ghost use Rattle.recover.specs.Settled.{TestsLive, kept_of};
 ghost use Rattle.recover_heap.specs.declared.error.RecoverError.TheVariants.{NoMemory};
 
 use heap_model::{ObjectId, UndoRecord};
@@ -32,11 +31,8 @@ pub fn check_logs(
     requires guards { AreGuards layout.now guards.now }
     requires rows { AreRows layout.now rows.now }
     requires logs { AreLoggable layout.now rows.now logs.now }
-    ensures exact { MatchResult result
-        (λ _. AreLegal (logged_guard_in guards.now) rows.now (lanes_of logs.now))
-        (RefusesLegal (logged_guard_in guards.now) rows.now (lanes_of logs.now)) }
-    ensures replays { IfOk result
-        (λ steps. Replays (logged_guard_in guards.now) (lanes_of logs.now) (log_of steps.items)) }
+    ensures exact { TestsLive guards.now rows.now logs.now result }
+    ensures replays { IfOk result (λ steps. AreReplayOf guards.now logs.now steps.items) }
     ensures low { IfOk result (λ steps. All IsLow steps.items) }
 {
     let objects = guarding_objects(alloc, guards)?;

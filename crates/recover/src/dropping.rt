@@ -1,14 +1,12 @@
 //! Which live sections recovery drops, and why.
-ghost use Rattle.std.specs.Prelude.{◌≡◌, ◌+◌, ◌<◌, ◌≤◌, ℕ, IfOk, IfErr, MatchResult};
-ghost use Rattle.heap_model.specs.Cuts.{IsStable};
+ghost use Rattle.std.specs.Prelude.{◌≡◌, ◌+◌, ◌<◌, ◌≤◌, IfOk, IfErr, MatchResult};
 ghost use Rattle.image_parts.specs.Control.{AreRows};
 ghost use Rattle.image_parts.specs.Layout.{IsLayout};
-ghost use Rattle.recover_heap.specs.Logs.{AreGuards, AreLoggable, lanes_of, logged_guard_in};
-ghost use Rattle.recover_logs.specs.Replay.{Replays};
+ghost use Rattle.recover_heap.specs.Logs.{AreGuards, AreLoggable, AreReplayOf, lanes_of, logged_guard_in};
 ghost use Rattle.recover.specs.Settled.{AreLegal};
 ghost use Rattle.recover_logs.specs.Tables.{log_of};
-ghost use Rattle.recover.specs.Dropping.{AreDropped, IsWhy, IsEntryOf};
-ghost use Rattle.recover.specs.Live.{AddsReports, IsReady, live_at, trimmed_at};
+ghost use Rattle.recover.specs.Dropping.{AreDropped};
+ghost use Rattle.recover.specs.Live.{AddsReports, IsEntryBy, IsReady, IsWhyBy, live_at};
 ghost use Rattle.recover_heap.specs.declared.error.RecoverError.TheVariants.{NoMemory};
 
 use crate::graph_of::graph_of;
@@ -43,7 +41,7 @@ pub fn dropped_sections(
     requires guards { AreGuards layout.now guards.now }
     requires rows { AreRows layout.now rows.now }
     requires logs { AreLoggable layout.now rows.now logs.now }
-    requires replays { Replays (logged_guard_in guards.now) (lanes_of logs.now) (log_of steps.now) }
+    requires replays { AreReplayOf guards.now logs.now steps.now }
     requires legal { AreLegal (logged_guard_in guards.now) rows.now (lanes_of logs.now) }
     ensures exact { MatchResult result
         (λ dropped. AreDropped rows.now (lanes_of logs.now)
@@ -94,9 +92,7 @@ fn dropped_section(
     requires lane { lane.0 < 32 }
     requires ready { IsReady counts.now graph.old }
     requires few { section ≤ (live_at counts.now lane.0).whole + 1 }
-    ensures entry { (cut : ℕ → ℕ) → IsStable graph.old.log cut
-        → IsEntryOf (trimmed_at counts.now) graph.old.log cut
-        (record { lane = lane.0; number = section }) result }
+    ensures entry { IsEntryBy counts.now graph.old lane.0 section result }
     ensures same { graph.new ≡ graph.old }
 {
     Dropped {
@@ -110,9 +106,7 @@ fn dropped_section(
 fn why_dropped(graph: &mut Graph, counts: &[LiveSections; 32], lane: Lane, section: u64) -> Why
     requires lane { lane.0 < 32 }
     requires ready { IsReady counts.now graph.old }
-    ensures why { (cut : ℕ → ℕ) → IsStable graph.old.log cut
-        → IsWhy (trimmed_at counts.now) graph.old.log cut
-        (record { lane = lane.0; number = section }) result }
+    ensures why { IsWhyBy counts.now graph.old lane.0 section result }
     ensures same { graph.new ≡ graph.old }
 {
     if section > counts[usize::from(lane.0)].whole {

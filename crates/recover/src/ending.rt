@@ -1,13 +1,10 @@
 //! The end of a recovery: from then on nothing counts of what was logged.
 ghost use Rattle.std.specs.Prelude.{◌≡◌, ◌+◌, ◌-◌, ◌<◌, ◌^◌, [], IfErr, IfOk, OnOk};
-ghost use Rattle.block_disk.specs.Images.{LeavesOnly};
 ghost use Rattle.block_disk.specs.Since.{HasCauseSince};
-ghost use Rattle.image_parts.specs.Calls.{after};
 ghost use Rattle.image_parts.specs.Control.{empty_control};
 ghost use Rattle.image_parts.specs.Layout.{IsLayout};
 ghost use Rattle.image_parts.specs.Slots.{Shows, other};
-ghost use Rattle.image_parts.specs.declared.control.Control.{Control as Content};
-ghost use Rattle.recover.specs.Ending.{AlwaysShows, IsEnding, end_calls};
+ghost use Rattle.recover.specs.Ending.{LeavesEnding, ShowsSequence, ended_on};
 ghost use Rattle.recover_heap.specs.declared.error.RecoverError.TheVariants.{Fault};
 
 use block_disk::Disk;
@@ -25,20 +22,16 @@ pub fn end_recovery<D: Disk>(
     sequence: u64,
 ) -> Result<Slot, RecoverError>
     requires limits { IsLayout layout.now }
-    requires shows { (old : Content) × (old.sequence ≡ sequence)
-        × AlwaysShows layout.now (D.device disk.old) chosen old }
+    requires shows { ShowsSequence layout.now (D.device disk.old) chosen sequence }
     requires sequence { sequence < 2 ^ 64 - 1 }
     ensures slot { IfOk result (λ slot. slot ≡ other chosen) }
     ensures ok { OnOk result (Shows layout.now (D.device disk.new).now.bytes (other chosen)
         (empty_control (sequence + 1))) }
     ensures durable { OnOk result ((D.device disk.new).now.pending ≡ []) }
-    ensures calls { OnOk result (D.device disk.new
-        ≡ after (end_calls chosen sequence (D.device disk.old).now.bytes) (D.device disk.old)) }
+    ensures calls { OnOk result (D.device disk.new ≡ ended_on chosen sequence (D.device disk.old)) }
     ensures only_fault { IfErr result (λ e. e ≡ Fault) }
-    ensures any_moment { (old : Content) → old.sequence ≡ sequence
-        → AlwaysShows layout.now (D.device disk.old) chosen old
-        → LeavesOnly (D.device disk.old) (D.device disk.new)
-        (IsEnding layout.now (D.device disk.old) chosen old) }
+    ensures any_moment { LeavesEnding layout.now chosen sequence
+        (D.device disk.old) (D.device disk.new) }
     ensures cause { HasCauseSince (D.device disk.old) (D.device disk.new) Fault result }
 {
     // The home cells have to be durable before the control that gives up the undo records.

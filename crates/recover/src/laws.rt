@@ -18,7 +18,7 @@ pub fn transient_law()
     ensures { TransientFirstLaw }
 {}
 
-/// An image that has a study isn't refused. Only the device can fail, and memory be wanting.
+/// An image that has a study isn't refused. Only the device can fail, or memory run out.
 pub fn studied_law()
     // An image that has a study is refused by no study, unless the device fails or memory runs out.
     ensures { StudiedLaw }

@@ -1,12 +1,11 @@
 //! The lanes' live records, read from the image.
-ghost use Rattle.std.specs.Prelude.{◌<◌, ◌≤◌, MatchResult, length};
+ghost use Rattle.std.specs.Prelude.{◌<◌, ◌≤◌, length};
 ghost use Rattle.block_disk.specs.Device.{SameMoments};
 ghost use Rattle.block_disk.specs.Since.{HasCauseSince};
 ghost use Rattle.image_parts.specs.Control.{AreRows};
 ghost use Rattle.image_parts.specs.Layout.{IsLayout, size_of};
 ghost use Rattle.image_parts.specs.Rows.{IsRow};
-ghost use Rattle.undo_log.specs.Area.{HasSpan};
-ghost use Rattle.recover_heap.specs.Logs.{AreLogs, RefusesLane, RefusesLogs};
+ghost use Rattle.recover_heap.specs.Logs.{ReadsLane, ReadsLogs};
 ghost use Rattle.recover_heap.specs.declared.error.RecoverError.TheVariants.{Fault};
 
 use block_disk::Disk;
@@ -31,9 +30,7 @@ pub fn read_logs<D: Disk>(
     requires limits { IsLayout layout.now }
     requires fits { size_of layout.now ≤ length (D.device disk.old).now.bytes }
     requires rows { AreRows layout.now rows.now }
-    ensures exact { MatchResult result
-        (λ logs. AreLogs layout.now (D.device disk.old).now.bytes rows.now logs.items)
-        (RefusesLogs layout.now (D.device disk.old).now.bytes rows.now) }
+    ensures exact { ReadsLogs layout.now (D.device disk.old).now.bytes rows.now result }
     ensures same { SameMoments (D.device disk.old) (D.device disk.new) }
     ensures cause { HasCauseSince (D.device disk.old) (D.device disk.new) Fault result }
 {
@@ -60,10 +57,7 @@ fn read_lane<D: Disk>(
     requires fits { size_of layout.now ≤ length (D.device disk.old).now.bytes }
     requires lane { lane.0 < layout.now.lanes }
     requires row { IsRow layout.now.capacity row.now }
-    ensures exact { MatchResult result
-        (λ records. HasSpan layout.now lane.0 row.now.start row.now.logged
-        (D.device disk.old).now.bytes records.items)
-        (RefusesLane layout.now (D.device disk.old).now.bytes lane row.now) }
+    ensures exact { ReadsLane layout.now (D.device disk.old).now.bytes lane row.now result }
     ensures same { SameMoments (D.device disk.old) (D.device disk.new) }
     ensures cause { HasCauseSince (D.device disk.old) (D.device disk.new) Fault result }
 {

@@ -1,14 +1,11 @@
 //! Reading an image, whatever its bytes are.
-ghost use Rattle.std.specs.Prelude.{◌≡◌, ◌≤◌, All, IfOk, MatchResult, length};
+ghost use Rattle.std.specs.Prelude.{◌≡◌, ◌≤◌, All, IfOk, length};
 ghost use Rattle.block_disk.specs.Device.{SameMoments};
 ghost use Rattle.block_disk.specs.Since.{HasCauseSince};
-ghost use Rattle.image_parts.specs.Guards.{HasGuards};
 ghost use Rattle.image_parts.specs.Layout.{IsLayout, size_of};
-ghost use Rattle.image_parts.specs.Slots.{Shows};
-ghost use Rattle.recover_heap.specs.Logs.{lanes_of, logged_guard_in};
-ghost use Rattle.recover.specs.Reading.{HasControl, HasLayout, Holds, RefusesControl, RefusesFront, RefusesLayout, RefusesLive, RefusesRows};
-ghost use Rattle.recover_logs.specs.Replay.{Replays};
-ghost use Rattle.recover_logs.specs.Tables.{IsLow, log_of};
+ghost use Rattle.recover_heap.specs.Logs.{AreReplayOf};
+ghost use Rattle.recover.specs.Reading.{IsFrontOf, ReadsControl, ReadsFront, ReadsLayout, ReadsLive, ReadsRows};
+ghost use Rattle.recover_logs.specs.Tables.{IsLow};
 ghost use Rattle.recover_heap.specs.declared.error.RecoverError.TheVariants.{Fault};
 
 use crate::check::check_logs;
@@ -41,9 +38,7 @@ use std::alloc::Global;
 ///
 /// `NoMemory` comes where the guard rows find no room, and `Fault` where a read fails.
 pub fn read_front<D: Disk>(alloc: Global, disk: &mut D) -> Result<Front, RecoverError>
-    ensures exact { MatchResult result
-        (λ f. HasControl (D.device disk.old).now.bytes f.layout f.guards.items f.slot f.control)
-        (RefusesFront (D.device disk.old).now.bytes) }
+    ensures exact { ReadsFront (D.device disk.old).now.bytes result }
     ensures same { SameMoments (D.device disk.old) (D.device disk.new) }
     ensures cause { HasCauseSince (D.device disk.old) (D.device disk.new) Fault result }
 {
@@ -71,14 +66,11 @@ pub fn read_live<D: Disk>(
     disk: &mut D,
     front: Front,
 ) -> Result<Replayed, RecoverError>
-    requires { HasControl (D.device disk.old).now.bytes front.layout front.guards.items front.slot
-        front.control }
-    ensures exact { MatchResult result (λ r. Holds (D.device disk.old).now.bytes r.image)
-        (RefusesLive (D.device disk.old).now.bytes front.layout front.guards.items front.control) }
+    requires { IsFrontOf (D.device disk.old).now.bytes front }
+    ensures exact { ReadsLive (D.device disk.old).now.bytes front result }
     ensures control { IfOk result (λ r. r.image.control ≡ front.control) }
     ensures replays { IfOk result
-        (λ r. Replays (logged_guard_in r.image.guards.items) (lanes_of r.image.records.items)
-        (log_of r.steps.items)) }
+        (λ r. AreReplayOf r.image.guards.items r.image.records.items r.steps.items) }
     ensures low { IfOk result (λ r. All IsLow r.steps.items) }
     ensures same { SameMoments (D.device disk.old) (D.device disk.new) }
     ensures cause { HasCauseSince (D.device disk.old) (D.device disk.new) Fault result }
@@ -102,8 +94,7 @@ pub fn read_live<D: Disk>(
 }
 
 fn find_layout<D: Disk>(disk: &mut D) -> Result<Layout, RecoverError>
-    ensures exact { MatchResult result (HasLayout (D.device disk.old).now.bytes)
-        (RefusesLayout (D.device disk.old).now.bytes) }
+    ensures exact { ReadsLayout (D.device disk.old).now.bytes result }
     ensures same { SameMoments (D.device disk.old) (D.device disk.new) }
     ensures cause { HasCauseSince (D.device disk.old) (D.device disk.new) Fault result }
 {
@@ -123,9 +114,7 @@ fn find_guards<D: Disk>(
 ) -> Result<Vec<GuardRow>, RecoverError>
     requires limits { IsLayout layout.now }
     requires fits { size_of layout.now ≤ length (D.device disk.old).now.bytes }
-    ensures exact { MatchResult result
-        (λ rows. HasGuards layout.now (D.device disk.old).now.bytes rows.items)
-        (RefusesRows layout.now (D.device disk.old).now.bytes) }
+    ensures exact { ReadsRows layout.now (D.device disk.old).now.bytes result }
     ensures same { SameMoments (D.device disk.old) (D.device disk.new) }
     ensures cause { HasCauseSince (D.device disk.old) (D.device disk.new) Fault result }
 {
@@ -140,9 +129,7 @@ fn find_guards<D: Disk>(
 fn find_control<D: Disk>(disk: &mut D, layout: &Layout) -> Result<(Slot, Control), RecoverError>
     requires limits { IsLayout layout.now }
     requires fits { size_of layout.now ≤ length (D.device disk.old).now.bytes }
-    ensures exact { MatchResult result
-        (λ found. Shows layout.now (D.device disk.old).now.bytes found.0 found.1)
-        (RefusesControl layout.now (D.device disk.old).now.bytes) }
+    ensures exact { ReadsControl layout.now (D.device disk.old).now.bytes result }
     ensures same { SameMoments (D.device disk.old) (D.device disk.new) }
     ensures cause { HasCauseSince (D.device disk.old) (D.device disk.new) Fault result }
 {

@@ -1,12 +1,13 @@
 //! Recovering an image, or upgrading it: old values are put back, and then nothing counts of what was logged.
-ghost use Rattle.std.specs.Prelude.{◌≡◌, ◌⊎◌, ◌-◌, ◌<◌, ◌≤◌, ◌^◌, [], IfErr, IfOk, MatchResult, OnErr, OnOk};
-ghost use Rattle.block_disk.specs.Device.{SameMoments, synced};
+ghost use Rattle.std.specs.Prelude.{◌≡◌, ◌-◌, ◌<◌, ◌≤◌, ◌^◌, [], IfErr, IfOk, OnErr, OnOk};
+ghost use Rattle.block_disk.specs.Device.{SameMoments};
 ghost use Rattle.block_disk.specs.Images.{LeavesOnly};
-ghost use Rattle.block_disk.specs.Since.{HasCauseSince, HasFailedSince};
+ghost use Rattle.block_disk.specs.Since.{HasCauseSince};
 ghost use Rattle.recover.specs.Reading.{IsOfOldVersion};
-ghost use Rattle.recover.specs.Recovery.{EndsOnTheWay, IsCutOff, IsLeftAlone, IsMadeBy, IsOnTheWay, IsRecoveredFrom, IsRecovery, IsTooOld, RefusesOf, RefusesRecovery, RefusesUpgrade, StaysOnTheWay, finished_on};
+ghost use Rattle.recover.specs.Recovery.{EndsOnTheWay, FindsRecoverable, HasOnlySynced, IsCaused, IsCutOff, IsMadeBy, IsOnTheWay, IsRecoveredFrom, IsRecovery, IsTooOld, RefusesOf, RefusesRecovery, RefusesUpgrade, LeavesTooOld, StaysOnTheWay, finished_on};
 ghost use Rattle.recover.specs.Study.{AreUndoneOf, IsStudyOf};
 ghost use Rattle.recover_heap.specs.declared.error.RecoverError.TheVariants.{Fault};
+ghost use Rattle.recover.specs.declared.versions.Versions.TheVariants.{Current};
 
 use crate::ending::end_recovery;
 use crate::findings::Findings;
@@ -49,29 +50,26 @@ pub fn recover<D: Disk>(alloc: Global, disk: D) -> Result<(Recovered<D>, Report)
     // is refused as old.
     ensures refused { IfErr result (λ back. RefusesRecovery (D.device disk).now.bytes back.1) }
     // A recovery that is refused has done nothing but a sync, unless it is refused by a fault.
-    ensures untouched { IfErr result (λ back. (back.1 ≡ Fault)
-        ⊎ SameMoments (synced (D.device disk)) (D.device back.0)) }
+    ensures untouched { IfErr result (λ back. HasOnlySynced (D.device disk) (D.device back.0) back.1) }
     // Whatever a crash leaves of a recovery that was refused has the same study, or that of the recovered image. So
     // another recovery gives the same heap.
     ensures interrupted { IfErr result (λ back. EndsOnTheWay (D.device disk) (D.device back.0)) }
     // After a recovery that was refused nothing was done, or a sync alone, or only images on its way were left.
     ensures cut_off { IfErr result (λ back. IsCutOff (D.device disk) (D.device back.0)) }
     // A recovery of an image of version 1 has done nothing but a sync, a fault included.
-    ensures too_old { IfErr result (λ back. IsOfOldVersion (D.device disk).now.bytes
-        → IsLeftAlone (D.device disk) (D.device back.0)) }
+    ensures too_old { IfErr result (λ back. LeavesTooOld Current (D.device disk) (D.device back.0)) }
     // Recovery answers a fault only where the device has failed.
-    ensures cause { IfErr result (λ back. back.1 ≡ Fault
-        → HasFailedSince (D.device disk) (D.device back.0)) }
+    ensures cause { IfErr result (λ back. IsCaused (D.device disk) (D.device back.0) back.1) }
     // The count of the device's failures doesn't fall over a recovery.
     ensures failures { IfOk result (λ r. (D.device disk).failures ≤ (D.device r.0.disk).failures) }
 {
     recover_of(alloc, disk, Versions::Current)
 }
 
-/// Makes the image on the device, of which nothing has to be known, one of the current version, in place. Of an image of
-/// version 1, from before there were transient fields, it reads the records, puts the old values back under the old control,
-/// and commits a control of version 2 with empty logs and the next sequence: all its fields are persistent. Of an image of
-/// version 2 it does what [`recover`] does.
+/// Makes the image on the device, of which nothing has to be known, one of the current version, in place. An image of
+/// version 1 is from before there were transient fields. Its records are read, and its old values are put back under the old
+/// control. Then a control of version 2 is committed, with empty logs and the next sequence; all its fields are persistent.
+/// An image of version 2 is recovered as [`recover`] does it.
 ///
 /// The calls of the device are those of [`recover`]. Once the first sync was answered, whatever a crash leaves stands for the
 /// same heap, under the old control or under the new one. So it may be run again after any crash and after any refusal.
@@ -85,15 +83,13 @@ pub fn upgrade<D: Disk>(alloc: Global, disk: D) -> Result<(Recovered<D>, Report)
     ensures any_moment { IfOk result (λ r. StaysOnTheWay (D.device disk) (D.device r.0.disk)) }
     // An upgrade refuses what recovery refuses, in the same order, but no image as too old.
     ensures refused { IfErr result (λ back. RefusesUpgrade (D.device disk).now.bytes back.1) }
-    ensures untouched { IfErr result (λ back. (back.1 ≡ Fault)
-        ⊎ SameMoments (synced (D.device disk)) (D.device back.0)) }
+    ensures untouched { IfErr result (λ back. HasOnlySynced (D.device disk) (D.device back.0) back.1) }
     // Whatever a crash leaves of an upgrade that was refused has the same study, or that of the upgraded image. So it
     // may be run again.
     ensures interrupted { IfErr result (λ back. EndsOnTheWay (D.device disk) (D.device back.0)) }
     // After an upgrade that was refused nothing was done, or a sync alone, or only images on its way were left.
     ensures cut_off { IfErr result (λ back. IsCutOff (D.device disk) (D.device back.0)) }
-    ensures cause { IfErr result (λ back. back.1 ≡ Fault
-        → HasFailedSince (D.device disk) (D.device back.0)) }
+    ensures cause { IfErr result (λ back. IsCaused (D.device disk) (D.device back.0) back.1) }
     ensures failures { IfOk result (λ r. (D.device disk).failures ≤ (D.device r.0.disk).failures) }
 {
     recover_of(alloc, disk, Versions::Both)
@@ -110,14 +106,11 @@ pub fn recover_of<D: Disk>(
     ensures taken { OnOk result (IsTooOld versions (D.device disk).now.bytes → ⊥) }
     ensures any_moment { IfOk result (λ r. StaysOnTheWay (D.device disk) (D.device r.0.disk)) }
     ensures refused { IfErr result (λ back. RefusesOf versions (D.device disk).now.bytes back.1) }
-    ensures untouched { IfErr result (λ back. (back.1 ≡ Fault)
-        ⊎ SameMoments (synced (D.device disk)) (D.device back.0)) }
+    ensures untouched { IfErr result (λ back. HasOnlySynced (D.device disk) (D.device back.0) back.1) }
     ensures interrupted { IfErr result (λ back. EndsOnTheWay (D.device disk) (D.device back.0)) }
     ensures cut_off { IfErr result (λ back. IsCutOff (D.device disk) (D.device back.0)) }
-    ensures too_old { IfErr result (λ back. IsTooOld versions (D.device disk).now.bytes
-        → IsLeftAlone (D.device disk) (D.device back.0)) }
-    ensures cause { IfErr result (λ back. back.1 ≡ Fault
-        → HasFailedSince (D.device disk) (D.device back.0)) }
+    ensures too_old { IfErr result (λ back. LeavesTooOld versions (D.device disk) (D.device back.0)) }
+    ensures cause { IfErr result (λ back. IsCaused (D.device disk) (D.device back.0) back.1) }
     ensures failures { IfOk result (λ r. (D.device disk).failures ≤ (D.device r.0.disk).failures) }
 {
     let mut disk = disk;
@@ -151,12 +144,10 @@ fn recover_in_place<D: Disk>(
     ensures made { IfOk result (λ s. IsMadeBy s (D.device disk.old) (D.device disk.new)) }
     ensures any_moment { OnOk result (StaysOnTheWay (D.device disk.old) (D.device disk.new)) }
     ensures refused { IfErr result (RefusesOf versions (D.device disk.old).now.bytes) }
-    ensures untouched { IfErr result (λ e. (e ≡ Fault)
-        ⊎ SameMoments (synced (D.device disk.old)) (D.device disk.new)) }
+    ensures untouched { IfErr result (HasOnlySynced (D.device disk.old) (D.device disk.new)) }
     ensures interrupted { OnErr result (EndsOnTheWay (D.device disk.old) (D.device disk.new)) }
     ensures cut_off { OnErr result (IsCutOff (D.device disk.old) (D.device disk.new)) }
-    ensures too_old { OnErr result (IsTooOld versions (D.device disk.old).now.bytes
-        → IsLeftAlone (D.device disk.old) (D.device disk.new)) }
+    ensures too_old { OnErr result (LeavesTooOld versions (D.device disk.old) (D.device disk.new)) }
     ensures cause { HasCauseSince (D.device disk.old) (D.device disk.new) Fault result }
 {
     // What is read has to be what another crash would leave.
@@ -172,9 +163,7 @@ fn find_recoverable<D: Disk>(
     disk: &mut D,
     versions: Versions,
 ) -> Result<Findings, RecoverError>
-    ensures exact { MatchResult result
-        (λ found. IsStudyOf (D.device disk.old).now.bytes found.study)
-        (RefusesOf versions (D.device disk.old).now.bytes) }
+    ensures exact { FindsRecoverable versions (D.device disk.old).now.bytes result }
     ensures taken { OnOk result (IsTooOld versions (D.device disk.old).now.bytes → ⊥) }
     ensures undone { IfOk result (λ found. AreUndoneOf found.study found.undone.items) }
     ensures not_worn { IfOk result (λ found. found.study.control.sequence < 2 ^ 64 - 1) }

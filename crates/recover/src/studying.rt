@@ -1,16 +1,14 @@
 //! Studying an image: what it holds, what it stands for, and what of it recovery drops.
-ghost use Rattle.std.specs.Prelude.{◌≡◌, ℕ, All, IfErr, IfOk, List, MatchResult};
+ghost use Rattle.std.specs.Prelude.{◌≡◌, ℕ, All, IfErr, IfOk, List};
 ghost use Rattle.heap_model.specs.Cuts.{counts_of};
 ghost use Rattle.block_disk.specs.Device.{SameMoments};
 ghost use Rattle.block_disk.specs.Since.{HasCauseSince};
 ghost use Rattle.undo_log.specs.StandsFor.{StandsFor, row_of};
 ghost use Rattle.recover_heap.specs.Heap.{RefusesHeap};
-ghost use Rattle.recover_heap.specs.Logs.{lanes_of, logged_guard_in};
-ghost use Rattle.recover.specs.Reading.{HasControl, Holds, RefusesImage, RefusesLive};
-ghost use Rattle.recover_logs.specs.Replay.{Replays};
-ghost use Rattle.recover.specs.Study.{AreUndone, AreUndoneOf, IsReportOf, IsStudyOf};
-ghost use Rattle.recover_logs.specs.Tables.{IsLow, log_of};
-ghost use Rattle.recover_heap.specs.declared.error.RecoverError.TheVariants.{Fault, NoMemory};
+ghost use Rattle.recover.specs.Reading.{Holds, IsFrontOf};
+ghost use Rattle.recover.specs.Study.{AreUndoneIn, AreUndoneOf, FindsRest, IsReplayIn, ReportsOn, Studies};
+ghost use Rattle.recover_logs.specs.Tables.{IsLow};
+ghost use Rattle.recover_heap.specs.declared.error.RecoverError.TheVariants.{Fault};
 
 use crate::dropping::dropped_sections;
 use crate::findings::Findings;
@@ -49,8 +47,7 @@ use std::alloc::Global;
 pub fn study<D: Disk>(alloc: Global, disk: &mut D) -> Result<Study, RecoverError>
     // Any bytes are studied as an image, or refused by the first thing that is wrong with them, with the lane and the
     // place. A study has the image's layout and heap, what is kept and what is dropped, and each reason.
-    ensures exact { MatchResult result (IsStudyOf (D.device disk.old).now.bytes)
-        (RefusesImage (D.device disk.old).now.bytes) }
+    ensures exact { Studies (D.device disk.old).now.bytes result }
     // A study changes nothing of the device.
     ensures same { SameMoments (D.device disk.old) (D.device disk.new) }
     // A study is refused by a fault only where the device has failed.
@@ -67,11 +64,8 @@ pub fn find_out<D: Disk>(
     disk: &mut D,
     front: Front,
 ) -> Result<Findings, RecoverError>
-    requires { HasControl (D.device disk.old).now.bytes front.layout front.guards.items front.slot
-        front.control }
-    ensures exact { MatchResult result
-        (λ found. IsStudyOf (D.device disk.old).now.bytes found.study)
-        (RefusesLive (D.device disk.old).now.bytes front.layout front.guards.items front.control) }
+    requires { IsFrontOf (D.device disk.old).now.bytes front }
+    ensures exact { FindsRest (D.device disk.old).now.bytes front result }
     ensures undone { IfOk result (λ found. AreUndoneOf found.study found.undone.items) }
     ensures control { IfOk result (λ found. found.study.control ≡ front.control) }
     ensures same { SameMoments (D.device disk.old) (D.device disk.new) }
@@ -103,14 +97,11 @@ fn find_heap<D: Disk>(
     steps: &[Step],
 ) -> Result<OldHeap, RecoverError>
     requires holds { Holds (D.device disk.old).now.bytes image.now }
-    requires replays { Replays (logged_guard_in image.now.guards.items)
-        (lanes_of image.now.records.items) (log_of steps.now) }
+    requires replays { IsReplayIn image.now steps.now }
     requires low { All IsLow steps.now }
     ensures stands { IfOk result
         (λ old. StandsFor image.now.layout (D.device disk.old).now.bytes old.heap.items) }
-    ensures undone { IfOk result
-        (λ old. AreUndone image.now.layout image.now.guards.items image.now.control.rows
-        (lanes_of image.now.records.items) old.undone.items) }
+    ensures undone { IfOk result (λ old. AreUndoneIn image.now old.undone.items) }
     ensures no_other { IfErr result RefusesHeap }
     ensures same { SameMoments (D.device disk.old) (D.device disk.new) }
     ensures cause { HasCauseSince (D.device disk.old) (D.device disk.new) Fault result }
@@ -134,13 +125,9 @@ fn report_on(
     undone: &[FieldId],
 ) -> Result<Report, RecoverError>
     requires holds { (bytes : List ℕ) × Holds bytes image.now }
-    requires replays { Replays (logged_guard_in image.now.guards.items)
-        (lanes_of image.now.records.items) (log_of steps.now) }
-    requires undone { AreUndone image.now.layout image.now.guards.items image.now.control.rows
-        (lanes_of image.now.records.items) undone.now }
-    ensures exact { MatchResult result
-        (IsReportOf image.now.layout image.now.guards.items image.now.control.rows
-        (lanes_of image.now.records.items)) (λ e. e ≡ NoMemory) }
+    requires replays { IsReplayIn image.now steps.now }
+    requires undone { AreUndoneIn image.now undone.now }
+    ensures exact { ReportsOn image.now result }
 {
     let dropped = dropped_sections(
         alloc,

@@ -1,7 +1,7 @@
--- The heap that an image stands for, by the replay of its live records: each field takes the value before its first store
+-- The heap that an image stands for, by the replay of its live records. Each field takes the value before its first store
 -- that isn't settled (undo after Atlas; the order of the stores to a field is this project's own). A list of records has its
 -- newest first.
-use Rattle.std.specs.Prelude.{ℕ, ◌≡◌, ◌<◌, ◌↔◌, ◌==◌, if◌then◌else◌, nat_le, List, [], ◌∷◌, length, slice_index, map, Contains, Option, Some, None}
+use Rattle.std.specs.Prelude.{ℕ, ◌≡◌, ◌<◌, ◌↔◌, ◌==◌, if◌then◌else◌, nat_le, List, [], ◌∷◌, length, slice_index, map, Contains, Option, Some, None, ◌≢◌, Bool, slice_index_or}
 use Rattle.std.specs.List.Sorted.{IsStrictlyIncreasing}
 use Rattle.heap_model.specs.Log.{lane}
 use Rattle.heap_model.specs.declared.ids.FieldId.{FieldId}
@@ -13,6 +13,8 @@ use Rattle.image_parts.specs.declared.lane_row.LaneRow.{LaneRow}
 use Rattle.image_parts.specs.declared.layout.Layout.{Layout}
 use Rattle.undo_log.specs.OldValues.{OldValue, HasOld, IsUnsettled, TakesBack}
 use Rattle.undo_log.specs.StandsFor.{guard_in, row_in, settled_of}
+use Rattle.recover_logs.specs.Tables.{log_of}
+use Rattle.recover_logs.specs.declared.step.Step.{Step}
 use Rattle.recover_heap.specs.declared.error.RecoverError.{RecoverError}
 use Rattle.recover_heap.specs.declared.error.RecoverError.TheVariants.{Fault, NoMemory}
 
@@ -45,7 +47,7 @@ pub record IsUndone (guard field : ℕ) (lanes : ℕ → List UndoRecord) (settl
   pub had : HasOld guard field (lanes lane) store
   pub out : IsUnsettled settled lane store
 
--- these are all such fields, each once, in rising order
+-- these are all fields of this kind, each once, in rising order
 pub record AreFields (IsSuch : ℕ → Type 0) (fields : List FieldId) : Type 0 where
   pub rising : IsStrictlyIncreasing (map (λ f. f.0) fields)
   pub each : (f : FieldId) → Contains fields f ↔ IsSuch f.0
@@ -60,3 +62,27 @@ RefusesHeap _ = ⊥
 abbrev pub TakesAllBack : Layout → List GuardRow → List LaneRow → (lanes : ℕ → List UndoRecord) → (bytes heap : List ℕ) → Type 0
 TakesAllBack l guards rows lanes bytes heap =
     (f : ℕ) → f < l.fields → TakesBack (guard_in guards f) f lanes (IsUnsettled (settled_of rows)) (HasHome l (row_in guards f) f bytes) (slice_index heap f)
+
+-- these are the fields with a live store past the place up to which its lane is settled, by number: each takes an old value back
+abbrev pub AreUndone : Layout → List GuardRow → List LaneRow → (lanes : ℕ → List UndoRecord) → List FieldId → Type 0
+AreUndone l guards rows lanes fields = AreFields (λ f. (f < l.fields) × IsUndone (guard_in guards f) f lanes (settled_of rows)) fields
+
+-- by field, the value before its first store of these steps that isn't settled, if it has one
+abbrev pub AreOldValues : (fields : ℕ) → List LaneRow → List Step → List (Option ℕ) → Type 0
+AreOldValues n rows steps before = (f : ℕ) → f < n → slice_index_or before f None ≡ first_old (settled_of rows) f (log_of steps)
+
+-- by field, the old value, or where there is none that before this store, if it isn't settled
+abbrev pub KeepsFirst : (old : List (Option ℕ)) → UndoRecord → (is_settled : Bool) → (new : List (Option ℕ)) → Type 0
+KeepsFirst old r s new = (f : ℕ) → f < length old → slice_index_or new f None ≡ earlier (slice_index_or old f None) (if s then None else stored f r)
+
+-- these are the fields with an old value, each once, in rising order
+abbrev pub HaveOldValues : List (Option ℕ) → List FieldId → Type 0
+HaveOldValues before fields = AreFields (λ f. (f < length before) × (slice_index_or before f None ≢ None)) fields
+
+-- the field of this row has the old value, or where there is none that which it has at home
+abbrev pub IsValueOf : Layout → GuardRow → (field : ℕ) → (old : Option ℕ) → List ℕ → ℕ → Type 0
+IsValueOf l row f old image value = IsOldOrHome old (HasHome l row f image) value
+
+-- so has each field, by these old values
+abbrev pub AreValuesOf : Layout → List GuardRow → (before : List (Option ℕ)) → List ℕ → (heap : List ℕ) → Type 0
+AreValuesOf l guards before image heap = (f : ℕ) → f < l.fields → IsValueOf l (row_in guards f) f (slice_index_or before f None) image (slice_index heap f)

@@ -1,5 +1,5 @@
 -- The lanes' live records, as they were read.
-use Rattle.std.specs.Prelude.{ℕ, ◌≡◌, ◌<◌, ◌+◌, if◌then◌else◌, All, List, length, map, slice_index_or, Vec, Option, Some, None}
+use Rattle.std.specs.Prelude.{ℕ, ◌≡◌, ◌<◌, ◌+◌, if◌then◌else◌, All, List, length, map, slice_index_or, Vec, Option, Some, None, MatchResult, Result}
 use Rattle.std.specs.declared.alloc.Global.{Global}
 use Rattle.heap_model.specs.declared.ids.Lane.{Lane}
 use Rattle.heap_model.specs.declared.ids.ObjectId.{ObjectId}
@@ -7,10 +7,13 @@ use Rattle.heap_model.specs.declared.record.UndoRecord.{UndoRecord}
 use Rattle.image_parts.specs.declared.layout.Layout.{Layout}
 use Rattle.image_parts.specs.declared.lane_row.LaneRow.{LaneRow}
 use Rattle.image_parts.specs.declared.guard_row.GuardRow.{GuardRow}
-use Rattle.undo_log.specs.Area.{HasRecord, IsLoggable}
+use Rattle.undo_log.specs.Area.{HasRecord, HasSpan, IsLoggable}
 use Rattle.undo_log.specs.Runs.{IsFull}
 use Rattle.undo_log.specs.StandsFor.{row_of, guard_in, HasLive}
 pub use Rattle.recover_logs.specs.Logs.{records_of, lanes_of}
+use Rattle.recover_logs.specs.Replay.{Replays}
+use Rattle.recover_logs.specs.Tables.{log_of}
+use Rattle.recover_logs.specs.declared.step.Step.{Step}
 use Rattle.recover_heap.specs.declared.error.RecoverError.{RecoverError}
 use Rattle.recover_heap.specs.declared.error.RecoverError.TheVariants.{Fault, BadRecord, NoMemory}
 
@@ -64,3 +67,15 @@ pub record AreLoggable (l : Layout) (rows : List LaneRow) (logs : List (Vec Undo
 pub record AreGuards (l : Layout) (guards : List GuardRow) : Type 0 where
   pub count : length guards ≡ l.fields
   pub each : (f : ℕ) → f < l.fields → guard_in guards f < l.objects
+
+-- the steps, which have the oldest first, are the replay of these logs of an image with these guard rows
+abbrev pub AreReplayOf : List GuardRow → (logs : List (Vec UndoRecord Global)) → List Step → Type 0
+AreReplayOf guards logs steps = Replays (logged_guard_in guards) (lanes_of logs) (log_of steps)
+
+-- the live records of a lane with this row are read, or refused for what the refusal says
+abbrev pub ReadsLane : Layout → List ℕ → Lane → LaneRow → Result (Vec UndoRecord Global) RecoverError → Type 0
+ReadsLane l image lane row result = MatchResult result (λ records. HasSpan l lane.0 row.start row.logged image records.items) (RefusesLane l image lane row)
+
+-- the lanes' live records are read, or refused for what the refusal says
+abbrev pub ReadsLogs : Layout → List ℕ → List LaneRow → Result (Vec (Vec UndoRecord Global) Global) RecoverError → Type 0
+ReadsLogs l image rows result = MatchResult result (λ logs. AreLogs l image rows logs.items) (RefusesLogs l image rows)

@@ -1,10 +1,10 @@
 //! Calls of the device with this crate's refusal: a fault is the one thing that can go wrong.
-ghost use Rattle.std.specs.Prelude.{◌≡◌, ◌<◌, ◌≤◌, [], ◌∷◌, length, slice_index, IfErr, OnErr, OnOk};
-ghost use Rattle.std.specs.Int.{to_be_bytes, w64};
-ghost use Rattle.block_disk.specs.Device.{SameMoments, synced, written};
+ghost use Rattle.std.specs.Prelude.{◌≡◌, ◌<◌, [], ◌∷◌, ◌≤◌, length, IfErr, OnErr, OnOk};
+ghost use Rattle.block_disk.specs.Device.{SameMoments, synced};
 ghost use Rattle.block_disk.specs.Since.{HasCauseSince, LeavesBut};
-ghost use Rattle.image_parts.specs.Cells.{HasCell, cell_range};
-ghost use Rattle.image_parts.specs.Layout.{cell_at, size_of};
+ghost use Rattle.image_parts.specs.Cells.{cell_range};
+ghost use Rattle.image_parts.specs.Layout.{size_of};
+ghost use Rattle.recover_heap.specs.Putting.{IsPut, put_on};
 ghost use Rattle.recover_heap.specs.declared.error.RecoverError.TheVariants.{Fault};
 
 use crate::error::RecoverError;
@@ -36,11 +36,9 @@ pub fn put_value<D: Disk>(
     requires fits { size_of layout.now ≤ length (D.device disk.old).now.bytes }
     requires heap { length heap.now ≡ layout.now.fields }
     requires field { field.0 < layout.now.fields }
-    ensures ok { OnOk result (HasCell layout.now field.0 (D.device disk.new).now.bytes
-        (slice_index heap.now field.0)) }
+    ensures ok { OnOk result (IsPut layout.now heap.now (D.device disk.new).now.bytes field) }
     ensures written { OnOk result
-        (D.device disk.new ≡ written (cell_at layout.now field.0)
-        (to_be_bytes w64 (slice_index heap.now field.0)) (D.device disk.old)) }
+        (D.device disk.new ≡ put_on layout.now heap.now field (D.device disk.old)) }
     ensures only_fault { IfErr result (λ e. e ≡ Fault) }
     ensures any_moment { LeavesBut (cell_range layout.now field.0 ∷ [])
         (D.device disk.old) (D.device disk.new) }

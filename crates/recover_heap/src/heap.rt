@@ -1,14 +1,12 @@
 //! The heap that an image stands for, from the replay of its live records.
-ghost use Rattle.std.specs.Prelude.{◌≡◌, ◌≢◌, ◌+◌, ◌-◌, ◌<◌, ◌≤◌, ◌^◌, ℕ, All, if◌then◌else◌, nat_lt, IfErr, IfOk, None, Some, length, slice_index, slice_index_or, slice_set};
+ghost use Rattle.std.specs.Prelude.{◌≡◌, ◌+◌, ◌-◌, ◌<◌, ◌≤◌, ◌^◌, ℕ, All, nat_lt, IfErr, IfOk, None, length, slice_index, slice_index_or, slice_set};
 ghost use Rattle.block_disk.specs.Device.{SameMoments};
 ghost use Rattle.block_disk.specs.Since.{HasCauseSince};
 ghost use Rattle.image_parts.specs.Cells.{HasHome};
 ghost use Rattle.image_parts.specs.Layout.{size_of};
-ghost use Rattle.undo_log.specs.StandsFor.{guard_in, row_in, settled_of};
-ghost use Rattle.recover_heap.specs.Heap.{AreFields, IsOldOrHome, IsUndone, RefusesHeap, TakesAllBack, earlier, first_old, stored};
-ghost use Rattle.recover_heap.specs.Logs.{lanes_of, logged_guard_in};
-ghost use Rattle.recover_logs.specs.Replay.{Replays};
-ghost use Rattle.recover_logs.specs.Tables.{IsLow, log_of};
+ghost use Rattle.recover_heap.specs.Heap.{AreOldValues, AreUndone, AreValuesOf, HaveOldValues, IsValueOf, KeepsFirst, RefusesHeap, TakesAllBack};
+ghost use Rattle.recover_heap.specs.Logs.{AreReplayOf, lanes_of};
+ghost use Rattle.recover_logs.specs.Tables.{IsLow};
 ghost use Rattle.recover_heap.specs.declared.error.RecoverError.TheVariants.{Fault, NoMemory};
 
 use crate::error::RecoverError;
@@ -45,16 +43,13 @@ pub fn old_heap<D: Disk>(
 ) -> Result<OldHeap, RecoverError>
     requires fits { size_of layout.now ≤ length (D.device disk.old).now.bytes }
     requires guards { length guards.now ≡ layout.now.fields }
-    requires replayed { Replays (logged_guard_in guards.now) (lanes_of logs.now)
-        (log_of steps.now) }
+    requires replayed { AreReplayOf guards.now logs.now steps.now }
     requires low { All IsLow steps.now }
     ensures size { IfOk result (λ old. length old.heap.items ≡ layout.now.fields) }
     ensures takes { IfOk result (λ old. TakesAllBack layout.now guards.now rows.now
         (lanes_of logs.now) (D.device disk.old).now.bytes old.heap.items) }
     ensures undone { IfOk result
-        (λ old. AreFields (λ f. (f < layout.now.fields)
-        × IsUndone (guard_in guards.now f) f (lanes_of logs.now)
-        (settled_of rows.now)) old.undone.items) }
+        (λ old. AreUndone layout.now guards.now rows.now (lanes_of logs.now) old.undone.items) }
     ensures no_other { IfErr result RefusesHeap }
     ensures same { SameMoments (D.device disk.old) (D.device disk.new) }
     ensures cause { HasCauseSince (D.device disk.old) (D.device disk.new) Fault result }
@@ -74,9 +69,7 @@ fn old_values(
 ) -> Result<Vec<Option<u64>>, RecoverError>
     requires low { All IsLow steps.now }
     ensures size { IfOk result (λ before. length before.items ≡ fields) }
-    ensures each { IfOk result (λ before. (f : ℕ) → f < fields
-        → slice_index_or before.items f None
-        ≡ first_old (settled_of rows.now) f (log_of steps.now)) }
+    ensures each { IfOk result (λ before. AreOldValues fields rows.now steps.now before.items) }
     ensures only_memory { IfErr result (λ e. e ≡ NoMemory) }
 {
     let mut before = no_values(alloc, fields)?;
@@ -116,9 +109,7 @@ fn count_next(places: &mut [usize; 32], row: LaneRow, lane: Lane) -> bool
 // Keeps the value before the store, if it isn't settled and no earlier one is kept for its field.
 fn keep_first(values: &mut [Option<u64>], entry: UndoRecord, is_settled: bool)
     ensures size { length values.new ≡ length values.old }
-    ensures each { (f : ℕ) → f < length values.old
-        → slice_index_or values.new f None
-        ≡ earlier (slice_index_or values.old f None) (if is_settled then None else stored f entry) }
+    ensures each { KeepsFirst values.old entry is_settled values.new }
 {
     if let UndoRecord::Put { field, before } = entry {
         let at = field.0 as usize;
@@ -131,8 +122,7 @@ fn keep_first(values: &mut [Option<u64>], entry: UndoRecord, is_settled: bool)
 // The fields with an old value, in rising order.
 fn fields_with(alloc: Global, before: &[Option<u64>]) -> Result<Vec<FieldId>, RecoverError>
     requires { length before.now < 2 ^ 32 }
-    ensures ok { IfOk result (λ fields. AreFields (λ f. (f < length before.now)
-        × (slice_index_or before.now f None ≢ None)) fields.items) }
+    ensures ok { IfOk result (λ fields. HaveOldValues before.now fields.items) }
     ensures only_memory { IfErr result (λ e. e ≡ NoMemory) }
 {
     let mut fields = Vec::new(alloc);
@@ -158,10 +148,8 @@ fn values<D: Disk>(
     requires guards { length guards.now ≡ layout.now.fields }
     requires fields { length before.now ≡ layout.now.fields }
     ensures size { IfOk result (λ heap. length heap.items ≡ layout.now.fields) }
-    ensures each { IfOk result (λ heap. (f : ℕ) → f < layout.now.fields
-        → IsOldOrHome (slice_index_or before.now f None)
-        (HasHome layout.now (row_in guards.now f) f (D.device disk.old).now.bytes)
-        (slice_index heap.items f)) }
+    ensures each { IfOk result (λ heap. AreValuesOf layout.now guards.now before.now
+        (D.device disk.old).now.bytes heap.items) }
     ensures no_other { IfErr result RefusesHeap }
     ensures same { SameMoments (D.device disk.old) (D.device disk.new) }
     ensures cause { HasCauseSince (D.device disk.old) (D.device disk.new) Fault result }
@@ -187,8 +175,7 @@ fn value_of<D: Disk>(
 ) -> Result<u64, RecoverError>
     requires fits { size_of layout.now ≤ length (D.device disk.old).now.bytes }
     requires field { field.0 < layout.now.fields }
-    ensures ok { IfOk result (IsOldOrHome old
-        (HasHome layout.now row field.0 (D.device disk.old).now.bytes)) }
+    ensures ok { IfOk result (IsValueOf layout.now row field.0 old (D.device disk.old).now.bytes) }
     ensures only_fault { IfErr result (λ e. e ≡ Fault) }
     ensures same { SameMoments (D.device disk.old) (D.device disk.new) }
     ensures cause { HasCauseSince (D.device disk.old) (D.device disk.new) Fault result }

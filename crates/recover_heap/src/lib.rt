@@ -1,7 +1,7 @@
 //! The heap that an image's live records stand for, and its way back into the home cells.
 //!
 //! [`old_heap`] finds it, from the replay of the records: each field takes the value before its first live store that isn't settled, or has
-//! the one in its home cell. [`put_back`] writes such values into their cells. `recover` reads the image before that, and ends the recovery
+//! the one in its home cell. [`put_back`] writes those values into their cells. `recover` reads the image before that, and ends the recovery
 //! after it.
 #![tactic(auto)]
 

@@ -1,10 +1,9 @@
 //! Old values go back to their home cells.
-ghost use Rattle.std.specs.Prelude.{◌≡◌, ◌<◌, ◌≤◌, All, length, slice_index, IfErr, OnOk};
+ghost use Rattle.std.specs.Prelude.{◌≡◌, ◌<◌, ◌≤◌, All, length, IfErr, OnOk};
 ghost use Rattle.block_disk.specs.Since.{HasCauseSince, LeavesBut};
 ghost use Rattle.image_parts.specs.Calls.{after};
-ghost use Rattle.image_parts.specs.Cells.{HasCell};
 ghost use Rattle.image_parts.specs.Layout.{size_of};
-ghost use Rattle.recover_heap.specs.Putting.{cell_ranges, put_calls};
+ghost use Rattle.recover_heap.specs.Putting.{ArePut, cell_ranges, put_calls};
 ghost use Rattle.recover_heap.specs.declared.error.RecoverError.TheVariants.{Fault};
 
 use crate::device::put_value;
@@ -25,9 +24,7 @@ pub fn put_back<D: Disk>(
     requires fits { size_of layout.now ≤ length (D.device disk.old).now.bytes }
     requires heap { length heap.now ≡ layout.now.fields }
     requires fields { All (λ f. f.0 < layout.now.fields) undone.now }
-    ensures ok { OnOk result (All
-        (λ f. HasCell layout.now f.0 (D.device disk.new).now.bytes
-        (slice_index heap.now f.0)) undone.now) }
+    ensures ok { OnOk result (ArePut layout.now heap.now (D.device disk.new).now.bytes undone.now) }
     ensures calls { OnOk result (D.device disk.new
         ≡ after (put_calls layout.now heap.now undone.now) (D.device disk.old)) }
     ensures only_fault { IfErr result (λ e. e ≡ Fault) }
