@@ -20,7 +20,7 @@ use Rattle.heap_model.specs.Own.{Hold, own}
 use Rattle.law_histories.proofs.Own.{by_test}
 use Rattle.monitor.specs.declared.view.Plan.{Plan}
 use Rattle.monitor.specs.declared.view.View.{View}
-use Rattle.monitor.specs.Words.{objects, LockAt, Words}
+use Rattle.monitor.specs.Words.{objects, LockAt, place, Words}
 use Rattle.monitor.specs.Views.{slot_of, word_of, told, fattened, IsClear, IsAwake, Holds, Stands}
 use Rattle.lock_word.specs.Spelling.{Spells, Shows}
 use Rattle.lock_word.proofs.Spelled.{spelled_once}
@@ -113,10 +113,14 @@ looking k m l w s views o (Fat i n) shown f clear lt is shows says = let u : Vie
     )
     (refl, st, refl))
 
-pub look_step : (k : Plan) (m : Sat) (l : Lane) (o : ℕ) → IsClear m.0 → o < objects k → Owes k m l (LockAt o) (λ x. x) (looks (step 0 o 0 0 none) m)
-look_step k m l o clear lt = record {
-  paid = λ w s views f. let x = f.facts.locks o lt in let shown : Sat → Type 0 = looks (step 0 o 0 0 none) m (w.lock o) in
-      loaded k m l w s (LockAt o) shown (looking k m l w s views o x.0 shown f clear lt x.1 x.2 (λ m' news turn. (x.0, x.1, news, turn)));
+-- the step is on the object's lock word
+pub on_lock : (k : Plan) (m : Sat) (l : Lane) (w : Words) (s : State) (views : List View) (o : ObjectId) (i : ℕ) → Now k l m.0 w s views → i ≡ place k (LockAt o.0) → i ≡ place m.0.plan (LockAt o.0)
+on_lock k m l w s views o i f is = is ∙ ap (λ (z : Plan). place z (LockAt o.0)) (sym f.truth.planned)
+
+pub look_step : (k : Plan) (m : Sat) (l : Lane) (o : ObjectId) (i : ℕ) → IsClear m.0 → i ≡ place k (LockAt o.0) → o.0 < objects k → Owes k m l (LockAt o.0) (λ x. x) (looks (step 0 i 0 0 none) m)
+look_step k m l o i clear is lt = record {
+  paid = λ w s views f. let x = f.facts.locks o.0 lt in let at = on_lock k m l w s views o i f is in let shown : Sat → Type 0 = looks (step 0 i 0 0 none) m (w.lock o.0) in
+      loaded k m l w s (LockAt o.0) shown (looking k m l w s views o.0 x.0 shown f clear lt x.1 x.2 (λ m' news turn. (o, at, (x.0, x.1, news, turn))));
 }
 
 -- takes
@@ -148,10 +152,10 @@ enter_changes k m l w w' s views o n f masks clear awake lt free = let e : Event
       knowing = knowing_told m.0 e;
     }
 
-pub take_step : (k : Plan) (m : Sat) (l : Lane) (o : ObjectId) (n old new : ℕ) → IsClear m.0 → IsAwake m.0 → o.0 < objects k → n < k.last → Spells old (Free n) → Spells new (Thin (l.0 + 1) 0 n)
-    → Owes k m l (LockAt o.0) (λ x. either (eqb x old) new x) (takes (step 0 o.0 old new none) m)
-take_step k m l o n old new clear awake lt below from to = record {
-  paid = λ w s views f. let x : ℕ = w.lock o.0 in let here = f.facts.locks o.0 lt in let shown : Sat → Type 0 = takes (step 0 o.0 old new none) m x in
+pub take_step : (k : Plan) (m : Sat) (l : Lane) (o : ObjectId) (n old new i : ℕ) → IsClear m.0 → IsAwake m.0 → i ≡ place k (LockAt o.0) → o.0 < objects k → n < k.last → Spells old (Free n) → Spells new (Thin (l.0 + 1) 0 n)
+    → Owes k m l (LockAt o.0) (λ x. either (eqb x old) new x) (takes (step 0 i old new none) m)
+take_step k m l o n old new i clear awake here_is lt below from to = record {
+  paid = λ w s views f. let x : ℕ = w.lock o.0 in let here = f.facts.locks o.0 lt in let at = on_lock k m l w s views o i f here_is in let shown : Sat → Type 0 = takes (step 0 i old new none) m x in
       exchanged x old new (λ z. Paid k m l w (record w { lock = with_at w.lock o.0 z }) s shown)
       (λ hit. let e : Event = Enter o n in let is : Spells x (Free n) = (hit ∙ from.0, from.1) in
       let free : Shows w.fat s o.0 (Free n) = subst (λ (y : Shape). Shows w.fat s o.0 y) (spelled_once x here.0 (Free n) here.1 is) here.2 in
@@ -160,8 +164,8 @@ take_step k m l o n old new clear awake lt below from to = record {
       (with_here s.owner o.0 (Some l.0) ∙ ap Some (omega arith), with_here s.count o.0 1, free.2)
       (turned_one m.0 e)
       (enter_changes k m l w (record w { lock = with_at w.lock o.0 new }) s views o n f refl clear awake lt free.0)
-      (λ st. ((λ _. (n, from.0, news k l m.0 w s o.0 (Free n) f.truth tt is, (refl, st, refl))), λ ne. absurd (ne hit))))
-      (λ miss. loaded k m l w s (LockAt o.0) shown (looking k m l w s views o.0 here.0 shown f clear lt here.1 here.2 (λ m' news turn. ((λ e. absurd (miss e)), λ _. (here.0, here.1, news, turn)))));
+      (λ st. (o, at, (λ _. (n, from.0, news k l m.0 w s o.0 (Free n) f.truth tt is, (refl, st, refl))), λ ne. absurd (ne hit))))
+      (λ miss. loaded k m l w s (LockAt o.0) shown (looking k m l w s views o.0 here.0 shown f clear lt here.1 here.2 (λ m' news turn. (o, at, (λ e. absurd (miss e)), λ _. (here.0, here.1, news, turn)))));
 }
 
 -- the owner's stores: what it holds is known by its own events
@@ -180,24 +184,24 @@ count_changes k m l w w' s views o c e f masks clear is = subst (λ (z : State).
   knowing = knowing_told m.0 e;
 })
 
-pub nest_step : (k : Plan) (m : Sat) (l : Lane) (o : ObjectId) (a n x : ℕ) → IsClear m.0 → IsAwake m.0 → o.0 < objects k → Holds m.0 o.0 a n → slot_of o.0 m.0.fats ≡ None → Spells x (Thin (l.0 + 1) (a + 1) n)
-    → Owes k m l (LockAt o.0) (λ _. x) (nests (step 0 o.0 x 0 none) m)
-nest_step k m l o a n x clear awake lt h thin to = record {
+pub nest_step : (k : Plan) (m : Sat) (l : Lane) (o : ObjectId) (a n x i : ℕ) → IsClear m.0 → IsAwake m.0 → i ≡ place k (LockAt o.0) → o.0 < objects k → Holds m.0 o.0 a n → slot_of o.0 m.0.fats ≡ None → Spells x (Thin (l.0 + 1) (a + 1) n)
+    → Owes k m l (LockAt o.0) (λ _. x) (nests (step 0 i x 0 none) m)
+nest_step k m l o a n x i clear awake is lt h thin to = record {
   paid = λ w s views f. let e : Event = NestedEnter o in let mine = f.held o.0 (record { count = a + 1; number = n }) h in let count : s.count o.0 ≡ a + 1 = mine.1 in
-      lock_tells k m l w s views o.0 x (Thin (l.0 + 1) (a + 1) n) e (told m.0 e) (nests (step 0 o.0 x 0 none) m (w.lock o.0)) f lt (λ i names. f.truth.thin o.0 i lt mine.0 thin names) tt to
+      lock_tells k m l w s views o.0 x (Thin (l.0 + 1) (a + 1) n) e (told m.0 e) (nests (step 0 i x 0 none) m (w.lock o.0)) f lt (λ j names. f.truth.thin o.0 j lt mine.0 thin names) tt to
       (f.awake awake, mine.0) lt
       (mine.0 ∙ ap Some (omega arith), with_here s.count o.0 (s.count o.0 + 1) ∙ omega arith, mine.2)
-      (turned_one m.0 e) (count_changes k m l w (record w { lock = with_at w.lock o.0 x }) s views o.0 (s.count o.0 + 1) e f refl clear refl) (λ st. (refl, st, refl));
+      (turned_one m.0 e) (count_changes k m l w (record w { lock = with_at w.lock o.0 x }) s views o.0 (s.count o.0 + 1) e f refl clear refl) (λ st. (o, on_lock k m l w s views o i f is, (refl, st, refl)));
 }
 
-pub unnest_step : (k : Plan) (m : Sat) (l : Lane) (o : ObjectId) (a n x : ℕ) → IsClear m.0 → IsAwake m.0 → o.0 < objects k → Holds m.0 o.0 (a + 1) n → slot_of o.0 m.0.fats ≡ None → Spells x (Thin (l.0 + 1) a n)
-    → Owes k m l (LockAt o.0) (λ _. x) (unnests (step 0 o.0 x 0 none) m)
-unnest_step k m l o a n x clear awake lt h thin to = record {
+pub unnest_step : (k : Plan) (m : Sat) (l : Lane) (o : ObjectId) (a n x i : ℕ) → IsClear m.0 → IsAwake m.0 → i ≡ place k (LockAt o.0) → o.0 < objects k → Holds m.0 o.0 (a + 1) n → slot_of o.0 m.0.fats ≡ None → Spells x (Thin (l.0 + 1) a n)
+    → Owes k m l (LockAt o.0) (λ _. x) (unnests (step 0 i x 0 none) m)
+unnest_step k m l o a n x i clear awake is lt h thin to = record {
   paid = λ w s views f. let e : Event = NestedExit o in let mine = f.held o.0 (record { count = a + 1 + 1; number = n }) h in let count : s.count o.0 ≡ a + 1 + 1 = mine.1 in
-      lock_tells k m l w s views o.0 x (Thin (l.0 + 1) a n) e (told m.0 e) (unnests (step 0 o.0 x 0 none) m (w.lock o.0)) f lt (λ i names. f.truth.thin o.0 i lt mine.0 thin names) tt to
+      lock_tells k m l w s views o.0 x (Thin (l.0 + 1) a n) e (told m.0 e) (unnests (step 0 i x 0 none) m (w.lock o.0)) f lt (λ j names. f.truth.thin o.0 j lt mine.0 thin names) tt to
       (f.awake awake, mine.0, omega arith) lt
       (mine.0 ∙ ap Some (omega arith), with_here s.count o.0 (s.count o.0 - 1) ∙ omega arith, mine.2)
-      (turned_one m.0 e) (count_changes k m l w (record w { lock = with_at w.lock o.0 x }) s views o.0 (s.count o.0 - 1) e f refl clear refl) (λ st. (refl, st, refl));
+      (turned_one m.0 e) (count_changes k m l w (record w { lock = with_at w.lock o.0 x }) s views o.0 (s.count o.0 - 1) e f refl clear refl) (λ st. (o, on_lock k m l w s views o i f is, (refl, st, refl)));
 }
 
 pub exit_changes : (k : Plan) (m : Sat) (l : Lane) (w w' : Words) (s : State) (views : List View) (o : ObjectId) (n : ℕ) → Now k l m.0 w s views → w'.mask ≡ w.mask → IsClear m.0 → IsAwake m.0 → o.0 < objects k → s.owner o.0 ≡ Some l.0
@@ -213,13 +217,13 @@ exit_changes k m l w w' s views o n f masks clear awake lt mine = let e : Event 
       knowing = knowing_told m.0 e;
     }
 
-pub leave_step : (k : Plan) (m : Sat) (l : Lane) (o : ObjectId) (n x : ℕ) → IsClear m.0 → IsAwake m.0 → o.0 < objects k → Holds m.0 o.0 0 n → slot_of o.0 m.0.fats ≡ None → Spells x (Free (n + 1))
-    → Owes k m l (LockAt o.0) (λ _. x) (leaves (step 0 o.0 x 0 none) m)
-leave_step k m l o n x clear awake lt h thin to = record {
+pub leave_step : (k : Plan) (m : Sat) (l : Lane) (o : ObjectId) (n x i : ℕ) → IsClear m.0 → IsAwake m.0 → i ≡ place k (LockAt o.0) → o.0 < objects k → Holds m.0 o.0 0 n → slot_of o.0 m.0.fats ≡ None → Spells x (Free (n + 1))
+    → Owes k m l (LockAt o.0) (λ _. x) (leaves (step 0 i x 0 none) m)
+leave_step k m l o n x i clear awake is lt h thin to = record {
   paid = λ w s views f. let e : Event = Exit o n in let mine = f.held o.0 (record { count = 0 + 1; number = n }) h in let count : s.count o.0 ≡ 1 = mine.1 in
-      lock_tells k m l w s views o.0 x (Free (n + 1)) e (told m.0 e) (leaves (step 0 o.0 x 0 none) m (w.lock o.0)) f lt (λ i names. f.truth.thin o.0 i lt mine.0 thin names) tt to
+      lock_tells k m l w s views o.0 x (Free (n + 1)) e (told m.0 e) (leaves (step 0 i x 0 none) m (w.lock o.0)) f lt (λ j names. f.truth.thin o.0 j lt mine.0 thin names) tt to
       (f.awake awake, mine.0, count, mine.2) lt
       (with_here s.owner o.0 None, with_here s.count o.0 0, with_here s.number o.0 (n + 1))
       (turned_one m.0 e) (exit_changes k m l w (record w { lock = with_at w.lock o.0 x }) s views o n f refl clear awake lt mine.0)
-      (λ st a q h'. (ap (λ (z : ℕ). told m.0 (Exit o z)) (same_hold 0 n a q (sym h ∙ h')).1, st, refl));
+      (λ st. (o, on_lock k m l w s views o i f is, λ a q h'. (ap (λ (z : ℕ). told m.0 (Exit o z)) (same_hold 0 n a q (sym h ∙ h')).1, st, refl)));
 }

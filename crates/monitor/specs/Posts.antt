@@ -10,7 +10,7 @@ use Rattle.monitor.specs.declared.view.Part.{Part}
 use Rattle.monitor.specs.declared.view.View.{View}
 use Rattle.monitor.specs.Views.{noted, keeping}
 
--- acknowledged counts are numbered from 0, and trimmed places behind them
+-- acknowledged counts are numbered from 0, and trimmed places come after them
 abbrev pub post_number : Post → ℕ
 post_number (Stable lane) = lane.0
 post_number (Trimmed lane) = LANES + lane.0

@@ -37,6 +37,8 @@ pub struct Shared {
     pub(crate) table: Table<(), View, Key, Lawful, Global>,
     pub(crate) object_total: usize,
     pub(crate) field_total: usize,
+    // Where the fields begin.
+    pub(crate) field_base: usize,
     pub(crate) last: u64,
     pub(crate) schema: Schema,
 }
@@ -49,7 +51,7 @@ impl Model for Shared {
 
     ghost view = { λ s. record { table = s.table.shared.table_id; plan = plan_of s.table.shared.key } };
 
-    ghost invariant = { λ s. IsHome (plan_of s.table.shared.key) s.table.shared.table_id s.object_total s.field_total s.last s.schema };
+    ghost invariant = { λ s. IsHome (plan_of s.table.shared.key) s.table.shared.table_id s.object_total s.field_total s.field_base s.last s.schema };
 }
 
 impl Shared {

@@ -73,10 +73,8 @@ impl Shared {
         // or is no news to the owner.
         ensures news { IsNews seat.old.view object result }
     {
-        let found = self
-            .table
-            .shared
-            .load::<Looks>(&mut seat.seat, object.0 as usize);
+        let place = self.lock_place(object);
+        let found = self.table.shared.load::<Looks>(&mut seat.seat, place);
         LockWord::parse(found).unwrap()
     }
 
@@ -104,12 +102,8 @@ impl Shared {
         let shared = &self.table.shared;
         let free = LockWord::free(number).bits();
         let taken = LockWord::thin(u16::from(seat.lane.0) + 1, 0, number);
-        let found = shared.compare_exchange::<Takes>(
-            &mut seat.seat,
-            object.0 as usize,
-            free,
-            taken.bits(),
-        );
+        let place = self.lock_place(object);
+        let found = shared.compare_exchange::<Takes>(&mut seat.seat, place, free, taken.bits());
         if found == free {
             Ok(taken)
         } else {
@@ -130,9 +124,10 @@ impl Shared {
         ensures told { seat.new.view ≡ told seat.old.view (Event.NestedEnter object) }
     {
         let next = word.nested();
+        let place = self.lock_place(object);
         self.table
             .shared
-            .store::<Nests>(&mut seat.seat, object.0 as usize, next.bits());
+            .store::<Nests>(&mut seat.seat, place, next.bits());
         next
     }
 
@@ -149,9 +144,10 @@ impl Shared {
         ensures told { seat.new.view ≡ told seat.old.view (Event.NestedExit object) }
     {
         let next = word.unnested();
+        let place = self.lock_place(object);
         self.table
             .shared
-            .store::<Unnests>(&mut seat.seat, object.0 as usize, next.bits());
+            .store::<Unnests>(&mut seat.seat, place, next.bits());
         next
     }
 
@@ -170,6 +166,7 @@ impl Shared {
         let shared = &self.table.shared;
         let _lane = seat.lane;
         let next = word.released();
-        shared.store::<Leaves>(&mut seat.seat, object.0 as usize, next.bits());
+        let place = self.lock_place(object);
+        shared.store::<Leaves>(&mut seat.seat, place, next.bits());
     }
 }
