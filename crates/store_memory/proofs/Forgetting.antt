@@ -71,7 +71,7 @@ module _ (m : Logged) (base : ℕ → ℕ) (log : List (ℕ × Record)) (cut : C
       trim_stable (actions log) (base_of m.graph) c (λ k. omega (arith, graph.within k, may.tells.whole k)) graph.closed (stable_same (since (base_of m.graph) (actions log)) c (subst (λ (xs : List (ℕ × Action)). IsStable xs c) graph.since_is stable)) in
       omega (arith, all.greatest (counts_of cut) may.whole may.closed l)
 
-  module _ (places : List ℕ) (there : (l : ℕ) → l < m.lanes → slice_index places l ≡ slice_index m.ends (slot_of m.capacity l (counts_of cut l))) where
+  module _ (places : List ℕ) (there : (l : ℕ) → l < m.lanes → slice_index places l ≡ slice_index m.ends (slot_of m.capacity m.lanes l (counts_of cut l))) where
     behind : (l : ℕ) → l < m.lanes → slice_index places l ≡ place_behind (counts_of cut l) (lane l log)
     behind l lt = there l lt ∙ (may.tells.lane_is l lt).ends (counts_of cut l) (may.within l) (may.whole l)
 

@@ -1,5 +1,6 @@
 pub mod BitLaws
 pub mod DirtyLaws
+pub mod LaneLogs
 pub mod FreshLaws
 pub mod Held
 pub mod Remembering
@@ -8,6 +9,7 @@ pub mod LogLaws
 pub mod Begins
 pub mod SectionCounts
 pub mod SectionRoom
+pub mod Slots
 pub mod OnMonitors
 pub mod SectionLaws
 pub mod Forgetting

@@ -23,12 +23,13 @@ use Rattle.law_cuts.proofs.Trimmed.{since_counts, trim_stable}
 use Rattle.dependence.specs.Trace.{Trace, base_of, sections_of, IsStableOf}
 use Rattle.dependence.specs.Next.{IsNext, IsObjectBelow}
 use Rattle.dependence.proofs.Legal.{allowed_next}
-use Rattle.store_memory.specs.Ends.{slot_of}
+use Rattle.store_memory.specs.Ends.{slot_of, with_slot}
 use Rattle.store_memory.specs.Counted.{MayEnd, ends_after}
 use Rattle.store_memory.specs.Sections.{Logged, place_behind, start_in, most_beyond, with_action, on_monitors, TellsLane, TellsGraph, TellsSections, MayBeLogged}
 use Rattle.store_memory.proofs.SectionCounts.{lane_own, lane_else, ends_once, ended_short, ended_records, in_older, in_newest, sections_past, start_grown, since_all}
 use Rattle.store_memory.proofs.OnMonitors.{ended_same, fewer, one_more, next_same, stable_same}
-use Rattle.store_memory.proofs.SectionRoom.{total_less, lane_past, since_lanes, sections_apart, lanes_apart, slot_within}
+use Rattle.store_memory.proofs.SectionRoom.{total_less, lane_past, since_lanes}
+use Rattle.store_memory.proofs.Slots.{sections_apart, lanes_apart, slot_same, slot_other}
 
 named_in : (s : Setting) (r : Record) → s.objects ≤ 4096 → IsRecordOf s r → IsObjectBelow 4096 (undo_of r)
 named_in s (Acq o n) few of = omega arith
@@ -44,7 +45,7 @@ ends_some (Put f before after) xs = omega arith
 
 -- what is known after the lane's record, with the graph as it is then
 abbrev pub logged_after : Logged → Trace → (lane : ℕ) → Logged
-logged_after m g l = record m { graph = g; places = slice_set m.places l (slice_index m.places l + 1); ends = ends_after m.capacity l (nat_lt (sections_of m.graph l) (sections_of g l)) (sections_of g l) (slice_index m.places l + 1) m.ends }
+logged_after m g l = record m { graph = g; places = slice_set m.places l (slice_index m.places l + 1); ends = ends_after m.capacity m.lanes l (nat_lt (sections_of m.graph l) (sections_of g l)) (sections_of g l) (slice_index m.places l + 1) m.ends }
 
 -- what the graph forgot is whole
 kept_whole : (m : Logged) (base : ℕ → ℕ) (log : List (ℕ × Record)) → TellsSections m base log → IsWhole (actions log) (base_of m.graph)
@@ -150,7 +151,7 @@ module _ (s : Setting) (m : Logged) (base : ℕ → ℕ) (log : List (ℕ × Rec
   near : ended (lane l (actions ((l, r) ∷ log))) ≤ base l + m.capacity
   near = omega (arith, sections_past (base l) (lane l ((l, r) ∷ log)), ended_records l ((l, r) ∷ log), start_grown base l l r log (was.whole l), room)
 
-  module _ (g : Trace) (told : g.log ≡ with_action (l, action r) m.graph.log) (same_base : g.base ≡ m.graph.base) (long : l < length m.places) (slots : length m.ends ≡ m.lanes * (m.capacity + 1)) where
+  module _ (g : Trace) (told : g.log ≡ with_action (l, action r) m.graph.log) (same_base : g.base ≡ m.graph.base) (long : l < length m.places) where
     since_now : (cut : ℕ → ℕ) → cut l ≤ ended (lane l (actions log)) → since cut (actions ((l, r) ∷ log)) ≡ (l, action r) ∷ since cut (actions log)
     since_now cut whole = ap (λ (b : Bool). if b then since cut (actions log) else (l, action r) ∷ since cut (actions log)) (le-ltb (ended (lane l (actions log))) (cut l) whole)
 
@@ -180,31 +181,31 @@ module _ (s : Setting) (m : Logged) (base : ℕ → ℕ) (log : List (ℕ × Rec
 
     -- the lane's places with the new one
     ends_new : (n : ℕ) → base l ≤ n → n ≤ ended (lane l (actions ((l, r) ∷ log))) → sections_of m.graph l < sections_of g l →
-        slice_index (slice_set m.ends (slot_of m.capacity l (sections_of g l)) (slice_index m.places l + 1)) (slot_of m.capacity l n) ≡ place_behind n (lane l ((l, r) ∷ log))
+        slice_index (with_slot m.ends (slot_of m.capacity m.lanes l (sections_of g l)) (slice_index m.places l + 1)) (slot_of m.capacity m.lanes l n) ≡ place_behind n (lane l ((l, r) ∷ log))
     ends_new n from le more = elim (cases_lt n (sections_of g l)) [
       | inl lt ↦
           let old : n ≤ ended (lane l (actions log)) = omega (arith, lt, after_is, grown) in
-          get_or-set_other m.ends (slot_of m.capacity l (sections_of g l)) (slot_of m.capacity l n) (slice_index m.places l + 1) 0
-          (sections_apart m.capacity l n (sections_of g l) lt (omega (arith, after_is, near, from)))
+          slot_other m.ends (slot_of m.capacity m.lanes l (sections_of g l)) (slot_of m.capacity m.lanes l n) (slice_index m.places l + 1)
+          (sections_apart m.capacity m.lanes l n (sections_of g l) low lt (omega (arith, after_is, near, from)))
           ∙ mine.ends n from old ∙ sym (behind_older n old)
       | inr ge ↦
           let same : n ≡ sections_of g l = omega (arith, ge, le, after_is) in
           let new : ended (lane l (actions log)) < n = omega (arith, same, more, before_is) in
-          ap (λ (k : ℕ). slice_index (slice_set m.ends (slot_of m.capacity l (sections_of g l)) (slice_index m.places l + 1)) (slot_of m.capacity l k)) same
-          ∙ get_or-set_same m.ends (slot_of m.capacity l (sections_of g l)) (slice_index m.places l + 1) 0 (omega (arith, slots, slot_within m.capacity m.lanes l (sections_of g l) low))
+          ap (λ (k : ℕ). slice_index (with_slot m.ends (slot_of m.capacity m.lanes l (sections_of g l)) (slice_index m.places l + 1)) (slot_of m.capacity m.lanes l k)) same
+          ∙ slot_same m.ends (slot_of m.capacity m.lanes l (sections_of g l)) (slice_index m.places l + 1)
           ∙ ap (λ (k : ℕ). k + 1) mine.place ∙ sym (behind_newest n new)
     ]
 
     ends_now : (n : ℕ) → base l ≤ n → n ≤ ended (lane l (actions ((l, r) ∷ log))) →
-        slice_index (ends_after m.capacity l (nat_lt (sections_of m.graph l) (sections_of g l)) (sections_of g l) (slice_index m.places l + 1) m.ends) (slot_of m.capacity l n) ≡ place_behind n (lane l ((l, r) ∷ log))
+        slice_index (ends_after m.capacity m.lanes l (nat_lt (sections_of m.graph l) (sections_of g l)) (sections_of g l) (slice_index m.places l + 1) m.ends) (slot_of m.capacity m.lanes l n) ≡ place_behind n (lane l ((l, r) ∷ log))
     ends_now n from le = elim (cases_lt (sections_of m.graph l) (sections_of g l)) [
       | inl more ↦
-          ap (λ (b : Bool). slice_index (if b then slice_set m.ends (slot_of m.capacity l (sections_of g l)) (slice_index m.places l + 1) else m.ends) (slot_of m.capacity l n))
+          ap (λ (b : Bool). slice_index (if b then with_slot m.ends (slot_of m.capacity m.lanes l (sections_of g l)) (slice_index m.places l + 1) else m.ends) (slot_of m.capacity m.lanes l n))
           (lt-ltb (sections_of m.graph l) (sections_of g l) more)
           ∙ ends_new n from le more
       | inr none ↦
           let old : n ≤ ended (lane l (actions log)) = omega (arith, le, none, after_is, before_is) in
-          ap (λ (b : Bool). slice_index (if b then slice_set m.ends (slot_of m.capacity l (sections_of g l)) (slice_index m.places l + 1) else m.ends) (slot_of m.capacity l n))
+          ap (λ (b : Bool). slice_index (if b then with_slot m.ends (slot_of m.capacity m.lanes l (sections_of g l)) (slice_index m.places l + 1) else m.ends) (slot_of m.capacity m.lanes l n))
           (le-ltb (sections_of m.graph l) (sections_of g l) none)
           ∙ mine.ends n from old ∙ sym (behind_older n old)
     ]
@@ -217,10 +218,10 @@ module _ (s : Setting) (m : Logged) (base : ℕ → ℕ) (log : List (ℕ × Rec
     }
 
     -- another lane's places stay
-    ends_other : (k n : ℕ) → k ≢ l → slice_index (ends_after m.capacity l (nat_lt (sections_of m.graph l) (sections_of g l)) (sections_of g l) (slice_index m.places l + 1) m.ends) (slot_of m.capacity k n) ≡ slice_index m.ends (slot_of m.capacity k n)
-    ends_other k n ne = elim (nat_lt (sections_of m.graph l) (sections_of g l)) as
-        (λ b. slice_index (if b then slice_set m.ends (slot_of m.capacity l (sections_of g l)) (slice_index m.places l + 1) else m.ends) (slot_of m.capacity k n) ≡ slice_index m.ends (slot_of m.capacity k n)) [
-          | true ↦ get_or-set_other m.ends (slot_of m.capacity l (sections_of g l)) (slot_of m.capacity k n) (slice_index m.places l + 1) 0 (lanes_apart m.capacity k l n (sections_of g l) ne)
+    ends_other : (k n : ℕ) → k < m.lanes → k ≢ l → slice_index (ends_after m.capacity m.lanes l (nat_lt (sections_of m.graph l) (sections_of g l)) (sections_of g l) (slice_index m.places l + 1) m.ends) (slot_of m.capacity m.lanes k n) ≡ slice_index m.ends (slot_of m.capacity m.lanes k n)
+    ends_other k n lt ne = elim (nat_lt (sections_of m.graph l) (sections_of g l)) as
+        (λ b. slice_index (if b then with_slot m.ends (slot_of m.capacity m.lanes l (sections_of g l)) (slice_index m.places l + 1) else m.ends) (slot_of m.capacity m.lanes k n) ≡ slice_index m.ends (slot_of m.capacity m.lanes k n)) [
+          | true ↦ slot_other m.ends (slot_of m.capacity m.lanes l (sections_of g l)) (slot_of m.capacity m.lanes k n) (slice_index m.places l + 1) (lanes_apart m.capacity m.lanes k l n (sections_of g l) lt low ne)
           | false ↦ refl
         ]
 
@@ -232,7 +233,7 @@ module _ (s : Setting) (m : Logged) (base : ℕ → ℕ) (log : List (ℕ × Rec
         record {
           place = get_or-set_other m.places l k (slice_index m.places l + 1) 0 ne ∙ there.place ∙ ap (λ (xs : List Record). length xs) (sym records);
           room = omega (arith, there.room, ap (λ (xs : List Record). length xs) records, start_grown base k l r log (was.whole k));
-          ends = λ n from le. ends_other k n ne ∙ there.ends n from (omega (arith, le, ap (λ (xs : List Action). ended xs) acts)) ∙ ap (λ (xs : List Record). place_behind n xs) (sym records);
+          ends = λ n from le. ends_other k n lt ne ∙ there.ends n from (omega (arith, le, ap (λ (xs : List Action). ended xs) acts)) ∙ ap (λ (xs : List Record). place_behind n xs) (sym records);
         }
 
     pub tells_next : TellsSections (logged_after m g l) base ((l, r) ∷ log)
@@ -261,7 +262,7 @@ tells_nothing m based empty none zeros = record {
   lane_is = λ l lt. record {
     place = none l;
     room = omega arith;
-    ends = λ n from le. zeros (slot_of m.capacity l n);
+    ends = λ n from le. zeros (slot_of m.capacity m.lanes l n);
   };
 }
   where
@@ -352,7 +353,7 @@ stable_told m base log tells cut of =
 
 -- the places in the table's slots are those behind the cut's sections
 pub behind_told : (m : Logged) (base : ℕ → ℕ) (log : List (ℕ × Record)) → TellsSections m base log → (cut : ℕ → ℕ) → IsStableOf m.graph cut → (places : List ℕ) →
-    ((l : ℕ) → l < m.lanes → slice_index places l ≡ slice_index m.ends (slot_of m.capacity l (cut l))) → ((l : ℕ) → m.lanes ≤ l → slice_index places l ≡ 0) →
+    ((l : ℕ) → l < m.lanes → slice_index places l ≡ slice_index m.ends (slot_of m.capacity m.lanes l (cut l))) → ((l : ℕ) → m.lanes ≤ l → slice_index places l ≡ 0) →
     (l : ℕ) → slice_index places l ≡ place_behind (cut l) (lane l log)
 behind_told m base log tells cut of places there none l = elim (cases_lt l m.lanes) [
   | inl lt ↦
@@ -360,9 +361,3 @@ behind_told m base log tells cut of places there none l = elim (cases_lt l m.lan
       there l lt ∙ (tells.lane_is l lt).ends (cut l) (stable.greatest base tells.whole tells.closed l) (stable.whole l)
   | inr ge ↦ none l ge ∙ sym (ap (λ (xs : List Record). place_behind (cut l) xs) (lane_past m.lanes l log tells.of_lanes ge))
 ]
-
--- a list of one value
-pub one_value : {A : Type 0} → (n k : ℕ) (x : A) → slice_index_or (replicate n x) k x ≡ x
-one_value zero k x = refl
-one_value (suc n) zero x = refl
-one_value (suc n) (suc k) x = one_value n k x

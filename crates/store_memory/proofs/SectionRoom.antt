@@ -1,8 +1,7 @@
--- Room for the records of all lanes, and where the slots of their sections lie.
-use Rattle.std.proofs.Common.{ℕ, zero, suc, ◌≡◌, ◌≢◌, ◌+◌, ◌-◌, ◌*◌, ◌%◌, ◌<◌, ◌≤◌, if◌then◌else◌, Bool, true, false, List, [], ◌∷◌, length, All, refl, sym, ap, ◌∙◌, subst, inl, inr, arith, nat_lt}
-use Rattle.std.proofs.Math.Nat.{suc-mul, mod-lt, mod-eq_of_lt, mod-add-mod, add-mod_left}
-use Rattle.std.proofs.lemmas.Nat.{mul-le}
-use Rattle.std.proofs.lemmas.Bool.{cases_lt, eq-eqb, ne_eqb}
+-- Room for the records of all lanes.
+use Rattle.std.proofs.Common.{ℕ, zero, suc, ◌≡◌, ◌+◌, ◌*◌, ◌<◌, ◌≤◌, if◌then◌else◌, Bool, true, false, List, [], ◌∷◌, length, All, refl, ap, ◌∙◌, subst, arith, nat_lt}
+use Rattle.std.proofs.Math.Nat.{suc-mul}
+use Rattle.std.proofs.lemmas.Bool.{eq-eqb, ne_eqb}
 use Rattle.std.proofs.lemmas.List.Elements.{All-nil, All-cons, All-head, All-tail}
 use mathlib.Core.Logic.{dite}
 use native.Mathlib.Decide.{ℕ_discrete}
@@ -11,7 +10,6 @@ use Rattle.heap_model.specs.Log.{lane}
 use Rattle.heap_model.specs.Sections.{Action, action, actions, ended}
 use Rattle.heap_model.specs.Base.{since}
 use Rattle.dependence.specs.Trace.{in_all}
-use Rattle.store_memory.specs.Ends.{slot_of}
 
 -- the records of the first lanes
 abbrev count_below : ℕ → List (ℕ × Action) → ℕ
@@ -84,50 +82,3 @@ lane_past lanes l [] of le = refl
 lane_past lanes l ((m, r) ∷ older) of le =
     let low : m < lanes = All-head (λ (y : ℕ × Record). y.0 < lanes) (m, r) older of in
     ap (λ (b : Bool). if b then r ∷ lane l older else lane l older) (ne_eqb m l (omega arith)) ∙ lane_past lanes l older (All-tail (λ (y : ℕ × Record). y.0 < lanes) (m, r) older of) le
-
--- numbers less than n apart differ modulo n
-differ : (n p d : ℕ) → 0 < d → d < n → (p + d) % n ≡ p % n → ⊥
-differ n p d more less same =
-    let r = p % n in
-    let low : r < n = mod-lt p (omega arith) in
-    let next : (r + d) % n ≡ r = mod-add-mod p n d ∙ same in
-    elim (cases_lt (r + d) n) [
-      | inl below ↦ absurd (omega (arith, more, sym (mod-eq_of_lt below) ∙ next))
-      | inr from ↦
-          let k = r + d - n in
-          let is : r + d ≡ n + k = omega arith in
-          let small : k < n = omega arith in
-          let again : k ≡ r = sym (mod-eq_of_lt small) ∙ sym (add-mod_left n k) ∙ ap (λ (m : ℕ). m % n) (sym is) ∙ next in
-          absurd (omega (arith, again, is, less))
-    ]
-
--- the slots of two sections of a lane
-pub sections_apart : (c l i j : ℕ) → i < j → j ≤ i + c → slot_of c l i ≢ slot_of c l j
-sections_apart c l i j lt near same =
-    let d = j - i in
-    let is : j ≡ i + d = omega arith in
-    let equal : (i + d) % (c + 1) ≡ i % (c + 1) = ap (λ (k : ℕ). k % (c + 1)) (sym is) ∙ (let e : l * (c + 1) + i % (c + 1) ≡ l * (c + 1) + j % (c + 1) = same in omega arith) in
-    differ (c + 1) i d (omega arith) (omega arith) equal
-
-before : (c k l i j : ℕ) → k < l → slot_of c k i < slot_of c l j
-before c k l i j lt =
-    let low : i % (c + 1) < c + 1 = mod-lt i (omega arith) in
-    let area : suc k * (c + 1) ≤ l * (c + 1) = mul-le (suc k) (c + 1) l (c + 1) (omega arith) (omega arith) in
-    omega (arith, suc-mul k (c + 1))
-
--- the slots of two lanes
-pub lanes_apart : (c k l i j : ℕ) → k ≢ l → slot_of c k i ≢ slot_of c l j
-lanes_apart c k l i j ne same = elim (cases_lt k l) [
-  | inl lt ↦ omega (arith, before c k l i j lt, same)
-  | inr ge ↦ (let lt : l < k = omega arith in omega (arith, before c l k j i lt, same))
-]
-
--- an area lies within the table
-pub area_within : (c lanes l : ℕ) → l < lanes → (l + 1) * (c + 1) ≤ lanes * (c + 1)
-area_within c lanes l lt = mul-le (l + 1) (c + 1) lanes (c + 1) (omega arith) (omega arith)
-
-pub slot_within : (c lanes l n : ℕ) → l < lanes → slot_of c l n < lanes * (c + 1)
-slot_within c lanes l n lt =
-    let low : n % (c + 1) < c + 1 = mod-lt n (omega arith) in
-    let area : suc l * (c + 1) ≤ lanes * (c + 1) = mul-le (suc l) (c + 1) lanes (c + 1) (omega arith) (omega arith) in
-    omega (arith, suc-mul l (c + 1))

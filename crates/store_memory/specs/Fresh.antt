@@ -1,5 +1,6 @@
 -- The records that were applied and not yet logged, in the order applied and by lane (Atlas's undo logs, one a lane).
-use Rattle.std.specs.Prelude.{ℕ, ◌≡◌, ◌+◌, ◌*◌, ◌<◌, ◌≤◌, List, [], ◌∷◌, map, length, reverse, take, drop, slice_index}
+use Rattle.std.specs.Prelude.{ℕ, ◌≡◌, ◌*◌, ◌<◌, ◌≤◌, List, [], ◌∷◌, map, length, reverse, slice_index, slice_index_or, Vec, vec_capacity}
+use Rattle.std.specs.declared.alloc.Global.{Global}
 use Rattle.heap_model.specs.declared.record.Record.{Record}
 use Rattle.heap_model.specs.declared.record.LaneRecord.{LaneRecord}
 use Rattle.heap_model.specs.declared.record.UndoRecord.{UndoRecord}
@@ -21,18 +22,18 @@ abbrev pub IsOfLanes : (lanes : ℕ) → List (ℕ × Record) → Type 0
 IsOfLanes lanes [] = Unit {0}
 IsOfLanes lanes (x ∷ older) = (x.0 < lanes) × IsOfLanes lanes older
 
--- area l, which begins at l * room, has the lane's records, and their count is known; all of them are in the order applied too
-pub record IsSorted (room : ℕ) (records : List LaneRecord) (areas : List UndoRecord) (counts : List ℕ) (capacity : ℕ) : Type 0 where
-  pub of_lanes : IsOfLanes (length counts) (log_from records)
-  pub areas_are : length areas ≡ length counts * room
-  pub counted : (l : ℕ) → l < length counts → slice_index counts l ≡ length (lane l (log_from records))
-  pub bounded : (l : ℕ) → l < length counts → slice_index counts l ≤ room
-  pub kept : (l : ℕ) → l < length counts → take (slice_index counts l) (drop (l * room) areas) ≡ undo_log_of l records
-  pub held : length counts * room ≤ capacity
+-- the lane's undo log, of these; none where there is no such lane
+abbrev pub log_in : List (Vec UndoRecord Global) → (lane : ℕ) → List UndoRecord
+log_in logs l = slice_index_or (map (λ v. v.items) logs) l []
 
--- the same where the places behind the areas' last records are known
-pub record HasEnds (room : ℕ) (records : List LaneRecord) (areas : List UndoRecord) (ends : List ℕ) (capacity : ℕ) : Type 0 where
-  pub counts : List ℕ
-  pub many : length counts ≡ length ends
-  pub ends_are : (l : ℕ) → l < length ends → slice_index ends l ≡ l * room + slice_index counts l
-  pub sorted : IsSorted room records areas counts capacity
+-- for how many records it has room
+abbrev pub room_in : List (Vec UndoRecord Global) → (lane : ℕ) → ℕ
+room_in logs l = slice_index (map (λ v. vec_capacity v) logs) l
+
+-- Each lane's log has its records and room for so many. All of them are in the order applied too, where all lanes' have room.
+pub record IsSorted (room : ℕ) (records : List LaneRecord) (logs : List (Vec UndoRecord Global)) (capacity : ℕ) : Type 0 where
+  pub of_lanes : IsOfLanes (length logs) (log_from records)
+  pub kept : (l : ℕ) → l < length logs → log_in logs l ≡ undo_log_of l records
+  pub bounded : (l : ℕ) → l < length logs → length (lane l (log_from records)) ≤ room
+  pub rooms : (l : ℕ) → l < length logs → room ≤ room_in logs l
+  pub held : length logs * room ≤ capacity

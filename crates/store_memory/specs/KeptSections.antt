@@ -1,5 +1,5 @@
 -- What is true of the fields in which a store keeps what it knows of its logged sections.
-use Rattle.std.specs.Prelude.{◌≡◌, ◌+◌, ◌*◌, ◌≤◌, length}
+use Rattle.std.specs.Prelude.{◌≡◌, ◌+◌, ◌*◌, ◌≤◌, length, vec_capacity}
 use Rattle.dependence.specs.Trace.{told_of}
 use Rattle.store_memory.specs.declared.sections.LoggedSections.TheInside.{Inside}
 use Rattle.store_memory.specs.Sections.{Logged}
@@ -14,4 +14,4 @@ pub record HasSlots (g : Inside) : Type 0 where
   pub rows : length g.places ≡ 32
   pub graph_lanes : g.graph.lanes ≡ g.lanes
   pub graph_room : g.graph.room + length g.graph.log ≡ 2 * (g.lanes * g.capacity)
-  pub slots : length g.ends.items ≡ g.lanes * (g.capacity + 1)
+  pub slots : (g.capacity + 1) * g.lanes ≤ vec_capacity g.ends

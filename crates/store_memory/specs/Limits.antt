@@ -5,15 +5,20 @@ use Rattle.heap_model.specs.declared.record.Record.TheVariants.{Acq, Rel, WaitRe
 use Rattle.store_memory.specs.declared.states.LaneState.{LaneState}
 use Rattle.store_memory.specs.Memory.{Memory, lane_in}
 
+-- how many records a section may have, with the releases that it still needs
+abbrev pub section_records : ℕ
+section_records = 1000
+
+-- the lane is within its limits
 pub record IsWithin (capacity : ℕ) (s : LaneState) : Type 0 where
   -- the open section with the releases that it needs
-  pub short : s.section + s.held ≤ 1000
+  pub short : s.section + s.held ≤ section_records
   pub closed : s.held ≡ 0 → s.section ≡ 0
   -- its area has room for the records since the start, and for the rest of an open section
   pub room : s.place ≤ s.start + capacity
-  pub open_room : 0 < s.held → s.place + 1000 ≤ s.start + capacity + s.section
+  pub open_room : 0 < s.held → s.place + section_records ≤ s.start + capacity + s.section
   -- places
-  pub low : s.place < 2 ^ 62 + 1001
+  pub low : s.place < 2 ^ 62 + section_records + 1
   pub open_low : 0 < s.held → s.place < 2 ^ 62 + s.section
 
 -- each lane is

@@ -21,7 +21,7 @@ on_monitors [] = []
 on_monitors (x ∷ older) = with_action x (on_monitors older)
 
 -- The lanes, how many records each may have since what was trimmed, the graph of the records that take or free a monitor, which forgets what was trimmed
--- later, by lane how many were logged since the heap was opened, and the places behind the sections, by slot.
+-- later, by lane how many were logged since the heap was opened, and the places after the sections, by slot.
 pub record Logged : Type 0 where
   pub lanes : ℕ
   pub capacity : ℕ
@@ -29,12 +29,12 @@ pub record Logged : Type 0 where
   pub places : List ℕ
   pub ends : List ℕ
 
--- the place behind a lane's first n sections: how many records they have
+-- the place after a lane's first n sections: how many records they have
 abbrev pub place_behind : (n : ℕ) → List Record → ℕ
 place_behind n [] = 0
 place_behind n (r ∷ older) = if nat_lt (ended (map action older)) n then length older + 1 else place_behind n older
 
--- the place behind what was trimmed of the lane
+-- the place after what was trimmed of the lane
 abbrev pub start_in : (base : ℕ → ℕ) → List (ℕ × Record) → (lane : ℕ) → ℕ
 start_in base log l = place_behind (base l) (lane l log)
 
@@ -42,8 +42,8 @@ start_in base log l = place_behind (base l) (lane l log)
 pub record TellsLane (m : Logged) (base : ℕ → ℕ) (log : List (ℕ × Record)) (l : ℕ) : Type 0 where
   pub place : slice_index m.places l ≡ length (lane l log)
   pub room : length (lane l log) ≤ start_in base log l + m.capacity
-  -- the place behind each section since, and behind what was trimmed
-  pub ends : (n : ℕ) → base l ≤ n → n ≤ ended (lane l (actions log)) → slice_index m.ends (slot_of m.capacity l n) ≡ place_behind n (lane l log)
+  -- the place after each section since, and after what was trimmed
+  pub ends : (n : ℕ) → base l ≤ n → n ≤ ended (lane l (actions log)) → slice_index m.ends (slot_of m.capacity m.lanes l n) ≡ place_behind n (lane l log)
 
 -- how many records the graph may have beyond so many that were not trimmed: as many as these and 4,096, and no more than the
 -- lanes have room for
@@ -76,3 +76,15 @@ pub record MayBeLogged (s : Setting) (m : Logged) (base : ℕ → ℕ) (log newe
   -- each lane has room for them, and places don't come to their end
   pub room : (l : ℕ) → l < m.lanes → length (lane l (newer ++ log)) ≤ start_in base log l + m.capacity
   pub places : (l : ℕ) → l < m.lanes → length (lane l (newer ++ log)) < 2 ^ 64
+
+-- these records, the newest first, may be logged next, after some log
+abbrev pub MayAdd : Logged → List (ℕ × Record) → Type 0
+MayAdd m newer = (s : Setting) × (base : ℕ → ℕ) × (log : List (ℕ × Record)) × MayBeLogged s m base log newer
+
+-- A call that adds these records, the newest first: `old` is what was known before it and `new` what is known after it.
+pub record Adds (newer : List (ℕ × Record)) (old new : Logged) : Type 0 where
+  -- What is known then is true of the log with these records.
+  pub tells : (s : Setting) (base : ℕ → ℕ) (log : List (ℕ × Record)) → MayBeLogged s old base log newer → TellsSections new base (newer ++ log)
+  -- The lanes and their room stay.
+  pub lanes : new.lanes ≡ old.lanes
+  pub capacity : new.capacity ≡ old.capacity

@@ -8,6 +8,7 @@ use Rattle.heap_model.specs.declared.store_error.StoreError.TheVariants.{BadLane
 use Rattle.store_memory.specs.declared.states.MonitorState.{MonitorState}
 use Rattle.store_memory.specs.declared.states.FieldState.{FieldState}
 use Rattle.store_memory.specs.declared.states.LaneState.{LaneState}
+use Rattle.store_memory.specs.Limits.{section_records}
 use Rattle.store_memory.specs.Memory.{holder_in, number_in, value_in, guard_in, is_logged_in, lane_in, held_after, object_number}
 use Rattle.store_memory.specs.Apply.{HasLastNumber}
 
@@ -32,10 +33,10 @@ abbrev pub IsNextIn : (last : ℕ) → List MonitorState → List FieldState →
 IsNextIn last monitors fields l s r = Allows last monitors fields l r × MayFollow (object_number s.awaited) r
 
 abbrev pub IsTooLongIn : LaneState → Record → Type 0
-IsTooLongIn s r = 1000 < s.section + 1 + held_after r s.held
+IsTooLongIn s r = section_records < s.section + 1 + held_after r s.held
 
 abbrev pub IsFullIn : (capacity : ℕ) → LaneState → Type 0
-IsFullIn capacity s = (s.held ≡ 0) × (s.start + capacity < s.place + 1000)
+IsFullIn capacity s = (s.held ≡ 0) × (s.start + capacity < s.place + section_records)
 
 -- the answer to a record whose lane and names are good
 abbrev pub JudgesNamed : (last capacity : ℕ) → LaneState → List MonitorState → List FieldState → (lane : ℕ) → Record → Result (Unit {0}) StoreError → Type 0

@@ -4,10 +4,10 @@ ghost use Rattle.std.specs.Prelude.{◌≡◌, ◌+◌, ◌^◌, ◌<◌, ◌≤
 ghost use Rattle.heap_model.specs.Setting.{Setting};
 ghost use Rattle.heap_model.specs.declared.record.Record.TheVariants.{Acq, Rel, WaitRel, Put};
 ghost use Rattle.heap_model.specs.Log.{value as value_of, log_from};
-ghost use Rattle.heap_model.specs.Past.{Past, applied, no_past, after_apply, after_log, after_home, after_trim};
+ghost use Rattle.heap_model.specs.Past.{Past, applied, no_past, after_log, after_home, after_trim};
 ghost use Rattle.store_memory.specs.Memory.{field_in, lane_in, guard_in, value_in, KeepsLayout};
 ghost use Rattle.store_memory.specs.Remembers.{Remembers, place_of, held_of};
-ghost use Rattle.store_memory.specs.Apply.{Answers};
+ghost use Rattle.store_memory.specs.Apply.{Takes};
 ghost use Rattle.store_memory.specs.Verdict.{Judges};
 ghost use Rattle.store_memory.specs.Fresh.{undo_log_of};
 ghost use Rattle.store_memory.specs.Limits.{AreWithin, FitWords};
@@ -20,7 +20,9 @@ use crate::fresh::FreshRecords;
 use crate::logged::log_all;
 use crate::note::{note_lane, note_monitor, note_starts, note_store};
 use crate::states::{FREE, FieldState, IDLE, LaneState, MonitorState};
-use heap_model::{FieldId, Lane, LaneRecord, NewRecords, ObjectId, Record, StoreError, UndoRecord};
+use heap_model::{
+    FieldId, LANES, Lane, LaneRecord, NewRecords, ObjectId, Record, StoreError, UndoRecord,
+};
 use std::alloc::{AllocError, Global};
 use std::marker::Model;
 
@@ -56,8 +58,8 @@ impl Applied {
     /// The memory of no records: all monitors are free at number 0, and the fields have their values at home. Release
     /// numbers stay at `last` or below; `capacity` is how many records a lane's area holds.
     ///
-    /// It takes all the memory that the records will need: for each record of each lane's area what the
-    /// undo log keeps of it, and the record itself. No other call takes memory.
+    /// It reserves all the memory that the records will need: for each record of each lane's area what the
+    /// undo log keeps of it, and the record itself. What no record has used yet isn't touched. No other call takes memory.
     pub fn new(
         alloc: Global,
         lanes: u8,
@@ -69,7 +71,9 @@ impl Applied {
         requires fields { length fields.items < 2 ^ 32 }
         requires guards { (f : ℕ) → f < length fields.items → guard_in fields.items f < objects }
         requires home { (f : ℕ) → f < length fields.items → (field_in fields.items f).logged ≡ value_in fields.items f }
-        ensures remembers { (s : Setting) → AreFieldsOf objects fields.items last s → IfOk result (λ m. Remembers s m no_past) }
+        // A new memory is that of no records.
+        ensures remembers { (s : Setting) → AreFieldsOf objects fields.items last s
+            → IfOk result (λ m. Remembers s m no_past) }
         ensures lanes { IfOk result (λ m. length m.lanes ≡ lanes) }
         ensures capacity { IfOk result (λ m. m.capacity ≡ capacity) }
         ensures fields { IfOk result (λ m. length m.fields ≡ length fields.items) }
@@ -92,10 +96,7 @@ impl Applied {
     /// A refusal changes nothing. The reasons are tried in the order of [`StoreError`].
     #[inline(always)]
     pub fn apply(&mut self, lane: Lane, record: Record) -> Result<(), StoreError>
-        ensures answer { (s : Setting) (p : Past) → Remembers s self.old p → Answers s self.old p lane.0 «record» result }
-        ensures ok { (s : Setting) (p : Past) → Remembers s self.old p → OnOk result (Remembers s self.new (after_apply p lane.0 «record»)) }
-        ensures err { OnErr result (self.new ≡ self.old) }
-        ensures kept { KeepsLayout self.old self.new }
+        ensures { Takes lane.0 «record» self.old self.new result }
     {
         // Each kind has a function, which gets the record's parts in registers.
         match record {
@@ -113,10 +114,7 @@ impl Applied {
     // Applies an acquire.
     #[inline(never)]
     fn take_acquire(&mut self, lane: Lane, object: ObjectId, number: u64) -> Result<(), StoreError>
-        ensures answer { (s : Setting) (p : Past) → Remembers s self.old p → Answers s self.old p lane.0 (Acq object number) result }
-        ensures ok { (s : Setting) (p : Past) → Remembers s self.old p → OnOk result (Remembers s self.new (after_apply p lane.0 (Acq object number))) }
-        ensures err { OnErr result (self.new ≡ self.old) }
-        ensures kept { KeepsLayout self.old self.new }
+        ensures { Takes lane.0 (Acq object number) self.old self.new result }
     {
         self.take(lane, Record::Acq { object, number })
     }
@@ -124,10 +122,7 @@ impl Applied {
     // Applies a release.
     #[inline(never)]
     fn take_release(&mut self, lane: Lane, object: ObjectId, number: u64) -> Result<(), StoreError>
-        ensures answer { (s : Setting) (p : Past) → Remembers s self.old p → Answers s self.old p lane.0 (Rel object number) result }
-        ensures ok { (s : Setting) (p : Past) → Remembers s self.old p → OnOk result (Remembers s self.new (after_apply p lane.0 (Rel object number))) }
-        ensures err { OnErr result (self.new ≡ self.old) }
-        ensures kept { KeepsLayout self.old self.new }
+        ensures { Takes lane.0 (Rel object number) self.old self.new result }
     {
         self.take(lane, Record::Rel { object, number })
     }
@@ -135,10 +130,7 @@ impl Applied {
     // Applies the release of a wait.
     #[inline(never)]
     fn take_wait(&mut self, lane: Lane, object: ObjectId, number: u64) -> Result<(), StoreError>
-        ensures answer { (s : Setting) (p : Past) → Remembers s self.old p → Answers s self.old p lane.0 (WaitRel object number) result }
-        ensures ok { (s : Setting) (p : Past) → Remembers s self.old p → OnOk result (Remembers s self.new (after_apply p lane.0 (WaitRel object number))) }
-        ensures err { OnErr result (self.new ≡ self.old) }
-        ensures kept { KeepsLayout self.old self.new }
+        ensures { Takes lane.0 (WaitRel object number) self.old self.new result }
     {
         self.take(lane, Record::WaitRel { object, number })
     }
@@ -152,10 +144,7 @@ impl Applied {
         before: u64,
         after: u64,
     ) -> Result<(), StoreError>
-        ensures answer { (s : Setting) (p : Past) → Remembers s self.old p → Answers s self.old p lane.0 (Put field before after) result }
-        ensures ok { (s : Setting) (p : Past) → Remembers s self.old p → OnOk result (Remembers s self.new (after_apply p lane.0 (Put field before after))) }
-        ensures err { OnErr result (self.new ≡ self.old) }
-        ensures kept { KeepsLayout self.old self.new }
+        ensures { Takes lane.0 (Put field before after) self.old self.new result }
     {
         self.take(
             lane,
@@ -170,10 +159,7 @@ impl Applied {
     // Applies the lane's next record. It is written out for each kind, so that no test asks for the kind.
     #[inline(always)]
     fn take(&mut self, lane: Lane, record: Record) -> Result<(), StoreError>
-        ensures answer { (s : Setting) (p : Past) → Remembers s self.old p → Answers s self.old p lane.0 «record» result }
-        ensures ok { (s : Setting) (p : Past) → Remembers s self.old p → OnOk result (Remembers s self.new (after_apply p lane.0 «record»)) }
-        ensures err { OnErr result (self.new ≡ self.old) }
-        ensures kept { KeepsLayout self.old self.new }
+        ensures { Takes lane.0 «record» self.old self.new result }
     {
         if is_taken(
             self.last,
@@ -302,7 +288,7 @@ impl Applied {
 
     /// Takes the lanes' records before these places for trimmed; `places` has them by lane. The lanes have room for as many
     /// records more. One look for each lane.
-    pub fn start_at(&mut self, places: &[u64; 32])
+    pub fn start_at(&mut self, places: &[u64; LANES])
         requires lanes { length self.old.lanes ≤ 32 }
         requires may { (s : Setting) × (p : Past) × MayStart s self.old p places.now }
         ensures trimmed { (s : Setting) (p : Past) → MayStart s self.old p places.now → Remembers s self.new (after_trim p) }

@@ -5,7 +5,7 @@ ghost use Rattle.heap_model.specs.Events.{lane_number};
 ghost use Rattle.heap_model.specs.Log.{MayFollow};
 ghost use Rattle.store_memory.specs.Memory.{monitor_in, field_in, lane_in, guard_in, object_number, held_after as held_after_record};
 ghost use Rattle.store_memory.specs.Apply.{HasLastNumber};
-ghost use Rattle.store_memory.specs.Limits.{FitsWord};
+ghost use Rattle.store_memory.specs.Limits.{FitsWord, section_records};
 ghost use Rattle.store_memory.specs.Verdict.{IsNamed, Allows, IsWornIn, IsNextIn, IsTooLongIn, IsFullIn, Judges, JudgesNamed};
 
 use crate::states::{FieldState, LaneState, MonitorState};
@@ -171,7 +171,7 @@ fn is_too_long(state: LaneState, record: Record) -> bool
 // Whether a section would begin for which the lane's area has no room.
 #[inline(always)]
 fn is_full(capacity: u32, state: LaneState) -> bool
-    requires place { state.place + 1000 < 2 ^ 64 }
+    requires place { state.place + section_records < 2 ^ 64 }
     requires start { state.start ≤ state.place }
     ensures { IsTrue result ↔ IsFullIn capacity state }
 {
@@ -211,7 +211,7 @@ pub fn is_taken(
     record: Record,
 ) -> bool
     requires guards { (f : ℕ) → f < length fields.now → guard_in fields.now f < length monitors.now }
-    requires place { (l : ℕ) → l < length lanes.now → (lane_in lanes.now l).place + 1000 < 2 ^ 64 }
+    requires place { (l : ℕ) → l < length lanes.now → (lane_in lanes.now l).place + section_records < 2 ^ 64 }
     requires start { (l : ℕ) → l < length lanes.now → (lane_in lanes.now l).start ≤ (lane_in lanes.now l).place }
     requires held { (l : ℕ) → l < length lanes.now → (lane_in lanes.now l).held + 1 < 2 ^ 32 }
     ensures { IsTrue result ↔ Judges last capacity lanes.now monitors.now fields.now lane.0 «record» (Ok tt) }
@@ -246,7 +246,7 @@ fn is_right(
 ) -> bool
     requires named { IsNamed (length monitors.now) fields.now «record» }
     requires guards { (f : ℕ) → f < length fields.now → guard_in fields.now f < length monitors.now }
-    requires place { state.place + 1000 < 2 ^ 64 }
+    requires place { state.place + section_records < 2 ^ 64 }
     requires start { state.start ≤ state.place }
     requires held { state.held + 1 < 2 ^ 32 }
     ensures { IsTrue result ↔ JudgesNamed last capacity state monitors.now fields.now lane.0 «record» (Ok tt) }
@@ -274,9 +274,9 @@ fn is_open(state: LaneState) -> bool
 // Whether a section may begin at the lane's place.
 #[inline(always)]
 fn may_begin(capacity: u32, state: LaneState) -> bool
-    requires place { state.place + 1000 < 2 ^ 64 }
+    requires place { state.place + section_records < 2 ^ 64 }
     requires start { state.start ≤ state.place }
-    ensures { IsTrue result ↔ ((state.place < 2 ^ 62) × (state.place + 1000 ≤ state.start + capacity)) }
+    ensures { IsTrue result ↔ ((state.place < 2 ^ 62) × (state.place + section_records ≤ state.start + capacity)) }
 {
     state.place < LAST_PLACE && state.place - state.start + SECTION_RECORDS <= u64::from(capacity)
 }
@@ -292,7 +292,7 @@ pub fn check(
     record: Record,
 ) -> Result<(), StoreError>
     requires guards { (f : ℕ) → f < length fields.now → guard_in fields.now f < length monitors.now }
-    requires place { (l : ℕ) → l < length lanes.now → (lane_in lanes.now l).place + 1000 < 2 ^ 64 }
+    requires place { (l : ℕ) → l < length lanes.now → (lane_in lanes.now l).place + section_records < 2 ^ 64 }
     requires start { (l : ℕ) → l < length lanes.now → (lane_in lanes.now l).start ≤ (lane_in lanes.now l).place }
     requires held { (l : ℕ) → l < length lanes.now → (lane_in lanes.now l).held + 1 < 2 ^ 32 }
     ensures { Judges last capacity lanes.now monitors.now fields.now lane.0 «record» result }
@@ -327,7 +327,7 @@ fn judge(
 ) -> Result<(), StoreError>
     requires named { IsNamed (length monitors.now) fields.now «record» }
     requires guards { (f : ℕ) → f < length fields.now → guard_in fields.now f < length monitors.now }
-    requires place { state.place + 1000 < 2 ^ 64 }
+    requires place { state.place + section_records < 2 ^ 64 }
     requires start { state.start ≤ state.place }
     requires held { state.held + 1 < 2 ^ 32 }
     ensures { JudgesNamed last capacity state monitors.now fields.now lane.0 «record» result }

@@ -1,10 +1,10 @@
 //! The records that were applied and not yet logged.
 
-ghost use Rattle.std.specs.Prelude.{◌≡◌, ◌+◌, ◌*◌, ◌^◌, ◌<◌, ◌≤◌, ◌∷◌, [], ◌++◌, ℕ, length, slice_index, slice_set, IfOk};
+ghost use Rattle.std.specs.Prelude.{◌≡◌, ◌≢◌, ◌<◌, ◌≤◌, ◌∷◌, [], ◌++◌, ℕ, length, IfOk};
 ghost use Rattle.heap_model.specs.Log.{lane as lane_of, log_from};
-ghost use Rattle.store_memory.specs.Fresh.{undo_log_of};
+ghost use Rattle.store_memory.specs.Fresh.{undo_log_of, log_in, room_in};
 
-use heap_model::{Lane, LaneRecord, ObjectId, Record, UndoRecord};
+use heap_model::{Lane, LaneRecord, Record, UndoRecord};
 use std::alloc::{AllocError, Global};
 use std::marker::Model;
 
@@ -15,10 +15,9 @@ pub struct FreshRecords {
     room: u32,
     // In the order applied.
     records: Vec<LaneRecord>,
-    // Area l, of `room` records, begins with those of lane l, the oldest first, as its undo log keeps them.
-    areas: Vec<UndoRecord>,
-    // By lane: the place in `areas` behind its last one.
-    ends: Vec<usize>,
+    // By lane, the oldest first, as its undo log keeps them. Room is reserved and not filled: until a record comes, no page of it is
+    // touched.
+    logs: Vec<Vec<UndoRecord>>,
 }
 
 impl Model for FreshRecords {
@@ -27,36 +26,28 @@ impl Model for FreshRecords {
 
     ghost Value = { Fresh };
 
-    ghost use Rattle.store_memory.specs.Fresh.{HasEnds};
+    ghost use Rattle.store_memory.specs.Fresh.{IsSorted};
 
-    ghost view = { λ f. record { lanes = length f.ends.items; room = f.room; records = f.records.items } };
+    ghost view = { λ f. record { lanes = length f.logs.items; room = f.room; records = f.records.items } };
 
-    ghost invariant = { λ f. HasEnds f.room f.records.items f.areas.items f.ends.items (vec_capacity f.records) };
+    ghost invariant = { λ f. IsSorted f.room f.records.items f.logs.items (vec_capacity f.records) };
 }
-
-// What an area holds where nothing was put yet.
-const NOTHING: UndoRecord = UndoRecord::Acq {
-    object: ObjectId(0),
-    number: 0,
-};
 
 impl FreshRecords {
     /// No records, with room for so many of each of so many lanes.
     ///
-    /// It takes all the memory that they will need. No other call takes memory.
+    /// It reserves all the memory that they will need, and touches none of it. No other call takes memory.
     pub fn new(alloc: Global, lanes: u8, room: u32) -> Result<FreshRecords, AllocError>
         ensures lanes { IfOk result (λ f. f.lanes ≡ lanes) }
         ensures room { IfOk result (λ f. f.room ≡ room) }
         ensures empty { IfOk result (λ f. f.records ≡ []) }
     {
-        let total = lanes as usize * room as usize;
-        let mut ends = vec![in alloc; 0; lanes as usize]?;
-        begin(&mut ends, room);
+        let records = Vec::with_capacity(alloc, lanes as usize * room as usize)?;
+        let logs = empty_logs(alloc, lanes, room)?;
         Ok(FreshRecords {
             room,
-            records: Vec::with_capacity(alloc, total)?,
-            areas: vec![in alloc; NOTHING; total]?,
-            ends,
+            records,
+            logs,
         })
     }
 
@@ -69,7 +60,7 @@ impl FreshRecords {
         ensures lanes { self.new.lanes ≡ self.old.lanes }
         ensures room { self.new.room ≡ self.old.room }
     {
-        put(&mut self.areas, &mut self.ends, lane, next.undo());
+        put(&mut self.logs, lane, next.undo());
         self.records
             .push_reserved(LaneRecord { lane, record: next });
     }
@@ -86,8 +77,7 @@ impl FreshRecords {
         requires { lane.0 < self.now.lanes }
         ensures { result.now ≡ undo_log_of lane.0 self.now.records }
     {
-        let from = lane.0 as usize * self.room as usize;
-        &self.areas[from..self.ends[lane.0 as usize]]
+        &self.logs[lane.0 as usize]
     }
 
     /// Forgets them: they are logged.
@@ -97,30 +87,41 @@ impl FreshRecords {
         ensures room { self.new.room ≡ self.old.room }
     {
         self.records.clear();
-        begin(&mut self.ends, self.room);
+        clear_all(&mut self.logs);
     }
 }
 
-// Has each lane's area end where it begins.
-fn begin(ends: &mut [usize], room: u32)
-    requires { length ends.old * room < 2 ^ 64 }
-    ensures { (l : ℕ) → l < length ends.old → slice_index ends.new l ≡ l * room }
+// An empty log for each lane, with room for so many records.
+fn empty_logs(alloc: Global, lanes: u8, room: u32) -> Result<Vec<Vec<UndoRecord>>, AllocError>
+    ensures lanes { IfOk result (λ logs. length logs.items ≡ lanes) }
+    ensures empty { IfOk result (λ logs. (l : ℕ) → log_in logs.items l ≡ []) }
+    ensures room { IfOk result (λ logs. (l : ℕ) → l < lanes → room ≤ room_in logs.items l) }
 {
-    for lane in 0..ends.len() {
-        ends[lane] = lane * room as usize;
+    let mut logs = Vec::with_capacity(alloc, lanes as usize)?;
+    for _ in 0..lanes {
+        logs.push_reserved(Vec::with_capacity(alloc, room as usize)?);
     }
+    Ok(logs)
 }
 
-// Puts the record at the end of what the lane's area has.
+// Puts the record at the end of the lane's log.
 #[inline(always)]
-fn put(areas: &mut [UndoRecord], ends: &mut [usize], lane: Lane, entry: UndoRecord)
-    requires lane { lane.0 < length ends.old }
-    requires within { slice_index ends.old lane.0 < length areas.old }
-    ensures areas { areas.new ≡ slice_set areas.old (slice_index ends.old lane.0) entry }
-    ensures ends { ends.new ≡ slice_set ends.old lane.0 (slice_index ends.old lane.0 + 1) }
+fn put(logs: &mut [Vec<UndoRecord>], lane: Lane, entry: UndoRecord)
+    requires lane { lane.0 < length logs.old }
+    requires room { length (log_in logs.old lane.0) < room_in logs.old lane.0 }
+    ensures put { log_in logs.new lane.0 ≡ log_in logs.old lane.0 ++ entry ∷ [] }
+    ensures others { (l : ℕ) → l ≢ lane.0 → log_in logs.new l ≡ log_in logs.old l }
+    ensures rooms { (l : ℕ) → room_in logs.new l ≡ room_in logs.old l }
 {
-    let l = lane.0 as usize;
-    let end = ends[l];
-    areas[end] = entry;
-    ends[l] = end + 1;
+    logs[lane.0 as usize].push_reserved(entry);
+}
+
+// Empties each lane's log. The room stays.
+fn clear_all(logs: &mut [Vec<UndoRecord>])
+    ensures empty { (l : ℕ) → log_in logs.new l ≡ [] }
+    ensures rooms { (l : ℕ) → room_in logs.new l ≡ room_in logs.old l }
+{
+    for lane in 0..logs.len() {
+        logs[lane].clear();
+    }
 }

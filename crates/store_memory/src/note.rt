@@ -6,7 +6,7 @@ ghost use Rattle.store_memory.specs.Verdict.{IsNamed, NumberFits};
 
 use crate::check::{held_after, lane_at};
 use crate::states::{FieldState, LaneState, MonitorState};
-use heap_model::{Lane, ObjectId, Record};
+use heap_model::{LANES, Lane, ObjectId, Record};
 
 // The object on which the lane waits after the record.
 #[inline(always)]
@@ -80,7 +80,7 @@ pub fn note_store(fields: &mut [FieldState], objects: usize, next: Record)
 }
 
 /// Notes the first places of the lanes that were not trimmed.
-pub fn note_starts(lanes: &mut [LaneState], places: &[u64; 32])
+pub fn note_starts(lanes: &mut [LaneState], places: &[u64; LANES])
     requires { length lanes.old ≤ 32 }
     ensures { (l : ℕ) → l < length lanes.old → lane_in lanes.new l ≡ record (lane_in lanes.old l) { start = slice_index places.now l } }
 {

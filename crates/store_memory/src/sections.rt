@@ -2,24 +2,23 @@
 
 ghost use Rattle.std.specs.Prelude.{◌≡◌, ◌+◌, ◌*◌, ◌^◌, ◌<◌, ◌≤◌, ◌∷◌, [], ◌++◌, ◌↔◌, ℕ, List, min, IsTrue, IfOk, length, slice_index};
 ghost use Rattle.heap_model.specs.declared.record.Record.{Record as AnyRecord};
-ghost use Rattle.heap_model.specs.Setting.{Setting};
 ghost use Rattle.heap_model.specs.Log.{lane as lane_of, log_from};
 ghost use Rattle.heap_model.specs.Record.{undo_of};
 ghost use Rattle.heap_model.specs.Sections.{action, actions, ended};
 ghost use Rattle.heap_model.specs.Cuts.{counts_of, IsStable};
 ghost use Rattle.dependence.specs.Trace.{sections_of};
 ghost use Rattle.dependence.specs.Next.{IsNext, IsObjectBelow};
-ghost use Rattle.store_memory.specs.Sections.{place_behind, with_action, TellsSections, MayBeLogged};
+ghost use Rattle.store_memory.specs.Sections.{place_behind, with_action, Adds, MayAdd, TellsSections};
 ghost use Rattle.store_memory.specs.Trimming.{MayForget, IsPaid};
 
 use crate::ends::{are_within, count, has_ended, places_behind, records_from, slots};
 use crate::stable_sections::StableSections;
 use dependence::Graph;
-use heap_model::{Cut, Lane, LaneRecord, MOST_OBJECTS, Record, UndoRecord};
+use heap_model::{Cut, LANES, Lane, LaneRecord, MOST_OBJECTS, Record, UndoRecord};
 use std::alloc::{AllocError, Global};
 use std::marker::Model;
 
-/// The sections of the logged records: how they depend on one another, and the place behind each. No section depends on a
+/// The sections of the logged records: how they depend on one another, and the place after each. No section depends on a
 /// store, so that the graph has the other records alone.
 ///
 /// Contracts see them as plain data, and say of which log they tell. Of that a base may have been trimmed:
@@ -30,9 +29,9 @@ pub struct LoggedSections {
     // How many records each lane may have since what was trimmed.
     capacity: u32,
     graph: Graph,
-    // By lane: the place behind its last record, which is how many were logged since the heap was opened.
-    places: [u64; 32],
-    // An area of slots for each lane: of the sections since what was trimmed, and of what was.
+    // By lane: the place after its last record, which is how many were logged since the heap was opened.
+    places: [u64; LANES],
+    // By slot: the place after each section since what was trimmed, and after what was. Room is reserved for all slots.
     ends: Vec<u64>,
 }
 
@@ -51,8 +50,8 @@ impl Model for LoggedSections {
 impl LoggedSections {
     /// The sections of no records, with room for so many records of each of so many lanes, at most 32.
     ///
-    /// It takes all the memory that they will need: for each record twice what the graph takes, which
-    /// forgets late, and a word of eight bytes. No other call takes memory.
+    /// It reserves all the memory that they will need: for each record twice what the graph takes, which
+    /// forgets late, and a word of eight bytes. What no record has used yet isn't touched. No other call takes memory.
     pub fn with_capacity(
         alloc: Global,
         lanes: u8,
@@ -67,17 +66,15 @@ impl LoggedSections {
             lanes,
             capacity,
             graph: Graph::with_capacity(alloc, lanes, 2 * room(lanes, capacity))?,
-            places: [0; 32],
-            ends: vec![in alloc; 0; slots(lanes, capacity)]?,
+            places: [0; LANES],
+            ends: Vec::with_capacity(alloc, slots(lanes, capacity))?,
         })
     }
 
     /// Adds a lane's next logged record. The time is constant.
     pub fn push(&mut self, lane: Lane, next: Record)
-        requires may { (s : Setting) × (base : ℕ → ℕ) × (log : List (ℕ × AnyRecord)) × MayBeLogged s self.old base log ((lane.0, next) ∷ []) }
-        ensures tells { (s : Setting) (base : ℕ → ℕ) (log : List (ℕ × AnyRecord)) → MayBeLogged s self.old base log ((lane.0, next) ∷ []) → TellsSections self.new base ((lane.0, next) ∷ log) }
-        ensures lanes { self.new.lanes ≡ self.old.lanes }
-        ensures capacity { self.new.capacity ≡ self.old.capacity }
+        requires may { MayAdd self.old ((lane.0, next) ∷ []) }
+        ensures { Adds ((lane.0, next) ∷ []) self.old self.new }
     {
         // A case for each kind: the compiler then writes out what is done for that kind alone.
         match next {
@@ -104,10 +101,8 @@ impl LoggedSections {
     // Adds a lane's next logged record.
     #[inline(always)]
     fn add(&mut self, lane: Lane, next: Record)
-        requires may { (s : Setting) × (base : ℕ → ℕ) × (log : List (ℕ × AnyRecord)) × MayBeLogged s self.old base log ((lane.0, next) ∷ []) }
-        ensures tells { (s : Setting) (base : ℕ → ℕ) (log : List (ℕ × AnyRecord)) → MayBeLogged s self.old base log ((lane.0, next) ∷ []) → TellsSections self.new base ((lane.0, next) ∷ log) }
-        ensures lanes { self.new.lanes ≡ self.old.lanes }
-        ensures capacity { self.new.capacity ≡ self.old.capacity }
+        requires may { MayAdd self.old ((lane.0, next) ∷ []) }
+        ensures { Adds ((lane.0, next) ∷ []) self.old self.new }
     {
         let before = self.graph.sections(lane);
         tell(&mut self.graph, lane, next);
@@ -117,6 +112,7 @@ impl LoggedSections {
             &mut self.places,
             &mut self.ends,
             self.capacity,
+            self.lanes,
             lane,
             has_ended,
             after,
@@ -125,17 +121,15 @@ impl LoggedSections {
 
     /// Adds the next logged records, the oldest first. The time is linear in them.
     pub fn push_all(&mut self, records: &[LaneRecord])
-        requires may { (s : Setting) × (base : ℕ → ℕ) × (log : List (ℕ × AnyRecord)) × MayBeLogged s self.old base log (log_from records.now) }
-        ensures tells { (s : Setting) (base : ℕ → ℕ) (log : List (ℕ × AnyRecord)) → MayBeLogged s self.old base log (log_from records.now) → TellsSections self.new base (log_from records.now ++ log) }
-        ensures lanes { self.new.lanes ≡ self.old.lanes }
-        ensures capacity { self.new.capacity ≡ self.old.capacity }
+        requires may { MayAdd self.old (log_from records.now) }
+        ensures { Adds (log_from records.now) self.old self.new }
     {
         for entry in records {
             self.push(entry.lane, entry.record);
         }
     }
 
-    /// The stable cut of what is logged, and by lane the place behind its sections.
+    /// The stable cut of what is logged, and by lane the place after its sections.
     ///
     /// The time is that of [`Graph::stable_cut`] and of a look for each lane.
     pub fn stable(&mut self) -> StableSections

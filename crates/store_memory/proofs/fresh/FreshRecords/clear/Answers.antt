@@ -1,18 +1,21 @@
-use Rattle.std.proofs.Common.{ℕ, ◌≡◌, ◌*◌, [], List, length, vec_capacity, sym, ap, ◌∙◌, subst, arith}
+use Rattle.std.proofs.Common.{ℕ, ◌≡◌, ◌*◌, ◌<◌, ◌≤◌, [], List, length, Vec, Global, vec_capacity, sym, ap, ◌∙◌, subst, arith}
 use Rattle.std.specs.Vec.{with_items}
 use Rattle.std.proofs.lemmas.List.{with_items_is}
 use Rattle.heap_model.specs.declared.record.LaneRecord.{LaneRecord}
-use Rattle.store_memory.specs.Fresh.{HasEnds}
-use Rattle.store_memory.proofs.FreshLaws.{ends_none}
+use Rattle.heap_model.specs.declared.record.UndoRecord.{UndoRecord}
+use Rattle.store_memory.specs.Fresh.{IsSorted, room_in}
+use Rattle.store_memory.proofs.FreshLaws.{sorted_none}
 use Rattle.store_memory.proofs.fresh.FreshRecords.clear.Goals as goal
 
 pub invariant_of-self : goal.invariant_of-self
 invariant_of-self c =
-    let ends : (with_items c.self.inside.ends c.begin.new.ends).items ≡ c.begin.new.ends = with_items_is c.self.inside.ends c.begin.new.ends (c.begin.auto.ends ∙ c.deref_mut.ensures.len) in
-    let long : length c.begin.new.ends ≡ length c.self.inside.ends.items = c.begin.auto.ends ∙ ap (λ (xs : List ℕ). length xs) c.deref_mut.ensures.value in
-    let total : length c.self.invariant.counts * c.self.inside.room ≡ length c.begin.new.ends * c.self.inside.room = ap (λ (n : ℕ). n * c.self.inside.room) (c.self.invariant.many ∙ sym long) in
-    subst (λ (xs : List LaneRecord). HasEnds c.self.inside.room xs c.self.inside.areas.items (with_items c.self.inside.ends c.begin.new.ends).items (vec_capacity c.clear.new.self)) (sym c.clear.ensures.items)
-    (subst (λ (xs : List ℕ). HasEnds c.self.inside.room [] c.self.inside.areas.items xs (vec_capacity c.clear.new.self)) (sym ends)
-    (ends_none c.self.inside.room c.self.inside.areas.items c.begin.new.ends (vec_capacity c.clear.new.self) (c.self.invariant.sorted.areas_are ∙ total)
-    (omega (arith, c.self.invariant.sorted.held, c.clear.ensures.capacity))
-    (λ l low. c.begin.ensures l (omega (arith, c.begin.auto.ends)))))
+    let room : ℕ = c.self.inside.room in
+    let new : List (Vec UndoRecord Global) = c.clear_all.new.logs in
+    let logs : (with_items c.self.inside.logs new).items ≡ new = with_items_is c.self.inside.logs new (c.clear_all.auto.logs ∙ c.deref_mut.ensures.len) in
+    let size : length new ≡ length c.self.inside.logs.items = c.clear_all.auto.logs ∙ ap (λ (xs : List (Vec UndoRecord Global)). length xs) c.deref_mut.ensures.value in
+    let rooms : (l : ℕ) → l < length new → room ≤ room_in new l = λ l low.
+    omega (arith, c.clear_all.ensures.rooms l, ap (λ (xs : List (Vec UndoRecord Global)). room_in xs l) c.deref_mut.ensures.value, c.self.invariant.rooms l (omega (arith, low, size))) in
+    subst (λ (xs : List LaneRecord). IsSorted room xs (with_items c.self.inside.logs new).items (vec_capacity c.clear.new.self)) (sym c.clear.ensures.items)
+    (subst (λ (xs : List (Vec UndoRecord Global)). IsSorted room [] xs (vec_capacity c.clear.new.self)) (sym logs)
+    (sorted_none room new (vec_capacity c.clear.new.self) c.clear_all.ensures.empty rooms
+    (omega (arith, c.self.invariant.held, c.clear.ensures.capacity, ap (λ (n : ℕ). n * room) size))))

@@ -19,21 +19,21 @@ records_from-left-requires-clause-low c =
     let r = c.requires.may in
     let may : MayForget (logged_of c.self.inside) r.0 r.1 (counts_of c.args.cut.now) = subst (λ (m : Logged). MayForget m r.0 r.1 (counts_of c.args.cut.now)) (sym c.self.view_is) r.2 in
     places_low (logged_of c.self.inside) r.0 r.1 c.args.cut.now may c.places_behind-places.result
-    (λ l lt. c.places_behind-places.ensures.behind l lt ∙ ap (λ (xs : List ℕ). slice_index xs (slot_of c.self.inside.capacity l (counts_of c.args.cut.now l))) c.deref.ensures.value)
+    (λ l lt. c.places_behind-places.ensures.behind l lt ∙ ap (λ (xs : List ℕ). slice_index xs (slot_of c.self.inside.capacity c.self.inside.lanes l (counts_of c.args.cut.now l))) c.deref.ensures.value)
 
 pub records_from-left-requires-clause-near : goal.records_from-left-requires-clause-near
 records_from-left-requires-clause-near c =
     let r = c.requires.may in
     let may : MayForget (logged_of c.self.inside) r.0 r.1 (counts_of c.args.cut.now) = subst (λ (m : Logged). MayForget m r.0 r.1 (counts_of c.args.cut.now)) (sym c.self.view_is) r.2 in
     places_near (logged_of c.self.inside) r.0 r.1 c.args.cut.now may c.places_behind-places.result
-    (λ l lt. c.places_behind-places.ensures.behind l lt ∙ ap (λ (xs : List ℕ). slice_index xs (slot_of c.self.inside.capacity l (counts_of c.args.cut.now l))) c.deref.ensures.value)
+    (λ l lt. c.places_behind-places.ensures.behind l lt ∙ ap (λ (xs : List ℕ). slice_index xs (slot_of c.self.inside.capacity c.self.inside.lanes l (counts_of c.args.cut.now l))) c.deref.ensures.value)
 
 pub is_paid-requires-clause-left : goal.is_paid-requires-clause-left
 is_paid-requires-clause-left c =
     let r = c.requires.may in
     let may : MayForget (logged_of c.self.inside) r.0 r.1 (counts_of c.args.cut.now) = subst (λ (m : Logged). MayForget m r.0 r.1 (counts_of c.args.cut.now)) (sym c.self.view_is) r.2 in
     let near = places_near (logged_of c.self.inside) r.0 r.1 c.args.cut.now may c.places_behind-places.result
-    (λ l lt. c.places_behind-places.ensures.behind l lt ∙ ap (λ (xs : List ℕ). slice_index xs (slot_of c.self.inside.capacity l (counts_of c.args.cut.now l))) c.deref.ensures.value) in
+    (λ l lt. c.places_behind-places.ensures.behind l lt ∙ ap (λ (xs : List ℕ). slice_index xs (slot_of c.self.inside.capacity c.self.inside.lanes l (counts_of c.args.cut.now l))) c.deref.ensures.value) in
     let counted : ℕ → ℕ = λ l. slice_index c.self.inside.places l - slice_index c.places_behind-places.result l in
     let most : in_all c.self.inside.lanes counted ≤ c.self.inside.lanes * c.self.inside.capacity = sum_room c.self.inside.lanes c.self.inside.capacity counted (λ l lt. omega (arith, near l lt)) in
     let is : c.records_from-left.result ≡ in_all c.self.inside.lanes counted = c.records_from-left.ensures in
@@ -54,7 +54,7 @@ returns-then-is_paid-clause-paid c =
     let r = c.requires.may in
     let may : MayForget (logged_of c.self.inside) r.0 r.1 (counts_of c.args.cut.now) = subst (λ (m : Logged). MayForget m r.0 r.1 (counts_of c.args.cut.now)) (sym c.self.view_is) r.2 in
     let all : c.records_from-left.result ≡ length (since (counts_of c.args.cut.now) (actions r.1)) = c.records_from-left.ensures ∙ left_is (logged_of c.self.inside) r.0 r.1 c.args.cut.now may c.places_behind-places.result
-    (λ l lt. c.places_behind-places.ensures.behind l lt ∙ ap (λ (xs : List ℕ). slice_index xs (slot_of c.self.inside.capacity l (counts_of c.args.cut.now l))) c.deref.ensures.value) in
+    (λ l lt. c.places_behind-places.ensures.behind l lt ∙ ap (λ (xs : List ℕ). slice_index xs (slot_of c.self.inside.capacity c.self.inside.lanes l (counts_of c.args.cut.now l))) c.deref.ensures.value) in
     let left : length c.forget_to.new.self.log ≤ c.records_from-left.result =
     omega (arith, stay_few (logged_of c.self.inside) r.0 r.1 c.args.cut.now may (told_of c.forget_to.new.self) c.forget_to.ensures.log c.forget_to.ensures.base, all) in
     let room : ℕ = c.self.inside.lanes * c.self.inside.capacity in
@@ -67,7 +67,7 @@ pub returns-else-is_paid-clause-tells : goal.returns-else-is_paid-clause-tells
 returns-else-is_paid-clause-tells c = λ base log was.
     let may : MayForget (logged_of c.self.inside) base log (counts_of c.args.cut.now) = subst (λ (m : Logged). MayForget m base log (counts_of c.args.cut.now)) (sym c.self.view_is) was in
     let all : c.records_from-left.result ≡ length (since (counts_of c.args.cut.now) (actions log)) = c.records_from-left.ensures ∙ left_is (logged_of c.self.inside) base log c.args.cut.now may c.places_behind-places.result
-    (λ l lt. c.places_behind-places.ensures.behind l lt ∙ ap (λ (xs : List ℕ). slice_index xs (slot_of c.self.inside.capacity l (counts_of c.args.cut.now l))) c.deref.ensures.value) in
+    (λ l lt. c.places_behind-places.ensures.behind l lt ∙ ap (λ (xs : List ℕ). slice_index xs (slot_of c.self.inside.capacity c.self.inside.lanes l (counts_of c.args.cut.now l))) c.deref.ensures.value) in
     let stay : ℕ = length (since (counts_of c.args.cut.now) (actions log)) in
     let few : length c.self.inside.graph.log ≤ stay + min (c.self.inside.lanes * c.self.inside.capacity) (stay + 4096) =
     elim (cases_lt (stay + min (c.self.inside.lanes * c.self.inside.capacity) (stay + 4096)) (length c.self.inside.graph.log)) [

@@ -35,7 +35,11 @@ loop-entry-preserved c =
       capacity = c.push.ensures.capacity ∙ c.loop-entry.invariant.capacity;
     }
 
-pub returns-clause-tells : goal.returns-clause-tells
-returns-clause-tells c = λ s base log may.
-    let all : take c.loop-entry.entry-index c.args.records.now ≡ c.args.records.now = take_all c.loop-entry.entry-index c.args.records.now (omega (arith, c.loop-entry-test.false)) in
-    subst (λ (xs : List LaneRecord). TellsSections c.loop-entry.self base (log_from xs ++ log)) all (c.loop-entry.invariant.tells s base log may)
+pub returns : goal.returns
+returns c = record {
+  tells = λ s base log may.
+      let all : take c.loop-entry.entry-index c.args.records.now ≡ c.args.records.now = take_all c.loop-entry.entry-index c.args.records.now (omega (arith, c.loop-entry-test.false)) in
+      subst (λ (xs : List LaneRecord). TellsSections c.loop-entry.self base (log_from xs ++ log)) all (c.loop-entry.invariant.tells s base log may);
+  lanes = c.loop-entry.invariant.lanes;
+  capacity = c.loop-entry.invariant.capacity;
+}

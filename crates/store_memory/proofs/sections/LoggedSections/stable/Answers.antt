@@ -18,5 +18,5 @@ returns-clause-stable c = λ base log tells.
 pub returns-clause-behind : goal.returns-clause-behind
 returns-clause-behind c = λ base log tells.
     behind_told (logged_of c.self.inside) base log (subst (λ (m : Logged). TellsSections m base log) (sym c.self.view_is) tells) (counts_of c.stable_cut-cut.result) (told c.self.inside.graph (counts_of c.stable_cut-cut.result) c.stable_cut-cut.ensures.stable) c.places_behind.result
-    (λ l lt. c.places_behind.ensures.behind l lt ∙ ap (λ (xs : List ℕ). slice_index xs (slot_of c.self.inside.capacity l (counts_of c.stable_cut-cut.result l))) c.deref.ensures.value)
+    (λ l lt. c.places_behind.ensures.behind l lt ∙ ap (λ (xs : List ℕ). slice_index xs (slot_of c.self.inside.capacity c.self.inside.lanes l (counts_of c.stable_cut-cut.result l))) c.deref.ensures.value)
     c.places_behind.ensures.none
