@@ -7,7 +7,7 @@ use image::GuardRow;
 use std::alloc::{AllocError, Global};
 use store_memory::FieldState;
 
-/// The fields, with their guards and marks, and with these values at home.
+/// What a store remembers of the fields before any record: their guards and marks, by these rows, and these values, applied and at home.
 pub fn fields_of(
     alloc: Global,
     guards: &[GuardRow],
@@ -15,9 +15,13 @@ pub fn fields_of(
 ) -> Result<Vec<FieldState>, AllocError>
     requires { length heap.now ≡ length guards.now }
     ensures size { IfOk result (λ fields. length fields.items ≡ length guards.now) }
+    // The fields have the rows' guards.
     ensures guards { IfOk result (λ fields. HaveGuards fields.items guards.now) }
+    // A field is logged unless its row marks it as transient.
     ensures marks { IfOk result (λ fields. HaveMarks fields.items guards.now) }
+    // The fields have the heap's values.
     ensures values { IfOk result (λ fields. HaveValues fields.items guards.now heap.now) }
+    // All of these values are at home.
     ensures logged { IfOk result (λ fields. HaveLogged fields.items guards.now heap.now) }
 {
     let mut fields = Vec::with_capacity(alloc, guards.len())?;

@@ -15,11 +15,14 @@ mod format;
 mod meeting;
 mod play;
 mod rounds;
+mod rows;
 mod store;
 mod store_call;
 
+pub use beginning::fields_of;
 pub use doubt::Doubt;
 pub use heap_model::StoreError;
+pub use rows::{kept_cut, starts};
 pub use store::Store;
 pub use store_call::StoreCall;
 pub use store_image::{Home, standing_law};

@@ -2,7 +2,8 @@
 ghost use Rattle.durable.specs.Steps.{Logs, SettlesAndTrims};
 
 use crate::doubt::Doubt;
-use crate::store::{Store, kept_cut, starts};
+use crate::rows::{kept_cut, starts};
+use crate::store::Store;
 use block_disk::Disk;
 use heap_model::StoreError;
 use store_image::{Syncs, settle_and_trim};

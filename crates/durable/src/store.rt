@@ -1,9 +1,7 @@
 //! The store: a heap whose sections survive a crash whole or not at all (Atlas, OOPSLA 2014).
-ghost use Rattle.std.specs.Prelude.{◌≡◌, ◌≢◌, ◌⊎◌, ◌+◌, ◌-◌, ◌<◌, ◌≤◌, ◌^◌, ℕ, [], true, false, length, slice_index, Ok, IfErr, IfOk, IsErrOf, OnErr, OnOk};
+ghost use Rattle.std.specs.Prelude.{◌≡◌, ◌≢◌, ◌⊎◌, ◌+◌, ◌-◌, ◌<◌, ◌≤◌, ◌^◌, ℕ, [], true, false, length, Ok, IfErr, IfOk, IsErrOf, OnErr, OnOk};
 ghost use Rattle.heap_model.specs.Setting.{Setting};
-ghost use Rattle.heap_model.specs.Cuts.{counts_of};
 ghost use Rattle.image_parts.specs.Layout.{IsLayout};
-ghost use Rattle.undo_log.specs.StandsFor.{row_of};
 ghost use Rattle.durable.specs.Begin.{HasRows, IsSettingOf};
 ghost use Rattle.store_memory.specs.Memory.{lane_in};
 ghost use Rattle.heap_model.specs.Past.{Past, applied, no_past};
@@ -15,9 +13,10 @@ ghost use Rattle.durable.specs.Stops.{AnswersClose, BeginsWith, ClosesAtHome, Cl
 
 use crate::beginning::fields_of;
 use crate::doubt::Doubt;
+use crate::rows::{kept_cut, starts};
 use block_disk::Disk;
-use heap_model::{Cut, FieldId, Lane, Record, StoreError};
-use image::{GuardRow, LaneRow, Layout, Recovered, RecoveredParts};
+use heap_model::{FieldId, Lane, Record, StoreError};
+use image::{GuardRow, Layout, Recovered, RecoveredParts};
 use std::alloc::{AllocError, Global};
 use std::marker::Model;
 use store_image::{Committed, Home, Syncs, is_trimmed, log_records, settle, trim, write_home};
@@ -397,27 +396,4 @@ fn memory(
     )?;
     let sections = LoggedSections::with_capacity(alloc, layout.lanes, layout.capacity)?;
     Ok((applied, sections))
-}
-
-// The lanes' starts by these rows.
-pub(crate) fn starts(rows: &[LaneRow; 32]) -> [u64; 32]
-    ensures { (l : ℕ) → l < 32 → slice_index result l ≡ (row_of rows.now l).start }
-{
-    let mut places = [0; 32];
-    for (lane, row) in rows.iter().enumerate() {
-        places[lane] = row.start;
-    }
-    places
-}
-
-// The acknowledged sections by these rows.
-pub(crate) fn kept_cut(rows: &[LaneRow; 32]) -> Cut
-    ensures kept { (l : ℕ) → l < 32 → counts_of result l ≡ (row_of rows.now l).kept }
-    ensures size { length result.counts ≡ 32 }
-{
-    let mut counts = [0; 32];
-    for (lane, row) in rows.iter().enumerate() {
-        counts[lane] = row.kept;
-    }
-    Cut { counts }
 }

@@ -16,3 +16,4 @@ pub mod Freeing
 pub mod Round
 pub mod Sequences
 pub mod Within
+pub mod Taking

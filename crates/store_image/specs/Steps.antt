@@ -24,7 +24,7 @@ pub record MayGoHome (l : Layout) (s : Setting) (p : Past) (c : Committed) (d : 
   pub dirty : p.is_dirty f ≡ true
   pub logged : v ≡ value s.first f p.logged
 
--- no field is dirty, and this is the stable cut, with the place behind its sections in each lane
+-- no field is dirty, and this is the stable cut, with the place after its sections in each lane
 pub record MaySettle (l : Layout) (s : Setting) (p : Past) (c : Committed) (d : Device) (cut : Cut) (places : List ℕ) : Type 0 where
   pub consistent : IsConsistent l s p c d
   pub clean : (f : ℕ) → f < l.fields → p.is_dirty f ≡ false
@@ -36,6 +36,16 @@ pub record MayLog (l : Layout) (s : Setting) (p : Past) (c : Committed) (d : Dev
   pub consistent : IsConsistent l s p c d
   pub records : (lane : ℕ) → lane < l.lanes → fresh lane ≡ reverse (undo_logs p.fresh lane)
   pub fits : (lane : ℕ) → lane < l.lanes → FitsLane l (row_of c.rows lane) (fresh lane)
+
+-- So it is for some past: what a call can ask for.
+abbrev pub CanLog : Layout → Committed → Device → (fresh : ℕ → List UndoRecord) → Type 0
+CanLog l c d fresh = (s : Setting) × (p : Past) × MayLog l s p c d fresh
+
+abbrev pub CanSettle : Layout → Committed → Device → Cut → (places : List ℕ) → Type 0
+CanSettle l c d cut places = (s : Setting) × (p : Past) × MaySettle l s p c d cut places
+
+abbrev pub CanTrim : Layout → Committed → Device → Type 0
+CanTrim l c d = (s : Setting) × (p : Past) × IsConsistent l s p c d
 
 -- where steps write: the slots of the control, and from the home cells to the image's end
 abbrev pub step_ranges : Layout → List Range

@@ -1,15 +1,8 @@
 //! A commit of the next control.
-ghost use Rattle.std.specs.Prelude.{◌≡◌, ◌+◌, ◌-◌, ◌<◌, ◌≤◌, ◌^◌, [], ◌∷◌, IfErr, OnErr, OnOk};
-ghost use Rattle.block_disk.specs.Images.{LeavesOnly};
-ghost use Rattle.block_disk.specs.Since.{HasCauseSince, LeavesBut, ReadsSameBut};
-ghost use Rattle.image.specs.Commit.{OldOrNew, OldOrTurned, slots_range};
+ghost use Rattle.std.specs.Prelude.{◌≡◌, ◌-◌, ◌<◌, ◌^◌, [], OnOk};
 ghost use Rattle.image_parts.specs.Control.{AreRows};
 ghost use Rattle.image_parts.specs.Layout.{IsLayout};
-ghost use Rattle.image_parts.specs.Slots.{other, slot_range};
-ghost use Rattle.store_image.specs.Promises.{IsSteadyAt, committed_next, committed_turned, control_in};
-ghost use Rattle.store_image.specs.Sequences.{ShowsUpTo};
-ghost use Rattle.store_image.specs.Steps.{step_ranges};
-ghost use Rattle.heap_model.specs.declared.store_error.StoreError.TheVariants.{Fault};
+ghost use Rattle.store_image.specs.Promises.{CommitsNext, CommitsTurned, IsSteadyAt};
 
 use crate::committed::Committed;
 use block_disk::Disk;
@@ -19,7 +12,7 @@ use image::{LaneRow, Layout, commit_by_turning, commit_control};
 /// How what was written and the control that counts it become durable, one before the other.
 #[derive(Clone, Copy, Debug, PartialEq, Eq)]
 pub enum Syncs {
-    /// What was written has a sync of its own, behind which a commit begins.
+    /// What was written has a sync of its own, after which a commit begins.
     Apart,
     /// It shares the first of a commit's two syncs.
     Joined,
@@ -36,21 +29,9 @@ pub fn commit<D: Disk>(
     requires rows { AreRows layout.now rows.now }
     requires steady { IsSteadyAt layout.now (D.device disk.old) committed.old }
     requires sequence { committed.old.sequence < 2 ^ 64 - 1 }
-    ensures ok { OnOk result (committed.new ≡ committed_next committed.old rows.now) }
-    ensures steady { OnOk result
-        (IsSteadyAt layout.now (D.device disk.new) (committed_next committed.old rows.now)) }
-    ensures same { OnOk result (ReadsSameBut (slot_range (other committed.old.slot) ∷ [])
-        (D.device disk.old) (D.device disk.new)) }
-    ensures only_fault { IfErr result (λ e. e ≡ Fault) }
-    ensures err { OnErr result (committed.new ≡ committed.old) }
-    ensures sequence { committed.new.sequence ≤ committed.old.sequence + 1 }
-    ensures any_moment { LeavesOnly (D.device disk.old) (D.device disk.new)
-        (OldOrNew layout.now (D.device disk.old) committed.old.slot (control_in committed.old)
-        (control_in (committed_next committed.old rows.now))) }
-    ensures any_sequence { LeavesOnly (D.device disk.old) (D.device disk.new)
-        (ShowsUpTo layout.now (committed.old.sequence + 1)) }
-    ensures within { LeavesBut (step_ranges layout.now) (D.device disk.old) (D.device disk.new) }
-    ensures cause { HasCauseSince (D.device disk.old) (D.device disk.new) Fault result }
+    // A commit makes the next sequence count, in the other slot.
+    ensures commits { CommitsNext layout.now committed.old rows.now
+        (D.device disk.old) committed.new (D.device disk.new) result }
 {
     match commit_control(disk, layout, committed.slot, committed.sequence, rows) {
         Ok(slot) => {
@@ -66,8 +47,8 @@ pub fn commit<D: Disk>(
 }
 
 /// Makes all that was written durable, and then commits a control with these rows by turning one gate; both by two syncs, or by
-/// three where a device that no store of ours left has sequence 0 behind the other slot's open gate. The sequence is the next
-/// one where that gate reads closed, and else the one behind it.
+/// three where a device that no store of ours left has sequence 0 in the other slot and its gate open. The sequence is the next
+/// one where that gate reads closed, and else the one in that slot.
 ///
 /// At every moment a crash leaves the old control, or the new one over all that was written before.
 pub fn commit_written<D: Disk>(
@@ -80,24 +61,11 @@ pub fn commit_written<D: Disk>(
     requires rows { AreRows layout.now rows.now }
     requires steady { IsSteadyAt layout.now (D.device disk.old) committed.old }
     requires sequence { committed.old.sequence < 2 ^ 64 - 1 }
-    ensures ok { OnOk result (committed.new
-        ≡ committed_turned committed.old (D.device disk.old) rows.now) }
-    ensures steady { OnOk result
-        (IsSteadyAt layout.now (D.device disk.new)
-        (committed_turned committed.old (D.device disk.old) rows.now)) }
+    // A commit over what was written turns one gate.
+    ensures commits { CommitsTurned layout.now committed.old rows.now
+        (D.device disk.old) committed.new (D.device disk.new) result }
+    // After a commit that turns one gate, nothing that was written is pending.
     ensures durable { OnOk result ((D.device disk.new).now.pending ≡ []) }
-    ensures same { OnOk result (ReadsSameBut (slots_range ∷ [])
-        (D.device disk.old) (D.device disk.new)) }
-    ensures only_fault { IfErr result (λ e. e ≡ Fault) }
-    ensures err { OnErr result (committed.new ≡ committed.old) }
-    ensures sequence { committed.new.sequence ≤ committed.old.sequence + 1 }
-    ensures any_moment { LeavesOnly (D.device disk.old) (D.device disk.new)
-        (OldOrTurned layout.now (D.device disk.old) committed.old.slot (control_in committed.old)
-        (control_in (committed_turned committed.old (D.device disk.old) rows.now))) }
-    ensures any_sequence { LeavesOnly (D.device disk.old) (D.device disk.new)
-        (ShowsUpTo layout.now (committed.old.sequence + 1)) }
-    ensures within { LeavesBut (step_ranges layout.now) (D.device disk.old) (D.device disk.new) }
-    ensures cause { HasCauseSince (D.device disk.old) (D.device disk.new) Fault result }
 {
     match commit_by_turning(disk, layout, committed.slot, committed.sequence, rows) {
         Ok((slot, sequence)) => {

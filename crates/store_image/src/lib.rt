@@ -17,18 +17,20 @@ mod sync;
 mod ending_round;
 mod home;
 mod logging;
+mod records;
 mod settling;
 mod trimming;
 
 // What an image of a store is worth.
 mod laws;
 
-pub use commit::Syncs;
+pub use commit::{Syncs, commit_written};
 pub use committed::Committed;
 pub use ending_round::settle_and_trim;
 pub use formatting::format;
 pub use home::{Home, write_home};
 pub use laws::standing_law;
 pub use logging::log_records;
+pub use records::append_lanes;
 pub use settling::settle;
 pub use trimming::{is_trimmed, trim};

@@ -1,17 +1,13 @@
 //! What is acknowledged is no longer needed of the undo logs.
-ghost use Rattle.std.specs.Prelude.{◌≡◌, ◌⊎◌, ◌↔◌, ◌+◌, ◌-◌, ◌<◌, ◌≤◌, ◌^◌, ℕ, IfErr, IsErrOf, IsTrue, OnErr, length};
+ghost use Rattle.std.specs.Prelude.{◌≡◌, ◌↔◌, ◌<◌, ◌≤◌, ℕ, IsTrue, length};
 ghost use Rattle.block_disk.specs.Device.{Device};
-ghost use Rattle.block_disk.specs.Images.{LeavesOnly};
-ghost use Rattle.block_disk.specs.Since.{HasCauseSince, LeavesBut};
+ghost use Rattle.heap_model.specs.Past.{Past, IsTrimmed};
 ghost use Rattle.heap_model.specs.Setting.{Setting};
 ghost use Rattle.image_parts.specs.declared.layout.Layout.{Layout as Shape};
 ghost use Rattle.undo_log.specs.StandsFor.{row_of};
 ghost use Rattle.store_image.specs.Consistent.{IsConsistent};
-ghost use Rattle.store_image.specs.Promises.{TrimKeeps, TrimLeaves, TrimShows, Trims};
-ghost use Rattle.heap_model.specs.Past.{Past, IsTrimmed};
-ghost use Rattle.store_image.specs.Sequences.{ShowsUpTo};
-ghost use Rattle.store_image.specs.Steps.{step_ranges};
-ghost use Rattle.heap_model.specs.declared.store_error.StoreError.TheVariants.{Fault, Worn};
+ghost use Rattle.store_image.specs.Promises.{Trims};
+ghost use Rattle.store_image.specs.Steps.{CanTrim};
 
 use crate::commit::commit;
 use crate::committed::Committed;
@@ -27,7 +23,7 @@ pub fn is_trimmed(committed: &Committed) -> bool
     start_settled(&committed.rows)
 }
 
-// Whether each lane starts behind its settled records.
+// Whether each lane starts after its settled records.
 fn start_settled(rows: &[LaneRow; 32]) -> bool
     ensures { IsTrue result ↔ ((lane : ℕ) → lane < 32
         → (row_of rows.now lane).start ≡ (row_of rows.now lane).settled) }
@@ -40,8 +36,8 @@ fn start_settled(rows: &[LaneRow; 32]) -> bool
     true
 }
 
-/// Moves each lane's start behind its settled records, by one commit: then the places of these are free. Until the control
-/// that says so is durable, the one that counts wants them.
+/// Moves each lane's start to the place after its settled records, by one commit: then the places of these are free. Until the
+/// control that says so is durable, recovery reads them.
 ///
 /// Refusals, in this order:
 /// - `Worn`: the control's sequence is at its last value, 2^64 - 1. The device isn't called;
@@ -51,23 +47,9 @@ pub fn trim<D: Disk>(
     layout: &Layout,
     committed: &mut Committed,
 ) -> Result<(), StoreError>
-    requires trims { (s : Setting) × (p : Past)
-        × IsConsistent layout.now s p committed.old (D.device disk.old) }
-    ensures ok { Trims layout.now committed.old (D.device disk.old) committed.new
-        (D.device disk.new) result }
-    ensures worn { IsErrOf result Worn ↔ (committed.old.sequence ≡ 2 ^ 64 - 1) }
-    ensures no_call { IsErrOf result Worn → disk.new ≡ disk.old }
-    ensures no_other { IfErr result (λ e. (e ≡ Worn) ⊎ (e ≡ Fault)) }
-    ensures err { OnErr result (committed.new ≡ committed.old) }
-    ensures sequence { committed.new.sequence ≤ committed.old.sequence + 1 }
-    ensures any_moment { TrimLeaves layout.now committed.old
-        (D.device disk.old) (D.device disk.new) }
-    ensures shown { TrimShows layout.now committed.old (D.device disk.old) (D.device disk.new) }
-    ensures any_sequence { LeavesOnly (D.device disk.old) (D.device disk.new)
-        (ShowsUpTo layout.now (committed.old.sequence + 1)) }
-    ensures within { LeavesBut (step_ranges layout.now) (D.device disk.old) (D.device disk.new) }
-    ensures crash { TrimKeeps layout.now committed.old (D.device disk.old) (D.device disk.new) }
-    ensures cause { HasCauseSince (D.device disk.old) (D.device disk.new) Fault result }
+    requires trims { CanTrim layout.now committed.old (D.device disk.old) }
+    // The records of what is acknowledged are given up.
+    ensures { Trims D.device layout.now committed.old disk.old committed.new disk.new result }
 {
     if committed.sequence == u64::MAX {
         return Err(StoreError::Worn);
@@ -76,7 +58,7 @@ pub fn trim<D: Disk>(
     commit(disk, layout, committed, &rows)
 }
 
-/// The rows with each lane's start behind its settled records.
+/// The rows with each lane's start after its settled records.
 pub(crate) fn trimmed_rows(lanes: u8, rows: &[LaneRow; 32]) -> [LaneRow; 32]
     requires { lanes ≤ 32 }
     ensures lanes { (lane : ℕ) → lane < lanes

@@ -49,7 +49,7 @@ invariant_of-self g c =
 pub invariant_of-self-in-Fault : goal.invariant_of-self-in-Fault
 invariant_of-self-in-Fault g c =
     let was = c.self.invariant in
-    (was.0, was.1, failed_has _ was.0 was.1 _ was.2 _ _ Logging _ c.in-Err.ensures.err refl (logs_now _ was.0 was.1 _ was.2 Logging _ c.if-self.false (logs_then _ was.0 was.1 _ _ (c.in-Err.ensures.shown was.0 was.1 (may_log _ was.0 was.1 _ was.2 c.fresh-fresh.ensures.within c.fresh-fresh.ensures.words c.if-self.false)))))
+    (was.0, was.1, failed_has _ was.0 was.1 _ was.2 _ _ Logging _ c.in-Err.ensures.step.takes.err refl (logs_now _ was.0 was.1 _ was.2 Logging _ c.if-self.false (logs_then _ was.0 was.1 _ _ (c.in-Err.ensures.shown was.0 was.1 (may_log _ was.0 was.1 _ was.2 c.fresh-fresh.ensures.within c.fresh-fresh.ensures.words c.if-self.false)))))
 
 pub returns-then-self : goal.returns-then-self
 returns-then-self g c = logs_failed g.D.Disk.device c.args.self.now (sym (ap (λ z. z.known.has_failed) c.self.view_is) ∙ c.if-self.true)
@@ -63,10 +63,10 @@ returns-in-Ok g c = logs_from c.self.view_is (record {
     failed = λ is. absurd cc;
     in_doubt = λ is. absurd cc;
     shown = λ s p was. logs_then _ s p _ _ (c.in-Ok.ensures.shown s p (may_log _ s p _ was c.fresh-fresh.ensures.within c.fresh-fresh.ensures.words c.if-self.false));
-    cause = c.in-Ok.ensures.cause;
-    sequence = c.in-Ok.ensures.sequence;
-    any_sequence = c.in-Ok.ensures.any_sequence;
-    within = c.in-Ok.ensures.within;
+    cause = c.in-Ok.ensures.step.takes.cause;
+    sequence = c.in-Ok.ensures.step.takes.sequence;
+    any_sequence = c.in-Ok.ensures.step.takes.any_sequence;
+    within = c.in-Ok.ensures.step.takes.within;
     layout = refl;
   };
   ok = λ s p was. logged_has _ s p _ was c.log_records.new.committed c.logged_all.new.self c.push_all.new.self _ (c.in-Ok.ensures.ok s p (may_log _ s p _ was c.fresh-fresh.ensures.within c.fresh-fresh.ensures.words c.if-self.false))
@@ -81,15 +81,15 @@ pub returns-in-Fault : goal.returns-in-Fault
 returns-in-Fault g c = logs_from c.self.view_is (record {
   writes = record {
     running = tt;
-    kept = λ s p was. failed_has _ s p _ was _ _ Logging _ c.in-Err.ensures.err refl (logs_now _ s p _ was Logging _ c.if-self.false (logs_then _ s p _ _ (c.in-Err.ensures.shown s p (may_log _ s p _ was c.fresh-fresh.ensures.within c.fresh-fresh.ensures.words c.if-self.false))));
+    kept = λ s p was. failed_has _ s p _ was _ _ Logging _ c.in-Err.ensures.step.takes.err refl (logs_now _ s p _ was Logging _ c.if-self.false (logs_then _ s p _ _ (c.in-Err.ensures.shown s p (may_log _ s p _ was c.fresh-fresh.ensures.within c.fresh-fresh.ensures.words c.if-self.false))));
     refused = inl c.in-Fault.is;
     failed = λ is. refl;
     in_doubt = λ is. refl;
     shown = λ s p was. logs_then _ s p _ _ (c.in-Err.ensures.shown s p (may_log _ s p _ was c.fresh-fresh.ensures.within c.fresh-fresh.ensures.words c.if-self.false));
-    cause = c.in-Err.ensures.cause;
-    sequence = c.in-Err.ensures.sequence;
-    any_sequence = c.in-Err.ensures.any_sequence;
-    within = c.in-Err.ensures.within;
+    cause = c.in-Err.ensures.step.takes.cause;
+    sequence = c.in-Err.ensures.step.takes.sequence;
+    any_sequence = c.in-Err.ensures.step.takes.any_sequence;
+    within = c.in-Err.ensures.step.takes.within;
     layout = refl;
   };
   ok = λ s p was. tt;
@@ -101,10 +101,10 @@ returns-in-Fault g c = logs_from c.self.view_is (record {
 
 pub returns-in_default : goal.returns-in_default
 returns-in_default g c =
-    let worn : c.in-Err.reason ≡ Worn = ⊎_elim (λ is. is) (λ is. absurd (c.in_default.not-Fault is)) c.in-Err.ensures.no_other in
-    let same = c.in-Err.ensures.no_call (ap Err worn) in
+    let worn : c.in-Err.reason ≡ Worn = ⊎_elim (λ is. is) (λ is. absurd (c.in_default.not-Fault is)) c.in-Err.ensures.step.no_other in
+    let same = c.in-Err.ensures.step.no_call (ap Err worn) in
     logs_from c.self.view_is (record {
-      writes = commits_same (λ i. record { disk = same i; known = record { layout = c.self.inside.layout; committed = c.in-Err.ensures.err i; memory = c.self.inside.applied; logged = c.self.inside.sections; has_failed = c.self.inside.has_failed; doubt = c.self.inside.doubt } })
+      writes = commits_same (λ i. record { disk = same i; known = record { layout = c.self.inside.layout; committed = c.in-Err.ensures.step.takes.err i; memory = c.self.inside.applied; logged = c.self.inside.sections; has_failed = c.self.inside.has_failed; doubt = c.self.inside.doubt } })
           c.in_default.not-Fault;
       ok = λ s p was. tt;
       answer = λ s p was. (

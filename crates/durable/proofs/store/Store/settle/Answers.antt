@@ -40,7 +40,7 @@ invariant_of-self-in-Fault g c =
     let was = c.self.invariant in (
       was.0,
       was.1,
-      fails g.D.Disk.device (settling c.least_dirty.result c.stable-stable.result.cut c.stable-stable.result.places c.self.view_is c.if-self.false (sym c.is_some.ensures ∙ c.if-is_some.false) c.least_dirty.ensures c.stable-stable.ensures.stable c.stable-stable.ensures.behind) (g.D.Disk.device c.settle.new.disk) Settling after_settle settles_then c.in-Err.ensures.shown _ _ c.in-Err.ensures.err c.stable-stable.ensures.same was.0 was.1 was.2,
+      fails g.D.Disk.device (settling c.least_dirty.result c.stable-stable.result.cut c.stable-stable.result.places c.self.view_is c.if-self.false (sym c.is_some.ensures ∙ c.if-is_some.false) c.least_dirty.ensures c.stable-stable.ensures.stable c.stable-stable.ensures.behind) (g.D.Disk.device c.settle.new.disk) Settling after_settle settles_then c.in-Err.ensures.shown _ _ c.in-Err.ensures.step.takes.err c.stable-stable.ensures.same was.0 was.1 was.2,
     )
 
 pub returns-in-Ok : goal.returns-in-Ok
@@ -54,10 +54,10 @@ returns-in-Ok g c =
         failed = λ is. absurd cc;
         in_doubt = λ is. absurd cc;
         shown = shows g.D.Disk.device k (g.D.Disk.device c.settle.new.disk) Settling after_settle settles_then c.in-Ok.ensures.shown;
-        cause = c.in-Ok.ensures.cause;
-        sequence = c.in-Ok.ensures.sequence;
-        any_sequence = c.in-Ok.ensures.any_sequence;
-        within = c.in-Ok.ensures.within;
+        cause = c.in-Ok.ensures.step.takes.cause;
+        sequence = c.in-Ok.ensures.step.takes.sequence;
+        any_sequence = c.in-Ok.ensures.step.takes.any_sequence;
+        within = c.in-Ok.ensures.step.takes.within;
         layout = refl;
       };
       ok = λ s p cut was stable. of_stable g.D.Disk.device k (λ (cut : ℕ → ℕ). HasPast (record { layout = c.self.inside.layout; committed = c.settle.new.committed; memory = c.self.inside.applied; logged = c.stable-stable.new.self; has_failed = c.self.inside.has_failed; doubt = c.self.inside.doubt }) s (after_settle p cut) (g.D.Disk.device c.settle.new.disk)) s p cut was stable
@@ -73,15 +73,15 @@ returns-in-Fault g c =
     acknowledged_from c.self.view_is (record {
       writes = record {
         running = tt;
-        kept = fails g.D.Disk.device k (g.D.Disk.device c.settle.new.disk) Settling after_settle settles_then c.in-Err.ensures.shown _ _ c.in-Err.ensures.err c.stable-stable.ensures.same;
+        kept = fails g.D.Disk.device k (g.D.Disk.device c.settle.new.disk) Settling after_settle settles_then c.in-Err.ensures.shown _ _ c.in-Err.ensures.step.takes.err c.stable-stable.ensures.same;
         refused = inl c.in-Fault.is;
         failed = λ is. refl;
         in_doubt = λ is. refl;
         shown = shows g.D.Disk.device k (g.D.Disk.device c.settle.new.disk) Settling after_settle settles_then c.in-Err.ensures.shown;
-        cause = c.in-Err.ensures.cause;
-        sequence = c.in-Err.ensures.sequence;
-        any_sequence = c.in-Err.ensures.any_sequence;
-        within = c.in-Err.ensures.within;
+        cause = c.in-Err.ensures.step.takes.cause;
+        sequence = c.in-Err.ensures.step.takes.sequence;
+        any_sequence = c.in-Err.ensures.step.takes.any_sequence;
+        within = c.in-Err.ensures.step.takes.within;
         layout = refl;
       };
       ok = λ s p cut was stable. tt;
@@ -93,10 +93,10 @@ returns-in-Fault g c =
 pub returns-in_default : goal.returns-in_default
 returns-in_default g c =
     let k = settling c.least_dirty.result c.stable-stable.result.cut c.stable-stable.result.places c.self.view_is c.if-self.false (sym c.is_some.ensures ∙ c.if-is_some.false) c.least_dirty.ensures c.stable-stable.ensures.stable c.stable-stable.ensures.behind in
-    let worn : c.in-Err.reason ≡ Worn = ⊎_elim (λ is. is) (λ is. absurd (c.in_default.not-Fault is)) c.in-Err.ensures.no_other in
-    let same = c.in-Err.ensures.no_call (ap Err worn) in
+    let worn : c.in-Err.reason ≡ Worn = ⊎_elim (λ is. is) (λ is. absurd (c.in_default.not-Fault is)) c.in-Err.ensures.step.no_other in
+    let same = c.in-Err.ensures.step.no_call (ap Err worn) in
     acknowledged_from c.self.view_is (record {
-      writes = commits_same (λ i. record { disk = same i; known = record { layout = c.self.inside.layout; committed = c.in-Err.ensures.err i; memory = c.self.inside.applied; logged = c.stable-stable.ensures.same i; has_failed = c.self.inside.has_failed; doubt = c.self.inside.doubt } })
+      writes = commits_same (λ i. record { disk = same i; known = record { layout = c.self.inside.layout; committed = c.in-Err.ensures.step.takes.err i; memory = c.self.inside.applied; logged = c.stable-stable.ensures.same i; has_failed = c.self.inside.has_failed; doubt = c.self.inside.doubt } })
           c.in_default.not-Fault;
       ok = λ s p cut was stable. tt;
       answer = refuses_worn g.D.Disk.device k c.in-Err.reason worn (c.in-Err.ensures.worn.0 (ap Err worn));

@@ -51,7 +51,7 @@ invariant_of-self g c =
 pub invariant_of-self-in-Fault : goal.invariant_of-self-in-Fault
 invariant_of-self-in-Fault g c =
     let was = c.self.invariant in
-    (was.0, was.1, failed_has _ was.0 was.1 _ was.2 _ _ Trimming _ c.in-Err.ensures.err refl (logs_now _ was.0 was.1 _ was.2 Trimming _ c.if-self.false (trims_then _ was.0 was.1 _ _ (c.in-Err.ensures.shown was.0 was.1 (was.2.agrees c.if-self.false)))))
+    (was.0, was.1, failed_has _ was.0 was.1 _ was.2 _ _ Trimming _ c.in-Err.ensures.step.takes.err refl (logs_now _ was.0 was.1 _ was.2 Trimming _ c.if-self.false (trims_then _ was.0 was.1 _ _ (c.in-Err.ensures.shown was.0 was.1 (was.2.agrees c.if-self.false)))))
 
 pub returns-in-Ok : goal.returns-in-Ok
 returns-in-Ok g c = trims_from c.self.view_is (record {
@@ -62,10 +62,10 @@ returns-in-Ok g c = trims_from c.self.view_is (record {
     failed = λ is. absurd cc;
     in_doubt = λ is. absurd cc;
     shown = λ s p was. trims_then _ s p _ _ (c.in-Ok.ensures.shown s p (was.agrees c.if-self.false));
-    cause = c.in-Ok.ensures.cause;
-    sequence = c.in-Ok.ensures.sequence;
-    any_sequence = c.in-Ok.ensures.any_sequence;
-    within = c.in-Ok.ensures.within;
+    cause = c.in-Ok.ensures.step.takes.cause;
+    sequence = c.in-Ok.ensures.step.takes.sequence;
+    any_sequence = c.in-Ok.ensures.step.takes.any_sequence;
+    within = c.in-Ok.ensures.step.takes.within;
     layout = refl;
   };
   ok = λ s p was. trims _ s p _ was c.trim.new.committed _ (c.in-Ok.ensures.ok s p (was.agrees c.if-self.false)) c.start_at.new.self c.forget_to.new.self c.starts.result c.kept_cut.result c.starts.ensures
@@ -81,15 +81,15 @@ pub returns-in-Fault : goal.returns-in-Fault
 returns-in-Fault g c = trims_from c.self.view_is (record {
   writes = record {
     running = tt;
-    kept = λ s p was. failed_has _ s p _ was _ _ Trimming _ c.in-Err.ensures.err refl (logs_now _ s p _ was Trimming _ c.if-self.false (trims_then _ s p _ _ (c.in-Err.ensures.shown s p (was.agrees c.if-self.false))));
+    kept = λ s p was. failed_has _ s p _ was _ _ Trimming _ c.in-Err.ensures.step.takes.err refl (logs_now _ s p _ was Trimming _ c.if-self.false (trims_then _ s p _ _ (c.in-Err.ensures.shown s p (was.agrees c.if-self.false))));
     refused = inl c.in-Fault.is;
     failed = λ is. refl;
     in_doubt = λ is. refl;
     shown = λ s p was. trims_then _ s p _ _ (c.in-Err.ensures.shown s p (was.agrees c.if-self.false));
-    cause = c.in-Err.ensures.cause;
-    sequence = c.in-Err.ensures.sequence;
-    any_sequence = c.in-Err.ensures.any_sequence;
-    within = c.in-Err.ensures.within;
+    cause = c.in-Err.ensures.step.takes.cause;
+    sequence = c.in-Err.ensures.step.takes.sequence;
+    any_sequence = c.in-Err.ensures.step.takes.any_sequence;
+    within = c.in-Err.ensures.step.takes.within;
     layout = refl;
   };
   ok = λ s p was. tt;
@@ -101,10 +101,10 @@ returns-in-Fault g c = trims_from c.self.view_is (record {
 
 pub returns-in_default : goal.returns-in_default
 returns-in_default g c =
-    let worn : c.in-Err.reason ≡ Worn = ⊎_elim (λ is. is) (λ is. absurd (c.in_default.not-Fault is)) c.in-Err.ensures.no_other in
-    let same = c.in-Err.ensures.no_call (ap Err worn) in
+    let worn : c.in-Err.reason ≡ Worn = ⊎_elim (λ is. is) (λ is. absurd (c.in_default.not-Fault is)) c.in-Err.ensures.step.no_other in
+    let same = c.in-Err.ensures.step.no_call (ap Err worn) in
     trims_from c.self.view_is (record {
-      writes = commits_same (λ i. record { disk = same i; known = record { layout = c.self.inside.layout; committed = c.in-Err.ensures.err i; memory = c.self.inside.applied; logged = c.self.inside.sections; has_failed = c.self.inside.has_failed; doubt = c.self.inside.doubt } })
+      writes = commits_same (λ i. record { disk = same i; known = record { layout = c.self.inside.layout; committed = c.in-Err.ensures.step.takes.err i; memory = c.self.inside.applied; logged = c.self.inside.sections; has_failed = c.self.inside.has_failed; doubt = c.self.inside.doubt } })
           c.in_default.not-Fault;
       ok = λ s p was. tt;
       answer = λ s p was. trim_worn was c.in-Err.reason c.if-self.false worn (c.in-Err.ensures.worn.0 (ap Err worn)) (not_trimmed c.is_trimmed.result p (c.is_trimmed.ensures _ s p _ (was.agrees c.if-self.false)) c.if-is_trimmed.false);

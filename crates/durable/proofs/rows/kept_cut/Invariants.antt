@@ -1,6 +1,6 @@
 use Rattle.std.proofs.Common.{◌≡◌, ◌<◌, ℕ, length, slice_index}
 use Rattle.undo_log.specs.StandsFor.{row_of}
-use Rattle.durable.proofs.store.kept_cut.Given as goal
+use Rattle.durable.proofs.rows.kept_cut.Given as goal
 
 -- the rows' counts so far
 abbrev pub invariant-loop-lane : goal.invariant-loop-lane

@@ -6,7 +6,7 @@ use Rattle.undo_log.specs.Area.{HasRecords, record_ranges, record_writes}
 use Rattle.undo_log.specs.StandsFor.{row_of}
 use Rattle.store_image.specs.NewRecords.{HasFresh}
 use Rattle.store_image.proofs.Appending.{next_lane, lane_follows, lane_always}
-use Rattle.store_image.proofs.logging.append_lanes.Goals as goal
+use Rattle.store_image.proofs.records.append_lanes.Goals as goal
 
 pub returns-in_err-append_lane-clause-any_moment : goal.returns-in_err-append_lane-clause-any_moment
 returns-in_err-append_lane-clause-any_moment g c =

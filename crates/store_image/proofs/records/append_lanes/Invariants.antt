@@ -1,7 +1,7 @@
 use Rattle.std.proofs.Common.{◌≤◌, ◌≡◌, length}
 use Rattle.block_disk.specs.Images.{Always, ImageBut, LeavesOnly}
 use Rattle.store_image.specs.NewRecords.{HasFresh, fresh_ranges}
-use Rattle.store_image.proofs.logging.append_lanes.Given as goal
+use Rattle.store_image.proofs.records.append_lanes.Given as goal
 
 -- the new records of the lanes so far stand there, and each image is one from before but for spare places
 abbrev pub invariant-loop-lane : goal.invariant-loop-lane
