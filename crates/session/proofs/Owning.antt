@@ -1,7 +1,6 @@
 -- Whose a session's ring is, and what a release may be sent with.
-use Rattle.std.proofs.Common.{ℕ, ◌≡◌, ◌≤◌, List, [], ◌∷◌, ◌++◌, Option, Some, sym, ap, ◌∙◌, subst}
+use Rattle.std.proofs.Common.{ℕ, ◌≡◌, List, [], ◌∷◌, ◌++◌, Option, Some, sym, ap, ◌∙◌, subst}
 use Rattle.heap_model.specs.declared.ids.ObjectId.{ObjectId}
-use Rattle.heap_model.specs.declared.limits.TheConstants.{RING_RECORDS}
 use Rattle.heap_model.specs.declared.record.Record.{Record}
 use Rattle.heap_model.specs.declared.event.Event.{Event}
 use Rattle.heap_model.specs.History.{logged}
@@ -13,15 +12,9 @@ use Rattle.thread_rings.specs.Following.{Whose, whose}
 use Rattle.thread_steps.specs.Views.{View, IsReady, IsSeatOf, IsSlot, Lengthens, shown, view}
 use Rattle.thread_steps.specs.declared.grip.Grip.{Grip}
 use Rattle.session.specs.Logs.{log_in, sent_in}
-use Rattle.session.specs.Sessions.{rooms_of}
-use Rattle.session.specs.declared.session.Session.{Session}
 use Rattle.session.specs.Sits.{IsTold, Sits, Stays}
 use Rattle.session.proofs.Lengthening.{logs_after}
 use Rattle.session.proofs.Telling.{sent_more}
-
--- a session's ring has the usual room at least
-pub ring_least : (s : Session) → RING_RECORDS ≤ (rooms_of s).ring
-ring_least s = s.sized
 
 -- the seat stepped
 pub owned_on : (h : Home) (of : Option Whose) (s t : Sitting) → IsSeatOf h s → IsSeatOf h t → (view t).lane ≡ (view s).lane → of ≡ Some (whose s) → of ≡ Some (whose t)

@@ -41,7 +41,7 @@ use Rattle.session.specs.Sessions.{awaited, free_of, free_waiting, rooms_of, vie
 abbrev pub IsQuiet : View → View → Type 0
 IsQuiet v w = Lengthens v w []
 
--- the helper is behind, as far as the view knows: so many records pass the ring with all that were sent, or the lane with those since
+-- the helper is late, as far as the view knows: so many records pass the ring with all that were sent, or the lane with those since
 -- the trimmed place
 abbrev pub IsBehind : Rooms → (needed : ℕ) → View → Type 0
 IsBehind c k w = (c.ring < place w + k) ⊎ (w.trimmed + c.lane < place w + k)
@@ -58,7 +58,7 @@ IsFull v k = SECTION_RECORDS < section_records v + held_count v + k
 abbrev pub LacksLane : Rooms → (needed : ℕ) → View → View → Type 0
 LacksLane c k v w = (v.trimmed_looks < w.trimmed_looks) × (w.trimmed + c.lane < place w + k)
 
--- so many slots of the ring are known to be free; where the reason is that the helper is behind, they aren't, or the lane lacks the room
+-- so many slots of the ring are known to be free; where the reason is that the helper is late, they aren't, or the lane lacks the room
 abbrev pub HasRing : Rooms → (needed free : ℕ) → View → View → SessionError → Type 0
 HasRing c k r v w Behind = (r < k) ⊎ LacksLane c k v w
 HasRing c k r v w _ = k ≤ r
@@ -222,7 +222,7 @@ OnlyLooks v w o = (looks : List Event) × AreLooks o looks × Lengthens v w look
 abbrev pub EntersFirst : Rooms → View → View → ObjectId → Result (Unit {0}) SessionError → Type 0
 EntersFirst c v w o x = (held_count v ≡ 0 → Begins c v w o x) × (0 < held_count v → GoesOn v w o x)
 
--- looks, and then such an enter
+-- looks, and then an enter of this kind
 abbrev pub EntersLater : Rooms → View → View → ObjectId → Result (Unit {0}) SessionError → Type 0
 EntersLater c v w o x = (u : View) × OnlyLooks v u o × EntersFirst c u w o x
 
@@ -377,11 +377,11 @@ abbrev pub AsksHeld : Session → ObjectId → Hold → Result Waiting (Session 
 AsksHeld x o k (Ok w) = (awaited w ≡ o) × BeginsWait (rooms_of x) (view_of x) (view_waiting w) o k
 AsksHeld x o k (Err e) = RefusesWait (rooms_of x) (view_of x) (view_of e.0) o k e.1
 
--- the ring of the session that comes back has room for a wait and the section behind it, or that is the reason
+-- the ring of the session that comes back has room for a wait and the section after it, or that is the reason
 abbrev pub HasRingToWait : Session → Session × SessionError → Type 0
 HasRingToWait x e = HasRing (rooms_of x) (SECTION_RECORDS + 1) (free_of e.0) (view_of x) (view_of e.0) e.1
 
--- the ring has room for the section behind the wait, or says why there is no wait
+-- the ring has room for the section after the wait, or says why there is no wait
 abbrev pub LeavesRingToWait : Session → Result Waiting (Session × SessionError) → Type 0
 LeavesRingToWait x r = MatchResult r (λ w. SECTION_RECORDS ≤ free_waiting w) (HasRingToWait x)
 

@@ -1,14 +1,16 @@
 -- What the parts of a call keep of a session.
+use Rattle.std.specs.Bool.{OnFalse}
 use Rattle.std.specs.Prelude.{ℕ, ◌≡◌, ◌+◌, ◌<◌, ◌≤◌, Bool, true, [], ◌∷◌, Option, Some, None, Result, Err, IfErr, MatchBool, MatchOption, MatchResult, length}
 use Rattle.rtrb.specs.Ring.{known_free}
 use Rattle.heap_model.specs.declared.limits.TheConstants.{SECTION_RECORDS}
-use Rattle.heap_model.specs.declared.event.Event.TheVariants.{Look, Resume}
+use Rattle.heap_model.specs.declared.event.Event.TheVariants.{Look, Resume, Store}
 use Rattle.heap_model.specs.declared.event.Sight.TheVariants.{Found, StillInSet}
+use Rattle.heap_model.specs.declared.ids.FieldId.{FieldId}
 use Rattle.heap_model.specs.declared.ids.ObjectId.{ObjectId}
 use Rattle.heap_model.specs.Own.{Hold}
 use Rattle.lock_word.specs.declared.lock_word.TheConstants.{FAT_SLOTS}
-use Rattle.monitor.specs.Seats.{Home}
-use Rattle.thread_steps.specs.Views.{Fattens, Lengthens, plan}
+use Rattle.monitor.specs.Seats.{Home, Sitting}
+use Rattle.thread_steps.specs.Views.{Fattens, IsSeatOf, KeepsEach, Lengthens, plan, view}
 use Rattle.thread_steps.specs.declared.grip.Grip.{Grip}
 use Rattle.thread_steps.specs.declared.grip.Seen.{Seen}
 use Rattle.session.specs.declared.error.SessionError.{SessionError}
@@ -20,7 +22,7 @@ use Rattle.session.specs.declared.waiting.Waiting.{Waiting}
 use Rattle.session.specs.Sits.{Finds, FindsNone}
 use Rattle.session.specs.Calls.{HasRingToWait, IsQuiet, IsWaitWorn, Lacks, Owns, RefusesWait, SeesTaken}
 use Rattle.session.specs.Logs.{held_count}
-use Rattle.session.specs.Sessions.{awaited, rooms_of, view_of, view_waiting}
+use Rattle.session.specs.Sessions.{awaited, rooms_of, view_of, view_waiting, IsSessionOf, SameRing}
 use Rattle.session.specs.Steps.{MissesResume, RefusesFat, RefusesRoom}
 
 -- the hold that a grip is of
@@ -42,6 +44,26 @@ pub record SameNumbers (p q : Parts) : Type 0 where
   pub capacity : q.capacity ≡ p.capacity
   pub trimmed : q.trimmed ≡ p.trimmed
   pub held : length q.held.items ≡ length p.held.items
+
+-- A write of a field, which makes so many records: it is told, they are counted, and the session holds what it held.
+pub record Writes (h : Home) (x y : Session) (f : FieldId) (before value more : ℕ) : Type 0 where
+  pub seat : IsSessionOf h y
+  pub ring : SameRing x y
+  pub told : Lengthens (view_of x) (view_of y) (Store f before value ∷ [])
+  pub held : y.parts.held ≡ x.parts.held
+  pub records : y.parts.records ≡ x.parts.records + more
+
+-- A look whether records up to this place fit a lane of this capacity: by the trimmed place that was known, or by the one that is read
+-- from the published word now. Nothing is told.
+pub record LooksForRoom (h : Home) (s t : Sitting) (was least last capacity : ℕ) (fits : Bool) : Type 0 where
+  pub seat : IsSeatOf h t
+  pub mark : (view t).mark ≡ (view s).mark
+  pub told : Lengthens (view s) (view t) []
+  pub grips : KeepsEach (view s) (view t)
+  pub known : least ≤ (view t).trimmed
+  pub rises : was ≤ least
+  pub room : MatchBool fits (last ≤ least + capacity) ((view t).trimmed + capacity < last)
+  pub looked : OnFalse fits ((view s).trimmed_looks < (view t).trimmed_looks)
 
 -- there is room for a wait, for the acquire after it and its release; and for a section where the wait ends one
 pub record HasRoomToWait (p : Parts) : Type 0 where

@@ -5,7 +5,7 @@ pub mod Calls
 pub mod TwoStores
 pub mod Past
 pub mod Opened
--- The scaffold: what a session keeps beside its seat's view, and what the parts of a call answer.
+-- The scaffold: what a session keeps in addition to its seat's view, and what the parts of a call answer.
 pub mod Grips
 pub mod Sits
 pub mod Kept

@@ -6,7 +6,7 @@ use Rattle.heap_model.specs.declared.limits.TheConstants.{SECTION_RECORDS, LAST_
 use Rattle.heap_model.specs.Sections.{Action, holding}
 use Rattle.heap_model.specs.Limits.{IsWithinLimits}
 
--- behind these a whole section fits below the bound, and isn't at the last place
+-- after these a whole section fits below the bound, and isn't at the last place
 abbrev pub FitsBelow : (bound : ℕ) → List Action → Type 0
 FitsBelow bound older = (length older + SECTION_RECORDS ≤ bound) × (length older < LAST_PLACE)
 

@@ -1,4 +1,4 @@
--- What a session keeps beside its seat's view.
+-- What a session keeps in addition to its seat's view.
 use Rattle.std.specs.Prelude.{ℕ, ◌≡◌, ◌+◌, ◌<◌, ◌≤◌, List, length, Some, None, true}
 use Rattle.heap_model.specs.declared.limits.TheConstants.{SECTION_RECORDS, LEAST_CAPACITY, MOST_CAPACITY, LAST_PLACE}
 use Rattle.heap_model.specs.declared.ids.ObjectId.{ObjectId}
@@ -42,9 +42,9 @@ pub record HasRoom (records places capacity trimmed free : ℕ) : Type 0 where
   pub ring : SECTION_RECORDS ≤ free + records
   pub low : places < LAST_PLACE + records
 
--- What a session keeps, whether it waits or not: its grips, what it pushed, how many slots of the ring it knows to be free,
--- the records of its open section, its place, the sections that have ended, the lane's capacity, and the trimmed place that
--- it read last.
+-- What a session keeps, whether it waits or not: its grips, what it pushed, and how many slots of the ring it knows to be free. It counts
+-- the records of its open section, its place and the sections that have ended. It has the lane's capacity and the trimmed place that it
+-- read last.
 pub record Stays (v : View) (gs : List Grip) (pushed : List Record) (free r p k c t : ℕ) : Type 0 where
   pub holds : Holds v gs
   pub told : IsTold v pushed r p k

@@ -1,4 +1,4 @@
-//! The calls that may wait. How long, and whether another thread comes first, is not said.
+//! The calls that may wait. No contract says how long they wait, nor which thread comes first.
 
 use crate::error::{SessionError, seldom};
 use crate::grips::like;
@@ -17,7 +17,7 @@ impl Session {
     ghost use Rattle.session.specs.Calls.{IsQuiet, EntersLater, EntersWaiting, IsFatOrFull, IsSettled, LeavesRing, WaitsFor, WaitsToEnter};
     ghost use Rattle.session.specs.Sessions.{SameRing, IsSessionOf, view_of, rooms_of, free_of};
 
-    /// Takes the monitor, or one lock more of it, and waits while another thread holds it (JLS 17.1). After such a wait it makes
+    /// Takes the monitor, or one lock more of it, and waits while another thread holds it (JLS 17.1). If it waited, it makes
     /// the monitor fat, if it is thin and a slot is left.
     ///
     /// Refused as [`try_enter`](Session::try_enter) refuses, but never as held.

@@ -4,21 +4,22 @@ use std::hint;
 use thiserror::Error;
 use thread_steps::Seen;
 
-/// Why a call is refused. The reasons are tried in this order, as far as a call has them. A refused call leaves what is held,
-/// what was sent and the shared words as they were, but for two: a monitor may have become fat; and the count of fat slots has risen
-/// by one where a call that is refused by `NoFat` claimed a slot too late, behind the last one. What it looked at it was told.
+/// Why a call is refused. The reasons are tried in this order, as far as a call has them.
+///
+/// A refused call leaves what is held and what was sent. It leaves the shared words too, with two exceptions: a monitor may have become
+/// fat; and a call that is refused by `NoFat` may have raised the count of fat slots by one. The thread's view has what it looked at.
 #[derive(Clone, Copy, Debug, Drop, Error, PartialEq, Eq)]
 pub enum SessionError {
-    /// There is no such object.
+    /// No object has this number.
     #[error("unknown")]
     UnknownObject,
-    /// There is no such field.
+    /// No field has this number.
     #[error("unknown")]
     UnknownField,
     /// The session doesn't hold the monitor, or that of the field's guard.
     #[error("not held")]
     NotHeld,
-    /// The helper is behind: the ring or the lane, from where it was trimmed, lacks room for a whole section.
+    /// The helper is late: the ring, or the lane from where it was trimmed, lacks room for a whole section.
     #[error("behind")]
     Behind,
     /// The section, with the releases that it still needs, would have more than

@@ -10,11 +10,11 @@ use heap_model::{FieldId, Record, SECTION_RECORDS};
 use monitor::Shared;
 
 impl Session {
-    ghost use Rattle.std.specs.Prelude.{◌≡◌, ◌+◌, ◌<◌, ◌≤◌, length, [], ◌∷◌, true, false};
-    ghost use Rattle.heap_model.specs.declared.event.Event.TheVariants as event;
+    ghost use Rattle.std.specs.Prelude.{◌≡◌, ◌+◌, ◌<◌, ◌≤◌, length, true, false};
     ghost use Rattle.heap_model.specs.declared.limits.TheConstants.{SECTION_RECORDS};
-    ghost use Rattle.thread_steps.specs.Views.{plan, IsHeld, Lengthens};
+    ghost use Rattle.thread_steps.specs.Views.{plan, IsHeld};
     ghost use Rattle.session.specs.Calls.{Loads, StoresAs, records_of};
+    ghost use Rattle.session.specs.Keeping.{Writes};
     ghost use Rattle.session.specs.Sessions.{SameRing, IsSessionOf, view_of};
 
     /// Loads a field. One load.
@@ -84,11 +84,7 @@ impl Session {
         requires held { IsHeld (view_of self.old) ((plan shared.now).guard field.0) }
         requires some { 0 < length self.old.parts.held.items }
         requires short { self.old.parts.records + length self.old.parts.held.items + records_of (plan shared.now) field ≤ SECTION_RECORDS }
-        ensures seat { IsSessionOf shared.now self.new }
-        ensures ring { SameRing self.old self.new }
-        ensures told { Lengthens (view_of self.old) (view_of self.new) (event.Store field result value ∷ []) }
-        ensures held { self.new.parts.held ≡ self.old.parts.held }
-        ensures records { self.new.parts.records ≡ self.old.parts.records + records_of (plan shared.now) field }
+        ensures { Writes shared.now self.old self.new field result value (records_of (plan shared.now) field) }
     {
         if thread_steps::is_logged(shared, field) {
             self.write(shared, field, value)
@@ -106,11 +102,7 @@ impl Session {
         requires held { IsHeld (view_of self.old) ((plan shared.now).guard field.0) }
         requires some { 0 < length self.old.parts.held.items }
         requires short { self.old.parts.records + length self.old.parts.held.items + 1 ≤ SECTION_RECORDS }
-        ensures seat { IsSessionOf shared.now self.new }
-        ensures ring { SameRing self.old self.new }
-        ensures told { Lengthens (view_of self.old) (view_of self.new) (event.Store field result value ∷ []) }
-        ensures held { self.new.parts.held ≡ self.old.parts.held }
-        ensures records { self.new.parts.records ≡ self.old.parts.records + 1 }
+        ensures { Writes shared.now self.old self.new field result value 1 }
     {
         let before = thread_steps::write_field(shared, &mut self.parts.seat, field, value);
         self.parts.records += 1;
@@ -130,11 +122,7 @@ impl Session {
         requires field { field.0 < (plan shared.now).fields }
         requires transient { (plan shared.now).is_logged field.0 ≡ false }
         requires held { IsHeld (view_of self.old) ((plan shared.now).guard field.0) }
-        ensures seat { IsSessionOf shared.now self.new }
-        ensures ring { SameRing self.old self.new }
-        ensures told { Lengthens (view_of self.old) (view_of self.new) (event.Store field result value ∷ []) }
-        ensures held { self.new.parts.held ≡ self.old.parts.held }
-        ensures records { self.new.parts.records ≡ self.old.parts.records }
+        ensures { Writes shared.now self.old self.new field result value 0 }
     {
         thread_steps::write_field(shared, &mut self.parts.seat, field, value)
     }

@@ -68,7 +68,7 @@ pub fn put(held: &mut ArrayVec<Grip, MOST_HELD>, grip: Grip)
     }
 }
 
-/// Takes the grip on the object out, which is at this place. Of one or two it goes without turning the array.
+/// Takes out the grip on the object, which is at this place. It turns the array only where three or more are held.
 #[inline(always)]
 pub fn take_at(held: &mut ArrayVec<Grip, MOST_HELD>, _object: ObjectId, place: usize)
     requires { (place ≡ place_in _object.0 held.old.items) × (place < length held.old.items) }

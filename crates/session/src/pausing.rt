@@ -149,7 +149,7 @@ impl Session {
         }
     }
 
-    // Why a wait is refused whose numbers have come to their end: a slot that is wanting comes first.
+    // Why a wait is refused whose release numbers are used up: that no slot is left comes first.
     fn why_worn(&mut self, shared: &Shared, grip: Grip) -> SessionError
         requires seat { IsSessionOf shared.now self.old }
         requires found { HasGrip self.old grip.object grip }

@@ -1,10 +1,11 @@
 //! Whether there is room for another section.
 
-ghost use Rattle.std.specs.Prelude.{◌≡◌, ◌+◌, ◌<◌, ◌≤◌, ◌^◌, ◌↔◌, [], length, IsTrue, MatchBool};
+ghost use Rattle.std.specs.Prelude.{◌+◌, ◌<◌, ◌≤◌, ◌^◌, ◌↔◌, length, IsTrue, MatchBool};
 ghost use Rattle.std.specs.Bool.{OnFalse};
 ghost use Rattle.rtrb.specs.Ring.{known_free, producer_capacity};
 ghost use Rattle.thread_rings.specs.Rings.{SenderLooked, sent};
-ghost use Rattle.thread_steps.specs.Views.{view, IsSeatOf, KeepsEach, Lengthens};
+ghost use Rattle.session.specs.Keeping.{LooksForRoom};
+ghost use Rattle.thread_steps.specs.Views.{view, IsSeatOf};
 
 use monitor::{Seat, Shared};
 use thread_rings::Sender;
@@ -46,14 +47,7 @@ pub fn lane_has_room(
     requires small { place + needed < 2 ^ 64 }
     requires needed { needed ≤ capacity }
     requires known { trimmed.old ≤ (view seat.old).trimmed }
-    ensures seat { IsSeatOf shared.now seat.new }
-    ensures mark { (view seat.new).mark ≡ (view seat.old).mark }
-    ensures told { Lengthens (view seat.old) (view seat.new) [] }
-    ensures grips { KeepsEach (view seat.old) (view seat.new) }
-    ensures known { trimmed.new ≤ (view seat.new).trimmed }
-    ensures rises { trimmed.old ≤ trimmed.new }
-    ensures room { MatchBool result (place + needed ≤ trimmed.new + capacity) ((view seat.new).trimmed + capacity < place + needed) }
-    ensures looked { OnFalse result ((view seat.old).trimmed_looks < (view seat.new).trimmed_looks) }
+    ensures { LooksForRoom shared.now seat.old seat.new trimmed.old trimmed.new (place + needed) capacity result }
 {
     if is_lane_wide(*trimmed, place, capacity, needed) {
         return true;

@@ -1,9 +1,9 @@
 -- What the steps by grip tell: a seat's view, as a session sees it, and what a step makes of it.
-use Rattle.std.specs.Prelude.{ℕ, ◌≡◌, ◌≢◌, ◌+◌, ◌<◌, ◌≤◌, ◌==◌, if◌then◌else◌, List, [], ◌∷◌, ◌++◌, length, Option, Some, None}
+use Rattle.std.specs.Prelude.{ℕ, ◌≡◌, ◌≢◌, ◌+◌, ◌<◌, ◌≤◌, ◌==◌, if◌then◌else◌, List, [], ◌∷◌, ◌++◌, length, Option, Some, None, Result, IfOk, IfErr, MatchResult}
 use Rattle.heap_model.specs.declared.ids.ObjectId.{ObjectId}
 use Rattle.heap_model.specs.declared.ids.Lane.{Lane}
 use Rattle.heap_model.specs.declared.event.Event.{Event}
-use Rattle.heap_model.specs.declared.event.Event.TheVariants.{Look}
+use Rattle.heap_model.specs.declared.event.Event.TheVariants.{Enter, Look, Resume}
 use Rattle.heap_model.specs.declared.event.Sight.{Sight}
 use Rattle.heap_model.specs.declared.event.Sight.TheVariants.{Found, StillInSet}
 use Rattle.heap_model.specs.Setting.{Setting}
@@ -212,7 +212,7 @@ IsWhole v o (thin.Free n) (Some f) = ⊥
 IsWhole v o (thin.Thin t a n) (Some f) = ⊥
 IsWhole v o (thin.Fat i m) None = ⊥
 
--- a fat word stands just beside a lock word that names one
+-- a look has a fat word exactly where the lock word names one
 abbrev pub IsPaired : Shape → Option FatShape → Type 0
 IsPaired (thin.Free n) None = Unit {0}
 IsPaired (thin.Thin t a n) None = Unit {0}
@@ -271,3 +271,29 @@ IsOfSlot (Some i) (seen.Lock x) = ⊥
 pub record Misses (v w : View) (o : ObjectId) (n : ℕ) (x : Seen) : Type 0 where
   pub told : Lengthens v w (miss_events o x)
   pub another : IsAnother w o n x
+
+-- A try to take a monitor by one lock, at this number; `known` is its fat slot, if the thread knew of one.
+pub record Tries (h : Home) (s t : Sitting) (o : ObjectId) (known : Option ℕ) (n : ℕ) (r : Result Grip Seen) : Type 0 where
+  pub seat : IsSeatOf h t
+  pub clear : IsClear (view t)
+  -- A take adds just its event. A missed take tells a thin word only of a monitor that isn't known to be fat. It tells a
+  -- word that names a slot only where that was met last.
+  pub told : MatchResult r (Takes (view s) (view t) (Enter o n) o 1 n) (Misses (view s) (view t) o n)
+  -- The grip has the monitor's slot, as it was known before the call.
+  pub slot : IfOk r (λ g. g.slot ≡ known)
+  -- A missed try found the word of the slot that is known, or the lock word where none is.
+  pub found : IfErr r (λ x. IsOfSlot known x)
+  -- A fat lock word that was seen is known whole, for good.
+  pub lasting : IfErr r (λ x. IsLastingSeen (view t) o x)
+  pub grips : KeepsOthers (view s) (view t) o.0
+
+-- A try to take a monitor again after a wait, by as many locks as before it, at this number.
+pub record TriesAgain (h : Home) (s t : Sitting) (o : ObjectId) (c i n : ℕ) (r : Result Grip Seen) : Type 0 where
+  pub seat : IsSeatOf h t
+  pub mark : MatchResult r (λ _. IsClear (view t)) (λ _. IsRemoved (view t) o)
+  pub told : MatchResult r (Takes (view s) (view t) (Resume o n) o c n) (Misses (view s) (view t) o n)
+  -- The grip has the monitor's slot, as it was known before the call.
+  pub slot : IfOk r (λ g. g.slot ≡ Some i)
+  -- A missed try found the word of the slot.
+  pub found : IfErr r (λ x. IsOfSlot (Some i) x)
+  pub grips : KeepsOthers (view s) (view t) o.0

@@ -1,13 +1,13 @@
 //! Looking at monitors, taking and leaving them, thin or fat (JLS 17.1).
 
-ghost use Rattle.std.specs.Prelude.{◌≡◌, ◌+◌, ◌-◌, ◌<◌, ◌≤◌, [], ◌∷◌, Some, None, MatchResult, MatchOption, IfOk, IfErr};
+ghost use Rattle.std.specs.Prelude.{◌≡◌, ◌+◌, ◌-◌, ◌<◌, ◌≤◌, [], ◌∷◌, Some, None, MatchOption};
 ghost use Rattle.heap_model.specs.declared.event.Event.TheVariants as event;
 ghost use Rattle.lock_word.specs.declared.lock_word.Shape.TheVariants.{Thin};
 ghost use Rattle.lock_word.specs.declared.fat_word.FatShape.TheVariants.{Held};
 ghost use Rattle.lock_word.specs.Spelling.{sight_of};
 ghost use Rattle.monitor.specs.Views.{lane_of};
 ghost use Rattle.monitor.specs.Seats.{HoldsThin, HoldsFat};
-ghost use Rattle.thread_steps.specs.Views.{view, plan, IsSeatOf, Keeps, KeepsEach, KeepsOthers, Lengthens, IsLasting, IsLastingSeen, IsClear, IsAwake, Takes, Misses, Fattens, IsWhole, AgreesWith, IsSlot, IsOfSlot, room_of, hold};
+ghost use Rattle.thread_steps.specs.Views.{view, plan, IsSeatOf, Keeps, KeepsEach, KeepsOthers, Lengthens, IsLasting, IsClear, IsAwake, Takes, Tries, Fattens, IsWhole, AgreesWith, IsSlot, room_of, hold};
 
 use crate::grip::{Grip, Seen, Sighted};
 use heap_model::ObjectId;
@@ -65,18 +65,7 @@ pub fn try_take(
     requires free_of { hold (view seat.old) object.0 ≡ None }
     requires number { number < (plan shared.now).last }
     requires slot { IsSlot (view seat.old) object slot }
-    ensures seat { IsSeatOf shared.now seat.new }
-    ensures clear { IsClear (view seat.new) }
-    // A take adds just its event. A missed take tells a thin word only of a monitor that isn't known to be fat. It
-    // tells a word that names a slot only where that was met last.
-    ensures told { MatchResult result (Takes (view seat.old) (view seat.new) (event.Enter object number) object 1 number) (Misses (view seat.old) (view seat.new) object number) }
-    // The grip has the monitor's slot, as it was known before the call.
-    ensures slot { IfOk result (λ g. g.slot ≡ slot) }
-    // A missed try found the word of the slot that is known, or the lock word where none is.
-    ensures found { IfErr result (λ x. IsOfSlot slot x) }
-    // A fat lock word that was seen is known whole, for good.
-    ensures lasting { IfErr result (λ x. IsLastingSeen (view seat.new) object x) }
-    ensures grips { KeepsOthers (view seat.old) (view seat.new) object.0 }
+    ensures { Tries shared.now seat.old seat.new object slot number result }
 {
     match slot {
         None => match shared.try_take(seat, object, number) {

@@ -1,10 +1,10 @@
 //! The steps of a wait (JLS 17.2.1).
 
-ghost use Rattle.std.specs.Prelude.{◌≡◌, ◌<◌, ◌≤◌, [], ◌∷◌, Some, None, MatchResult, MatchBool, IfOk, IfErr, ℕ};
+ghost use Rattle.std.specs.Prelude.{◌≡◌, ◌<◌, ◌≤◌, [], ◌∷◌, Some, None, MatchBool, ℕ};
 ghost use Rattle.heap_model.specs.declared.event.Event.TheVariants as event;
 ghost use Rattle.heap_model.specs.declared.event.Sight.TheVariants.{StillInSet};
 ghost use Rattle.thread_steps.specs.declared.limits.TheConstants.{FAT_LOCKS};
-ghost use Rattle.thread_steps.specs.Views.{view, plan, IsSeatOf, Keeps, KeepsEach, KeepsOthers, Lengthens, IsClear, IsAwake, IsPaused, IsRemoved, Takes, Misses, IsSlot, IsOfSlot, hold};
+ghost use Rattle.thread_steps.specs.Views.{view, plan, IsSeatOf, Keeps, KeepsEach, KeepsOthers, Lengthens, IsClear, IsAwake, IsPaused, IsRemoved, TriesAgain, IsSlot, hold};
 
 use crate::grip::{Grip, Seen};
 use crate::locking::fat_word;
@@ -66,14 +66,7 @@ pub fn try_retake(
     requires count { (0 < count) × (count ≤ FAT_LOCKS) }
     requires number { number < (plan shared.now).last }
     requires slot { IsSlot (view seat.old) object (Some slot) }
-    ensures seat { IsSeatOf shared.now seat.new }
-    ensures mark { MatchResult result (λ _. IsClear (view seat.new)) (λ _. IsRemoved (view seat.new) object) }
-    ensures told { MatchResult result (Takes (view seat.old) (view seat.new) (event.Resume object number) object count number) (Misses (view seat.old) (view seat.new) object number) }
-    // The grip has the monitor's slot, as it was known before the call.
-    ensures slot { IfOk result (λ g. g.slot ≡ Some slot) }
-    // A missed try found the word of the slot that is known, or the lock word where none is.
-    ensures found { IfErr result (λ x. IsOfSlot (Some slot) x) }
-    ensures grips { KeepsOthers (view seat.old) (view seat.new) object.0 }
+    ensures { TriesAgain shared.now seat.old seat.new object count slot number result }
 {
     match shared.try_resume(seat, object, slot, (count - 1) as u16, number) {
         Ok(_word) => Ok(Grip {
