@@ -31,8 +31,8 @@ pub fn kept_law()
 /// - `copy`, `closed_copy`: a copy of the disk in memory is kept so too: each section that is acknowledged by then, or all of them after
 ///   the closing.
 pub fn host_law()
-    // What was acknowledged before a run of the store is kept of whatever a crash of the host's device leaves, once
-    // the host has made the calls that had been handed over by then: before a call, in the midst of it, or after it.
+    // Once the host has made the calls that had been handed over before a run of the store, whatever a crash of its
+    // device leaves keeps what was acknowledged then. The crash may come before a call, in the midst of it, or after it.
     ensures any_moment { HostLaw }
     // Once the host has made the calls by which a heap was made or opened, recovery accepts whatever a crash of its
     // device leaves.

@@ -12,14 +12,14 @@ use Rattle.thread_rings.specs.Following.{from_release, is_release}
 abbrev pub IsReleasedPrefix : (log longer : List (ℕ × Record)) → Type 0
 IsReleasedPrefix log longer = (l : ℕ) → (more : List Record) × (lane l longer ≡ more ++ from_release (lane l log))
 
--- The cut has whole sections of the other log too, each with all that it depends on there, and its heap is the same.
+-- The cut has whole sections of the other log too, each with every section that it depends on there, and its heap is the same.
 pub record KeepsSame (s : Setting) (log longer : List (ℕ × Record)) (cut : ℕ → ℕ) : Type 0 where
   pub whole : IsWhole (actions longer) cut
   pub closed : IsClosed (actions longer) cut
   pub same : (f : ℕ) → kept_value s.first cut f log ≡ kept_value s.first cut f longer
 
--- So it is of each whole closed cut. No section that has ended has any of what is behind its lane's last release, and nothing that another lane
--- did depends on that.
+-- Each whole, closed cut is kept so. A section that has ended has no record after its lane's last release, and nothing that another lane did
+-- depends on those.
 abbrev pub ReleasedLaw : Type 0
 ReleasedLaw = (s : Setting) (log longer : List (ℕ × Record)) (cut : ℕ → ℕ) → IsLegal s log → IsLegal s longer → IsReleasedPrefix log longer → IsWhole (actions log) cut →
     IsClosed (actions log) cut → KeepsSame s log longer cut
@@ -42,6 +42,6 @@ pub record LacksSection (s : Setting) : Type 0 where
   pub closed : IsClosed (actions log) cut
   pub lacks : IsWhole (actions shorter) cut → ⊥
 
--- Nothing less would do: for want of its last release alone a lane may lack a section.
+-- Nothing less would do: without its last release alone a lane may lack a section.
 abbrev pub NeededLaw : Type 0
 NeededLaw = (s : Setting) → 0 < s.objects → 0 < s.last → LacksSection s

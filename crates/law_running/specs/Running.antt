@@ -52,7 +52,7 @@ module _ {D : Type 0} (device : D → Device) where
     pub legal : IsLegalHistory (plan h) seen
     pub seen_of : IsSeenOf h (length y.rings) run.now seen
 
-  -- Whatever a crash left at any moment of such a run, recovery keeps so, with every section that was acknowledged when the run began.
+  -- Recovery keeps whatever a crash left at any moment of this run so, with every section that was acknowledged when the run began.
   abbrev pub CrashInRunLaw : Type 0
   CrashInRunLaw = (h : Home) (p : Past) (old : Device) (y : Parts D) (seen : List (ℕ × Event)) (image : List ℕ)
       → RunsOn h p old y seen → MayBeLeft old (device y.store.disk) image → KeepsRunning y.store.known.layout (plan h) p seen image
@@ -63,13 +63,13 @@ module _ {D : Type 0} (device : D → Device) where
     pub round : Rounds device (plan h) p x y answer
     pub seen : HasSeen h y
 
-  -- So it is at each moment of a round, whatever the round answers, with every section that was acknowledged before it.
+  -- The same holds at each moment of a round, whatever the round answers, with every section that was acknowledged before it.
   abbrev pub CrashInRoundLaw : Type 0
   CrashInRoundLaw = (h : Home) (p : Past) (x y : Parts D) (answer : Result ℕ StoreError) (image : List ℕ)
       → IsServing device x (plan h) p → HasMadeRound h p x y answer → MayBeLeft (device x.store.disk) (device y.store.disk) image
       → KeepsRunning y.store.known.layout (plan h) p y.seat.view.history image
 
-  -- So it is at each moment from the heap's opening to the end of a round.
+  -- The same holds at each moment from the heap's opening to the end of a round.
   abbrev pub CrashSinceLaw : Type 0
   CrashSinceLaw = (h : Home) (opened : Device) (p : Past) (x y : Parts D) (answer : Result ℕ StoreError) (image : List ℕ)
       → HasLived device h opened x p → HasMadeRound h p x y answer → MayBeLeft opened (device y.store.disk) image
@@ -81,7 +81,7 @@ module _ {D : Type 0} (device : D → Device) where
     pub legal : IsLegalHistory (plan h) seen
     pub seen_of : IsSeenOf h (length x.rings) p seen
 
-  -- So it is of a crash between two rounds, at each moment since the heap's opening.
+  -- The same holds after a crash between two rounds, at each moment since the heap's opening.
   abbrev pub CrashBetweenLaw : Type 0
   CrashBetweenLaw = (h : Home) (opened : Device) (p : Past) (x : Parts D) (seen : List (ℕ × Event)) (image : List ℕ)
       → HasLived device h opened x p → Rests h p x seen → MayBeLeft opened (device x.store.disk) image

@@ -18,8 +18,8 @@ pub record RunsSince (l : Layout) (t : ℕ) (s : Setting) (p : Past) (old new : 
   pub now : Past
   pub ran : HasRun l t s p old now new
 
--- Whatever a crash left at any moment of such a run shows a whole closed cut of a beginning of what was applied, with all that was acknowledged
--- when the run began.
+-- Whatever a crash left at any moment of this run shows a whole, closed cut of a beginning of what was applied. The cut has all that was
+-- acknowledged when the run began.
 abbrev pub RunShowsLaw : Type 0
 RunShowsLaw = (l : Layout) (t : ℕ) (s : Setting) (p : Past) (old new : Device) (image : List ℕ)
     → (run : RunsSince l t s p old new) → MayBeLeft old new image → ShowsCutOf l t s (applied run.now) p.cut image

@@ -54,7 +54,7 @@ pub record KeepsTold (h : Home) (l : Layout) (p : Past) (now : Moment) (image : 
   -- What a crash keeps are whole, closed sections of that history.
   pub kept : KeepsOfHistory l (plan h) p history image
 
--- Of this lane it keeps at least so many sections.
+-- Recovery also keeps at least so many sections of this lane.
 pub record KeepsRead (h : Home) (l : Layout) (p : Past) (now : Moment) (image : List ℕ) (of_lane sections : ℕ) : Type 0 where
   pub told : KeepsTold h l p now image
   -- What is kept has at least so many sections of the lane.
@@ -70,7 +70,7 @@ pub record HasPublishedNoMore (helper than : Helping) : Type 0 where
   pub next : helper.next ≡ than.next
   pub counts : (l : ℕ) → count_published helper l ≤ count_published than l
 
--- So it is of each seat that the helper had before this one: what it published it has noted, and no number falls.
+-- This holds for each seat that the helper had before this one: it has noted what it published, and no number falls.
 abbrev pub RisesLaw : Type 0
 RisesLaw = (h : Home) (now : Moment) (before helper : Helping)
     → IsMoment h now helper → before.next ≡ helper.next → GoesOn helper.view.notes before.view.notes → HasPublishedNoMore before helper
@@ -93,7 +93,7 @@ pub record ReadsBefore (h : Home) (than : Helping) (t : Session) (sections : ℕ
   pub seated : IsSeated moment (seat_of t)
 
 module _ {D : Type 0} (device : D → Device) where
-  -- So it is while the helper rests.
+  -- Each session has read so while the helper rests.
   abbrev pub RestLaw : Type 0
   RestLaw = (h : Home) (p : Past) (x : Parts D) (now : Moment) (seat : Sitting)
       → IsHelping device h x → IsServing device x (plan h) p → IsMoment h now x.seat → IsSeated now seat → HasRead p x.seat seat
@@ -117,14 +117,14 @@ module _ {D : Type 0} (device : D → Device) where
       → RunsOn device h p (device x.store.disk) y helper.view.history → IsMoment h now helper
       → MayBeLeft (device x.store.disk) (device y.store.disk) image → KeepsRead h y.store.known.layout p now image (view_of t).lane.0 sections
 
-  -- So it is of a crash in a round, once the helper has heard its rings, or after the round.
+  -- The same holds after a crash in a round, once the helper has heard its rings, or after the round.
   abbrev pub KeepsReadInRoundLaw : Type 0
   KeepsReadInRoundLaw = (h : Home) (p : Past) (x y : Parts D) (answer : Result ℕ StoreError) (t : Session) (sections : ℕ) (now : Moment)
       (helper : Helping) (image : List ℕ) → HasReadOf h p x t sections → HasMadeRound device h p x y answer
       → IsMoment h now helper → helper.view.history ≡ y.seat.view.history
       → MayBeLeft (device x.store.disk) (device y.store.disk) image → KeepsRead h y.store.known.layout p now image (view_of t).lane.0 sections
 
-  -- So it is of a crash that comes while the device is as it was when the helper served that past.
+  -- The same holds after a crash that comes while the device is as it was when the helper served that past.
   abbrev pub KeepsReadAtRestLaw : Type 0
   KeepsReadAtRestLaw = (h : Home) (p : Past) (x : Parts D) (t : Session) (sections : ℕ) (now : Moment) (helper : Helping) (image : List ℕ)
       → HasReadOf h p x t sections → Rests device h p x helper.view.history → IsMoment h now helper

@@ -104,8 +104,8 @@ pub fn stable_law<D: Disk>()
 }
 
 /// After a fault nothing more happens to what a crash keeps. A run whose store has failed goes on over each further round as it is
-/// (`rounds`), so that [`round_law`] says of the moments since what it said before: recovery keeps whole sections of the threads' history,
-/// and every section that was acknowledged. A closing then gives the device back as it was (`closing`).
+/// (`rounds`). So [`round_law`] speaks of the moments since then too: recovery keeps whole sections of the threads' history, and every
+/// section that was acknowledged. A closing gives the device back as it was (`closing`).
 pub fn failed_law<D: Disk>()
     ensures rounds { RunsOnFailedLaw D.device }
     ensures closing { CrashInFailedCloseLaw D.device }
