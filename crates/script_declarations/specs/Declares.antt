@@ -1,5 +1,5 @@
 -- What a declaration makes of what was declared, and which are refused, and why (docs/SCRIPTS.md, "Lines" and "Refusals").
-use Rattle.std.specs.Prelude.{ℕ, ◌≡◌, Bool, List, [], Some, Contains, slice_get}
+use Rattle.std.specs.Prelude.{ℕ, ◌≡◌, Bool, List, [], Some, Result, IfOk, OnOk, Contains, slice_get}
 use Rattle.guards.specs.Schema.{Declarations, object_count, field_count, names_of, with_object, with_field}
 use Rattle.heap_model.specs.declared.limits.TheConstants.{MOST_OBJECTS, MOST_FIELDS}
 use Rattle.script_lines.specs.Orders.{Order}
@@ -47,3 +47,19 @@ abbrev pub Declares : (old : Declarations) → Order → Declared → (new : Dec
 Declares old (order.Object name) said new = DeclaresObject old said new name
 Declares old (order.Field name owner guard first is_transient) said new = DeclaresField old said new name owner guard first is_transient
 Declares _ _ _ _ = ⊥
+
+-- one more field, where there is an answer
+abbrev pub FieldIs : {E : Type 0} (old new : Declarations) (name owner guard : List ℕ) (first : ℕ) (is_transient : Bool) → Result Declared E → Type 0
+FieldIs old new name owner guard first is_transient result = IfOk result (λ said. DeclaresField old said new name owner guard first is_transient)
+
+-- where the answer is a refusal, nothing is declared
+abbrev pub KeepsWhatItRefuses : {E : Type 0} (old new : Declarations) → Result Declared E → Type 0
+KeepsWhatItRefuses old new result = IfOk result (λ said. (reason : DeclarationRefusal) → said ≡ Refused reason → new ≡ old)
+
+-- the order declares something, where nothing has failed
+abbrev pub Adds : {E : Type 0} (old : Declarations) → Order → (new : Declarations) → Result Unit E → Type 0
+Adds old order new result = OnOk result (Declares old order Added new)
+
+abbrev pub AddsField : {E : Type 0} (old : Declarations) (name owner guard : List ℕ) (first : ℕ) (is_transient : Bool) (new : Declarations)
+    → Result Unit E → Type 0
+AddsField old name owner guard first is_transient new result = Adds old (order.Field name owner guard first is_transient) new result

@@ -1,5 +1,5 @@
 -- What a schema file declares, and where it is refused (docs/SCRIPTS.md, "The program's fault texts").
-use Rattle.std.specs.Prelude.{◌≡◌, ◌⊎◌, ℕ, ◌+◌, ◌-◌, ◌<◌, ◌≤◌, Bool, true, false, IsTrue, List, [], ◌∷◌, Option, Some, length, take, slice_get}
+use Rattle.std.specs.Prelude.{◌≡◌, ◌⊎◌, ℕ, ◌+◌, ◌-◌, ◌<◌, ◌≤◌, Bool, true, false, IsTrue, List, [], ◌∷◌, Option, Some, Result, IfErr, length, take, slice_get}
 use Rattle.std.specs.Str.{IsAscii}
 use Rattle.guards.specs.Schema.{Declarations, object_count, field_count, nothing}
 use Rattle.script_lines.specs.declared.line.TheConstants.{LONGEST_LINE}
@@ -56,6 +56,12 @@ RefusesDeclaration d order kinds.DoubleName = Declares d order (Refused why.Doub
 RefusesDeclaration d order kinds.Unknown = Declares d order (Refused why.Unknown) d
 RefusesDeclaration d order kinds.TooMany = Declares d order (Refused why.TooMany) d
 
+-- what they refuse of a field, where something was wrong
+abbrev pub RefusesField : {T : Type 0} (old : Declarations) (name owner guard : List ℕ) (first : ℕ) (is_transient : Bool)
+    → Result T SchemaFaultKind → Type 0
+RefusesField old name owner guard first is_transient result =
+    IfErr result (RefusesDeclaration old (order.Field name owner guard first is_transient))
+
 -- what is wrong with a line, after these declarations
 abbrev pub RefusesLine : Declarations → List ℕ → SchemaFaultKind → Type 0
 RefusesLine d line kinds.Syntax = IsText line × (IsSkipped line → ⊥) × ((order : Order) → IsDeclaration order line → ⊥)
@@ -84,7 +90,7 @@ IsCut endings.TooLong kind = kind ≡ kinds.TooLong
 IsCut endings.Fault kind = kind ≡ kinds.Read
 IsCut endings.NoMemory kind = kind ≡ kinds.Memory
 
--- it is refused at the line behind them, which was not had
+-- it is refused at the line after them, which was not had
 pub record RefusesBehind (lines : List (List ℕ)) (ending : Ending) (fault : SchemaFault) : Type 0 where
   pub declared : Declarations
   pub counted : fault.line ≡ length lines + 1

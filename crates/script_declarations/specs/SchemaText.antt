@@ -63,6 +63,6 @@ SchemaTextLaw = (schema : Declarations) → IsSchema schema → HasNames schema
     → DeclaresLines nothing (lines_of (schema_text schema)) schema
     × ((other : Declarations) → DeclaresLines nothing (lines_of (schema_text schema)) other → other ≡ schema)
 
--- What a file declares has such names.
+-- What a file declares has names that a file may have.
 abbrev pub NamesLaw : Type 0
 NamesLaw = (lines : List (List ℕ)) (schema : Declarations) → DeclaresLines nothing lines schema → HasNames schema

@@ -1,9 +1,8 @@
 //! Objects and fields in the making.
-ghost use Rattle.std.specs.Prelude.{◌≡◌, ◌<◌, ◌≤◌, ◌⊎◌, ◌↔◌, ℕ, [], Some, Contains, IfOk, OnErr, IsTrue, slice_get};
+ghost use Rattle.std.specs.Prelude.{◌≡◌, ◌<◌, ◌≤◌, ◌⊎◌, ◌↔◌, ℕ, Some, Contains, IfOk, OnErr, IsTrue, slice_get};
 ghost use Rattle.guards.specs.Schema.{Declarations, nothing, object_count, field_count};
 ghost use Rattle.guards.specs.Declaring.{Declares};
-ghost use Rattle.script_declarations.specs.Declares.{DeclaresObject, DeclaresField};
-ghost use Rattle.script_declarations.specs.declared.declared.Declared.TheVariants as declared;
+ghost use Rattle.script_declarations.specs.Declares.{DeclaresObject, FieldIs, KeepsWhatItRefuses};
 
 use crate::declared::{DeclarationRefusal, Declared, refused};
 use guards::{Schema, SchemaBuilder, SchemaError};
@@ -52,7 +51,7 @@ impl Declaring {
     pub fn object(&mut self, name: &str) -> Result<Declared, AllocError>
         ensures ok { IfOk result (λ said. DeclaresObject self.old said self.new name.now) }
         // A refused line declares nothing.
-        ensures refused { IfOk result (λ said. (why : DeclarationRefusal) → said ≡ declared.Refused why → self.new ≡ self.old) }
+        ensures refused { KeepsWhatItRefuses self.old self.new result }
         ensures err { OnErr result (self.new ≡ self.old) }
     {
         match self.builder.object(name) {
@@ -75,9 +74,9 @@ impl Declaring {
         is_transient: bool,
     ) -> Result<Declared, AllocError>
         // A field's line declares it as persistent or as transient, by its first word, with the same refusals.
-        ensures ok { IfOk result (λ said. DeclaresField self.old said self.new name.now owner.now guard.now first is_transient) }
+        ensures ok { FieldIs self.old self.new name.now owner.now guard.now first is_transient result }
         // A refused line declares nothing.
-        ensures refused { IfOk result (λ said. (why : DeclarationRefusal) → said ≡ declared.Refused why → self.new ≡ self.old) }
+        ensures refused { KeepsWhatItRefuses self.old self.new result }
         ensures err { OnErr result (self.new ≡ self.old) }
     {
         let owner = self.object_named(owner);

@@ -5,7 +5,7 @@ use thiserror::Error;
 #[derive(Clone, Copy, Debug, PartialEq, Eq, Error)]
 #[error("line {line}: {why}")]
 pub struct SchemaFault {
-    /// The line, counted from 1 over all lines. Of a file that is `Empty` it is the last one, or 0 where there is none.
+    /// The line, counted from 1 over all lines. `Empty` names the last line, or 0 where there is none.
     pub line: u64,
     /// What is wrong with it.
     pub why: SchemaFaultKind,

@@ -4,8 +4,8 @@ ghost use Rattle.guards.specs.Schema.{field_count, object_count};
 ghost use Rattle.script_lines.specs.Lines.{lines_of};
 ghost use Rattle.script_lines.specs.Orders as order;
 ghost use Rattle.script_lines.specs.Orders.{order_of};
-ghost use Rattle.script_declarations.specs.Declares.{Declares};
-ghost use Rattle.script_declarations.specs.SchemaFiles.{DeclaresLine, DeclaresLines, DeclaresSchema, RefusesAt, RefusesDeclaration, RefusesLine, RefusesSchema};
+ghost use Rattle.script_declarations.specs.Declares.{Adds, AddsField};
+ghost use Rattle.script_declarations.specs.SchemaFiles.{DeclaresLine, DeclaresLines, DeclaresSchema, RefusesAt, RefusesDeclaration, RefusesField, RefusesLine, RefusesSchema};
 ghost use Rattle.script_declarations.specs.Telling.{told_of_declared, told_of_text};
 ghost use Rattle.script_declarations.specs.declared.schema_fault.SchemaFaultKind.TheVariants as kinds;
 
@@ -19,14 +19,14 @@ use std::io::Read;
 
 /// Reads a schema file to its end: the `object`, `field` and `transient` lines of a script, and no others.
 ///
-/// It is refused at the first line that is no such line, that could not be read, for which there was no memory, or that
-/// declares what a script would refuse; at the last line where nothing else is wrong and there is no object or no field.
+/// It is refused at the first line that is none of these, that could not be read, that wanted memory, or that a script would refuse.
+/// Where nothing else is wrong, and there is no object or no field, it is refused at the last line.
 pub fn read_schema<R: Read>(alloc: Global, reader: &mut R) -> Result<Schema, SchemaFault>
     // A schema file declares what a script's machine with these lines would declare.
-    ensures ok { IfOk result (λ schema. DeclaresSchema (R.remaining reader.old) (R.remaining reader.new) schema) }
+    ensures ok { IfOk result (DeclaresSchema (R.remaining reader.old) (R.remaining reader.new)) }
     // A schema file is refused at its first line that is none, that is refused, that wants memory or that isn't had; or
     // at its end, where it declares no object or no field.
-    ensures refused { IfErr result (λ fault. RefusesSchema (R.remaining reader.old) (R.remaining reader.new) fault) }
+    ensures refused { IfErr result (RefusesSchema (R.remaining reader.old) (R.remaining reader.new)) }
 {
     let (lines, ending) = read_lines(alloc, reader);
     let mut declaring = Declaring::new(alloc);
@@ -85,8 +85,8 @@ fn declare_line(declaring: &mut Declaring, line: &[u8]) -> Result<(), SchemaFaul
 }
 
 fn declare(declaring: &mut Declaring, command: &Command<'_>) -> Result<(), SchemaFaultKind>
-    ensures ok { OnOk result (Declares declaring.old (order_of command.now) Declared.Added declaring.new) }
-    ensures refused { IfErr result (λ why. RefusesDeclaration declaring.old (order_of command.now) why) }
+    ensures ok { Adds declaring.old (order_of command.now) declaring.new result }
+    ensures refused { IfErr result (RefusesDeclaration declaring.old (order_of command.now)) }
 {
     match command {
         Command::Object { name } => declare_object(declaring, name),
@@ -102,8 +102,8 @@ fn declare(declaring: &mut Declaring, command: &Command<'_>) -> Result<(), Schem
 }
 
 fn declare_object(declaring: &mut Declaring, name: &str) -> Result<(), SchemaFaultKind>
-    ensures ok { OnOk result (Declares declaring.old (order.Object name.now) Declared.Added declaring.new) }
-    ensures refused { IfErr result (λ why. RefusesDeclaration declaring.old (order.Object name.now) why) }
+    ensures ok { Adds declaring.old (order.Object name.now) declaring.new result }
+    ensures refused { IfErr result (RefusesDeclaration declaring.old (order.Object name.now)) }
 {
     added(declaring.object(name))
 }
@@ -116,8 +116,8 @@ fn declare_field(
     first: u64,
     is_transient: bool,
 ) -> Result<(), SchemaFaultKind>
-    ensures ok { OnOk result (Declares declaring.old (order.Field name.now owner.now guard.now first is_transient) Declared.Added declaring.new) }
-    ensures refused { IfErr result (λ why. RefusesDeclaration declaring.old (order.Field name.now owner.now guard.now first is_transient) why) }
+    ensures ok { AddsField declaring.old name.now owner.now guard.now first is_transient declaring.new result }
+    ensures refused { RefusesField declaring.old name.now owner.now guard.now first is_transient result }
 {
     added(declaring.field(name, owner, guard, first, is_transient))
 }
