@@ -9,4 +9,4 @@ returns-in-Ok-adopt-clause-past g c =
     let r = c.args.recovered in
     let s = setting_of c.in-Ok.made.0.plan in
     c.in-Ok-adopt.ensures.past s
-    (subst (λ heap. IsSettingOf r.layout r.guards heap c.args.last s) c.heap.ensures.heap (planned c.in-Ok.made.0.plan c.args.schema r.layout r.guards c.heap.result.now c.args.last c.args.threads c.in-Ok.ensures.plan c.requires.schema))
+    (subst (λ heap. IsSettingOf r.layout r.guards heap c.args.last s) c.heap.ensures.heap (planned c.in-Ok.made.0.plan c.args.schema r.layout r.guards c.heap.result.now c.args.last _ c.in-Ok.ensures.plan c.requires.schema))
