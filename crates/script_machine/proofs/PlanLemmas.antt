@@ -14,8 +14,8 @@ use Rattle.script_machine.specs.declared.answer.Answer.TheVariants.{Done}
 use Rattle.script_machine.specs.declared.answer.Answer.TheVariants as answers
 use Rattle.script_machine.specs.declared.answer.Refusal.{Refusal}
 use Rattle.script_machine.specs.declared.answer.Refusal.TheVariants as why
-use Rattle.script_monitors.specs.declared.monitors.MonitorRefusal.{MonitorRefusal}
-use Rattle.script_monitors.specs.declared.monitors.MonitorRefusal.TheVariants as monitor
+use Rattle.script_monitors.specs.declared.refusal.MonitorRefusal.{MonitorRefusal}
+use Rattle.script_monitors.specs.declared.refusal.MonitorRefusal.TheVariants as monitor
 use Rattle.script_machine.specs.Refusals.{told_of_monitor}
 use Rattle.script_machine.specs.Lookups.{LooksUp, object_of}
 use Rattle.script_machine.specs.States.{Live}

@@ -1,8 +1,8 @@
 -- How the machine tells of a refusal by the declarations, the monitors, the store or recovery.
 use Rattle.std.specs.Prelude.{Result, Ok, Err, alloc_error}
 use Rattle.std.specs.declared.alloc.AllocError.{AllocError}
-use Rattle.script_monitors.specs.declared.monitors.MonitorRefusal.{MonitorRefusal}
-use Rattle.script_monitors.specs.declared.monitors.MonitorRefusal.TheVariants as monitor
+use Rattle.script_monitors.specs.declared.refusal.MonitorRefusal.{MonitorRefusal}
+use Rattle.script_monitors.specs.declared.refusal.MonitorRefusal.TheVariants as monitor
 use Rattle.heap_model.specs.declared.store_error.StoreError.{StoreError}
 use Rattle.heap_model.specs.declared.store_error.StoreError.TheVariants as store
 use Rattle.recover_heap.specs.declared.error.RecoverError.{RecoverError}

@@ -86,3 +86,7 @@ pub record SameSetting (old new : Table) : Type 0 where
 pub record IsAfter (old : Table) (thread : ℕ) (event : Event) (new : Table) : Type 0 where
   pub setting : SameSetting old new
   pub state : state_of new ≡ after_event (state_of old) thread event
+
+-- the first of these values, so many, are those
+abbrev pub Has : List ℕ → (count : ℕ) → (value : ℕ → ℕ) → Type 0
+Has values count value = (f : ℕ) → f < count → slice_index values f ≡ value f

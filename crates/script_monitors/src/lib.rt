@@ -7,7 +7,9 @@
 mod monitor;
 mod monitors;
 mod pause;
+mod refusal;
 mod values;
 mod wait_sets;
 
-pub use monitors::{MonitorRefusal, Monitors};
+pub use monitors::Monitors;
+pub use refusal::MonitorRefusal;

@@ -1,36 +1,23 @@
 //! The plain machine of monitors: which thread owns each, how often it has become free, and each field's value.
-ghost use Rattle.std.specs.Prelude.{◌≡◌, ◌≢◌, ◌<◌, ◌≤◌, ◌↔◌, ℕ, IsTrue, Some, None, length, replicate, slice_index, slice_set, IfOk, IfErr, OnOk, OnErr, IsErrOf, IsErr};
-ghost use Rattle.guards.specs.Schema.{Declarations, object_count, field_count, guard_of, first_of};
+ghost use Rattle.std.specs.Prelude.{◌≡◌, ◌<◌, ◌≤◌, ◌↔◌, IsTrue, Some, None, length, replicate, slice_index, slice_set, IfOk, OnOk, OnErr};
+ghost use Rattle.guards.specs.Schema.{object_count, field_count, first_of};
 ghost use Rattle.heap_model.specs.State.{initial_state, Awake};
 ghost use Rattle.heap_model.specs.Events.{MayDo};
 ghost use Rattle.heap_model.specs.History.{logged};
 ghost use Rattle.script_monitors.specs.Monitor.{MayRise};
-ghost use Rattle.script_monitors.specs.Table.{monitor_at, pause_at, lanes_of, setting_of, state_of, IsWhole, IsStepOf, IsAfter};
+ghost use Rattle.script_monitors.specs.Asking.{EnterIs, ExitIs, LoadIs, StoreIs, WaitIs};
+ghost use Rattle.script_monitors.specs.Table.{monitor_at, pause_at, lanes_of, setting_of, state_of, IsWhole, IsStepOf, IsAfter, Has};
 ghost use Rattle.script_monitors.specs.WaitSets.{IsPauseOf};
 ghost use Rattle.heap_model.specs.declared.event.Event.TheVariants.{Enter, NestedEnter, NestedExit, Exit, Load, Store, Wait};
 
 use crate::monitor::Monitor;
 use crate::pause::Pause;
+use crate::refusal::MonitorRefusal;
 use crate::values::{first_values, values_in};
 use guards::Schema;
 use heap_model::{Event, FieldId, Lane, ObjectId};
 use std::alloc::{AllocError, Global};
 use std::marker::Model;
-
-/// Why a thread's step is refused by the monitors. A refused step changes nothing.
-#[derive(Clone, Copy, Debug, PartialEq, Eq)]
-pub enum MonitorRefusal {
-    /// Another thread owns the monitor.
-    Held,
-    /// The thread doesn't own the monitor: for a load or a store that of the field's guard.
-    NotHeld,
-    /// The thread doesn't wait.
-    NotWaiting,
-    /// The thread is in a wait set still.
-    InSet,
-    /// The monitor is free and its release number is the last: it is never taken again.
-    Worn,
-}
 
 /// The monitors and the values of a schema's objects and fields. Contracts see them as `heap_model`'s plain state
 /// ([`State`](heap_model)), and what a thread does as an event of it.
@@ -93,7 +80,7 @@ impl Monitors {
         // At first all monitors are free.
         ensures state { IfOk result (λ m. state_of m ≡ initial_state (slice_index m.values)) }
         // At first the fields have the values of the heap that is given.
-        ensures values { IfOk result (λ m. (f : ℕ) → f < field_count schema → slice_index m.values f ≡ slice_index heap.now f) }
+        ensures values { IfOk result (λ m. Has m.values (field_count schema) (slice_index heap.now)) }
     {
         match values_in(alloc, heap, schema.fields() as usize) {
             Ok(values) => Monitors::holding(alloc, schema, last, lanes, values),
@@ -178,16 +165,8 @@ impl Monitors {
     /// What it would be if the thread locked the object's monitor: a first lock of a free one, or one more of its own.
     pub fn may_enter(&self, thread: Lane, object: ObjectId) -> Result<Event, MonitorRefusal>
         requires { object.0 < object_count self.now.schema }
-        // An event that is answered is one that the model allows (JLS 17.1, 17.2).
-        ensures allowed { (state_of self.now).waiting thread.0 ≡ Awake → IfOk result (MayDo (setting_of self.now) (state_of self.now) thread.0) }
-        ensures kind { IfOk result (IsStepOf (setting_of self.now)) }
-        ensures free { let s = state_of self.now in s.owner object.0 ≡ None → s.number object.0 < self.now.last
-            → result ≡ Ok (Enter object (s.number object.0)) }
-        ensures nested { (state_of self.now).owner object.0 ≡ Some thread.0 → result ≡ Ok (NestedEnter object) }
-        ensures held { (u : ℕ) → (state_of self.now).owner object.0 ≡ Some u → u ≢ thread.0
-            → result ≡ Err MonitorRefusal.Held }
-        ensures worn { let s = state_of self.now in s.owner object.0 ≡ None → self.now.last ≤ s.number object.0
-            → result ≡ Err MonitorRefusal.Worn }
+        // A thread is answered the event that its lock would be, which the model allows, or why there is none.
+        ensures { EnterIs self.now thread object result }
     {
         match self.monitor(object) {
             Monitor::Free { number } => {
@@ -210,14 +189,8 @@ impl Monitors {
     /// What it would be if the thread gave up one lock of the object's monitor: the last one, or one of several.
     pub fn may_exit(&self, thread: Lane, object: ObjectId) -> Result<Event, MonitorRefusal>
         requires { object.0 < object_count self.now.schema }
-        // An event that is answered is one that the model allows (JLS 17.1, 17.2).
-        ensures allowed { (state_of self.now).waiting thread.0 ≡ Awake → IfOk result (MayDo (setting_of self.now) (state_of self.now) thread.0) }
-        ensures kind { IfOk result (IsStepOf (setting_of self.now)) }
-        ensures last { let s = state_of self.now in s.owner object.0 ≡ Some thread.0 → s.count object.0 ≡ 1
-            → result ≡ Ok (Exit object (s.number object.0)) }
-        ensures nested { let s = state_of self.now in s.owner object.0 ≡ Some thread.0 → 1 < s.count object.0
-            → result ≡ Ok (NestedExit object) }
-        ensures not_held { (state_of self.now).owner object.0 ≢ Some thread.0 → result ≡ Err MonitorRefusal.NotHeld }
+        // A thread is answered the event that giving up a lock would be, which the model allows, or why there is none.
+        ensures { ExitIs self.now thread object result }
     {
         match self.monitor(object) {
             Monitor::Free { .. } => Err(MonitorRefusal::NotHeld),
@@ -240,13 +213,8 @@ impl Monitors {
     /// The field's value, to a thread that owns the field's guard.
     pub fn load(&self, thread: Lane, field: FieldId) -> Result<u64, MonitorRefusal>
         requires { field.0 < field_count self.now.schema }
-        ensures allowed { (state_of self.now).waiting thread.0 ≡ Awake → IfOk result (λ v. MayDo (setting_of self.now) (state_of self.now) thread.0 (Load field v)) }
-        // A load gives the field's value to the thread that owns the field's guard.
-        ensures ok { let s = state_of self.now in s.owner (guard_of self.now.schema field.0) ≡ Some thread.0
-            → result ≡ Ok (s.value field.0) }
-        // A load is refused where the thread doesn't own the field's guard.
-        ensures not_held { (state_of self.now).owner (guard_of self.now.schema field.0) ≢ Some thread.0
-            → result ≡ Err MonitorRefusal.NotHeld }
+        // A load gives the field's value to the thread that owns the field's guard, and is refused to any other.
+        ensures { LoadIs self.now thread field result }
     {
         if !self.owns(thread, self.schema.guard(field)) {
             return Err(MonitorRefusal::NotHeld);
@@ -262,13 +230,8 @@ impl Monitors {
         after: u64,
     ) -> Result<Event, MonitorRefusal>
         requires { field.0 < field_count self.now.schema }
-        // An event that is answered is one that the model allows (JLS 17.1, 17.2).
-        ensures allowed { (state_of self.now).waiting thread.0 ≡ Awake → IfOk result (MayDo (setting_of self.now) (state_of self.now) thread.0) }
-        ensures kind { IfOk result (IsStepOf (setting_of self.now)) }
-        ensures ok { let s = state_of self.now in s.owner (guard_of self.now.schema field.0) ≡ Some thread.0
-            → result ≡ Ok (Store field (s.value field.0) after) }
-        ensures not_held { (state_of self.now).owner (guard_of self.now.schema field.0) ≢ Some thread.0
-            → result ≡ Err MonitorRefusal.NotHeld }
+        // A thread is answered the event that its store would be, which the model allows, or why there is none.
+        ensures { StoreIs self.now thread field after result }
     {
         let before = self.load(thread, field)?;
         Ok(Event::Store {
@@ -327,11 +290,8 @@ impl Monitors {
     /// What it would be if the thread waited on the object's monitor.
     pub fn may_wait(&self, thread: Lane, object: ObjectId) -> Result<Event, MonitorRefusal>
         requires { object.0 < object_count self.now.schema }
-        // An event that is answered is one that the model allows (JLS 17.1, 17.2).
-        ensures allowed { (state_of self.now).waiting thread.0 ≡ Awake → IfOk result (MayDo (setting_of self.now) (state_of self.now) thread.0) }
-        ensures kind { IfOk result (IsStepOf (setting_of self.now)) }
-        ensures ok { let s = state_of self.now in s.owner object.0 ≡ Some thread.0 → result ≡ Ok (Wait object (s.number object.0)) }
-        ensures not_held { (state_of self.now).owner object.0 ≢ Some thread.0 → result ≡ Err MonitorRefusal.NotHeld }
+        // A thread is answered the event that its wait would be, which the model allows, or why there is none.
+        ensures { WaitIs self.now thread object result }
     {
         match self.monitor(object) {
             Monitor::Free { .. } => Err(MonitorRefusal::NotHeld),

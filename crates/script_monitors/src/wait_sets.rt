@@ -1,16 +1,16 @@
 //! The wait sets of the monitors: who waits, who is woken, and who takes a monitor again (JLS 17.2).
-ghost use Rattle.std.specs.Prelude.{◌≡◌, ◌≢◌, ◌<◌, ◌≤◌, ◌+◌, ◌^◌, ◌↔◌, ◌++◌, ◌∷◌, [], ℕ, List, All, take, if◌then◌else◌, IsTrue, Some, None, IfOk, OnErr, OnOk};
+ghost use Rattle.std.specs.Prelude.{◌≡◌, ◌≢◌, ◌<◌, ◌+◌, ◌^◌, ◌↔◌, ◌++◌, List, All, take, IsTrue, Some, IfOk, OnErr, OnOk};
 ghost use Rattle.guards.specs.Schema.{object_count};
-ghost use Rattle.heap_model.specs.State.{Awake, InSet, Woken, IsWoken, with_at, woken_from};
-ghost use Rattle.heap_model.specs.Events.{MayDo};
+ghost use Rattle.heap_model.specs.State.{Awake, InSet, Woken, IsWoken};
 ghost use Rattle.heap_model.specs.declared.event.Event.TheVariants.{Wait, Resume, Notify, NotifyAll};
-ghost use Rattle.script_monitors.specs.Table.{lanes_of, setting_of, state_of, IsStepOf, SameSetting, IsAfter};
-ghost use Rattle.script_monitors.specs.WaitSets.{is_in_set, least_of, wait_set};
-ghost use Rattle.script_monitors.specs.declared.monitors.MonitorRefusal.TheVariants as why;
+ghost use Rattle.script_monitors.specs.Table.{lanes_of, state_of, SameSetting, IsAfter};
+ghost use Rattle.script_monitors.specs.WaitSets.{least_of, wait_set};
+ghost use Rattle.script_monitors.specs.Asking.{ResumeIs, MayNotify, member_of, waiters, notice, less_one};
 
 use crate::monitor::Monitor;
-use crate::monitors::{MonitorRefusal, Monitors};
+use crate::monitors::Monitors;
 use crate::pause::Pause;
+use crate::refusal::MonitorRefusal;
 use heap_model::{Event, Lane, ObjectId};
 use std::alloc::{AllocError, Global};
 
@@ -26,17 +26,8 @@ impl Monitors {
     /// What it would be if the thread took again the monitor in whose wait set it was.
     pub fn may_resume(&self, thread: Lane) -> Result<Event, MonitorRefusal>
         requires { thread.0 < lanes_of self.now }
-        // An event that is answered is one that the model allows (JLS 17.1, 17.2).
-        ensures allowed { IfOk result (MayDo (setting_of self.now) (state_of self.now) thread.0) }
-        ensures kind { IfOk result (IsStepOf (setting_of self.now)) }
-        ensures not_waiting { (state_of self.now).waiting thread.0 ≡ Awake → result ≡ Err why.NotWaiting }
-        ensures in_set { (o c : ℕ) → (state_of self.now).waiting thread.0 ≡ InSet o c → result ≡ Err why.InSet }
-        ensures held { let s = state_of self.now in (o c u : ℕ) → s.waiting thread.0 ≡ Woken o c → s.owner o ≡ Some u
-            → result ≡ Err why.Held }
-        ensures worn { let s = state_of self.now in (o c : ℕ) → s.waiting thread.0 ≡ Woken o c → s.owner o ≡ None
-            → self.now.last ≤ s.number o → result ≡ Err why.Worn }
-        ensures ok { let s = state_of self.now in (o c : ℕ) → s.waiting thread.0 ≡ Woken o c → s.owner o ≡ None
-            → s.number o < self.now.last → result ≡ Ok (Resume (record { 0 = o }) (s.number o)) }
+        // A thread is answered the event that taking the monitor again would be, which the model allows, or why there is none.
+        ensures { ResumeIs self.now thread result }
     {
         match self.pause(thread) {
             Pause::Awake => Err(MonitorRefusal::NotWaiting),
@@ -109,7 +100,7 @@ impl Monitors {
         object: ObjectId,
     ) -> Result<(), AllocError>
         requires { lane.0 < lanes_of self.now }
-        ensures { OnOk result (set.new.items ≡ set.old.items ++ (if is_in_set object.0 ((state_of self.now).waiting lane.0) then lane ∷ [] else [])) }
+        ensures { OnOk result (set.new.items ≡ set.old.items ++ member_of self.now lane object) }
     {
         if self.pause(lane).is_in(object) {
             set.push(lane)?;
@@ -124,13 +115,11 @@ impl Monitors {
         thread: Lane,
         object: ObjectId,
     ) -> Result<Vec<Lane>, AllocError>
-        ensures allowed { let s = state_of self.old in s.waiting thread.0 ≡ Awake → s.owner object.0 ≡ Some thread.0
-            → MayDo (setting_of self.old) s thread.0 (Notify object (least_of (wait_set (lanes_of self.old) s object.0))) }
+        ensures allowed { MayNotify self.old thread object (notice self.old object) }
         // A notify wakes what the model says.
-        ensures woken { IfOk result (λ v. v.items ≡ take 1 (wait_set (lanes_of self.old) (state_of self.old) object.0)) }
+        ensures woken { IfOk result (λ v. v.items ≡ take 1 (waiters self.old object)) }
         // A notify makes the model's next state.
-        ensures after { IfOk result (λ v. IsAfter self.old thread.0
-            (Notify object (least_of (wait_set (lanes_of self.old) (state_of self.old) object.0))) self.new) }
+        ensures after { IfOk result (λ v. IsAfter self.old thread.0 (notice self.old object) self.new) }
         ensures err { OnErr result (self.new ≡ self.old) }
     {
         let mut set = self.wait_set(alloc, object)?;
@@ -146,10 +135,9 @@ impl Monitors {
         thread: Lane,
         object: ObjectId,
     ) -> Result<Vec<Lane>, AllocError>
-        ensures allowed { let s = state_of self.old in s.waiting thread.0 ≡ Awake → s.owner object.0 ≡ Some thread.0
-            → MayDo (setting_of self.old) s thread.0 (NotifyAll object (wait_set (lanes_of self.old) s object.0)) }
+        ensures allowed { MayNotify self.old thread object (NotifyAll object (waiters self.old object)) }
         // A notify wakes what the model says.
-        ensures woken { IfOk result (λ v. v.items ≡ wait_set (lanes_of self.old) (state_of self.old) object.0) }
+        ensures woken { IfOk result (λ v. v.items ≡ waiters self.old object) }
         // A notify makes the model's next state.
         ensures after { IfOk result (λ v. IsAfter self.old thread.0 (NotifyAll object v.items) self.new) }
         ensures err { OnErr result (self.new ≡ self.old) }
@@ -192,9 +180,7 @@ impl Monitors {
     fn wake_from(&mut self, lane: Lane, object: ObjectId)
         requires { lane.0 < lanes_of self.old }
         ensures setting { SameSetting self.old self.new }
-        ensures state { state_of self.new ≡ record (state_of self.old) {
-          waiting = with_at (state_of self.old).waiting lane.0 (woken_from object.0 ((state_of self.old).waiting lane.0));
-        } }
+        ensures state { state_of self.new ≡ less_one (state_of self.old) lane object }
     {
         let woken = self.pause(lane).woken_from(object);
         self.set_pause(lane, woken);

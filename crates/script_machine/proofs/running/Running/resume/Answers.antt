@@ -2,7 +2,7 @@ use Rattle.std.proofs.Common.{◌<◌, ℕ, Result, refl, sym, ap, subst, arith,
 use Rattle.heap_model.specs.declared.event.Event.{Event}
 use Rattle.script_machine.specs.declared.answer.Answer.{Answer}
 use Rattle.script_machine.specs.declared.answer.Answer.TheVariants.{Done, Refused}
-use Rattle.script_monitors.specs.declared.monitors.MonitorRefusal.{MonitorRefusal}
+use Rattle.script_monitors.specs.declared.refusal.MonitorRefusal.{MonitorRefusal}
 use Rattle.script_machine.specs.States.{Live}
 use Rattle.script_monitors.specs.Table.{lanes_of}
 use Rattle.script_machine.specs.Machine as machine

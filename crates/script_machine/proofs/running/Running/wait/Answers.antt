@@ -4,7 +4,7 @@ use Rattle.heap_model.specs.declared.event.Event.{Event}
 use Rattle.script_machine.specs.declared.answer.Answer.{Answer}
 use Rattle.script_machine.specs.declared.answer.Answer.TheVariants.{Waiting, Refused}
 use Rattle.script_machine.specs.declared.answer.Refusal.{Refusal}
-use Rattle.script_monitors.specs.declared.monitors.MonitorRefusal.{MonitorRefusal}
+use Rattle.script_monitors.specs.declared.refusal.MonitorRefusal.{MonitorRefusal}
 use Rattle.script_machine.specs.Lookups.{object_of}
 use Rattle.script_machine.specs.States.{Live}
 use Rattle.script_machine.specs.Machine as machine
