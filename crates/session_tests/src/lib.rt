@@ -1,7 +1,9 @@
-//! Tests of: session.
+//! Tests of: monitor, thread_steps, session, pool.
 //!
-//! Tests of sessions, by their public calls alone: the words that they leave, where each limit lies, and threads that share
-//! a heap.
+//! Tests of sessions and of pools, by their public calls alone: the words that they leave, where each limit lies, what calls answer in
+//! sections, and threads that share a heap. Pools are tried in the fields of a heap and in a plain row of cells.
+//!
+//! A scenario is a function that answers plain words, which its test compares once.
 #![tactic(auto)]
 
 #[cfg(test)]
@@ -13,7 +15,21 @@ mod heap;
 #[cfg(test)]
 mod limits;
 #[cfg(test)]
+mod pool_calls;
+#[cfg(test)]
+mod pool_cells;
+#[cfg(test)]
+mod pool_declared;
+#[cfg(test)]
+mod pool_heap;
+#[cfg(test)]
+mod pool_sections;
+#[cfg(test)]
+mod pool_threads;
+#[cfg(test)]
 mod races;
+#[cfg(test)]
+mod row;
 #[cfg(test)]
 mod transients;
 #[cfg(test)]

@@ -33,8 +33,8 @@ fn told_of(alloc: Global, objects: u32, last: u64, rows: &[Row]) -> Option<(bool
     told
 }
 
-// Inflates so many objects, from the second one on.
-fn inflate_many(shared: &Shared, session: &mut Session, objects: u32) -> bool
+/// Inflates so many objects, from the second one on. Answers whether all calls were made.
+pub fn inflate_many(shared: &Shared, session: &mut Session, objects: u32) -> bool
     requires seat { IsSessionOf shared.now session.old }
     ensures seat { IsSessionOf shared.now session.new }
 {

@@ -39,7 +39,7 @@ fn declare_both(builder: &mut SchemaBuilder) -> Option<()> {
     Some(())
 }
 
-// Whether the calls go so, and the object is left behind them; and what the two fields have before that.
+// Whether the calls go so, and the object is left after them; and what the two fields have before that.
 type Told = (bool, [Option<u64>; 2]);
 
 // Makes the calls of a section but its exit.

@@ -4,7 +4,8 @@ ghost use Rattle.session.specs.Sessions.{IsSessionOf, IsWaitingOf};
 ghost use Rattle.std.specs.Prelude.{All, IfSome};
 
 use crate::calls::{Answer, Call, make, make_often};
-use crate::heap::{LAST, declare, open_heap, take_two};
+use crate::heap::{LAST, declare, open_heap, take_last, take_two};
+use crate::limits::inflate_many;
 use heap_model::{Lane, ObjectId};
 use lock_word::FatWord;
 use monitor::Shared;
@@ -172,4 +173,47 @@ fn a_wait_is_notified(rt: HostRuntime) {
     let bits = FatWord::held(2, 0, 1).bits();
     let found = (told_of_wait(rt.alloc()), bits);
     assert!(rt; found == (Some((words, Some(Lane(0)), [2, 1])), 16_777_218));
+}
+
+// The first session makes five other objects fat, and the second one takes the object and leaves it seven times. Then the third one
+// takes it by 256 locks, and by one more. Answers what the first one finds after either.
+fn fatten_sixth(
+    shared: &Shared,
+    a: &mut Session,
+    b: &mut Session,
+    c: &mut Session,
+) -> Option<[Words; 2]>
+    requires seats { IsSessionOf shared.now a.old × IsSessionOf shared.now b.old × IsSessionOf shared.now c.old }
+{
+    if !inflate_many(shared, a, 5) || make_often(shared, b, Call::Pass(OBJECT), 7).is_err() {
+        return None;
+    }
+    let _ = make_often(shared, c, Call::Enter(OBJECT), 256);
+    let thin = words_of(shared, a);
+    let _ = make(shared, c, Call::Enter(OBJECT));
+    Some([thin, words_of(shared, a)])
+}
+
+// The same of the last three sessions.
+fn fatten_by_three(shared: &Shared, sessions: &mut Vec<Session>) -> Option<[Words; 2]>
+    requires seats { All (IsSessionOf shared.now) sessions.old.items }
+{
+    let mut c = take_last(shared, sessions)?;
+    let (mut a, mut b) = take_two(shared, sessions)?;
+    fatten_sixth(shared, &mut a, &mut b, &mut c)
+}
+
+// The same of a fresh heap.
+fn told_of_slots(alloc: Global) -> Option<[Words; 2]> {
+    let mut heap = open_heap(alloc, declare(alloc, 6)?, 3, LAST, 4_000)?;
+    let told = fatten_by_three(&heap.shared, &mut heap.sessions);
+    drop(heap);
+    told
+}
+
+// The third thread holds an object, which has become free 7 times, by 256 locks; then it takes the sixth slot.
+#[test]
+fn words_have_thread_number_and_slot(rt: HostRuntime) {
+    let [thin, fat] = told_of_slots(rt.alloc()).unwrap_or([(0, None); 2]);
+    assert!(rt; (thin, fat.0) == ((117_441_535, None), 125_829_125));
 }

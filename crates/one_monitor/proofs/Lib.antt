@@ -1,2 +1,0 @@
-pub mod Idling
-pub mod OneHeld

@@ -1,6 +1,0 @@
-use Rattle.std.proofs.Common.{ap, ◌∙◌}
-use Rattle.thread_steps.specs.Views.{view, hold}
-use Rattle.one_monitor.proofs.holding.write.Goals as goal
-
-pub write_field-requires-clause-held : goal.write_field-requires-clause-held
-write_field-requires-clause-held c = (_, ap (hold (view c.args.seat.now)) c.requires.guard ∙ c.requires.one.keeps.hold)

@@ -1,6 +1,0 @@
-use Rattle.std.proofs.Common.{◌≡◌}
-use Rattle.pool.specs.Knowing.{home_of}
-use Rattle.pool_tests.proofs.calls.follow.Given as goal
-
-abbrev pub invariant-loop-call : goal.invariant-loop-call
-invariant-loop-call l = home_of l.cells ≡ home_of l.initial.cells

@@ -1,4 +1,0 @@
-use Rattle.pool_tests.proofs.heap.open_pool.Goals as goal
-
-pub open_sessions-requires-clause-fresh : goal.open_sessions-requires-clause-fresh
-open_sessions-requires-clause-fresh c = (c.args.lanes, c.in_ok-shared.ensures.views)

@@ -1,5 +1,0 @@
-use Rattle.session.specs.Sessions.{IsSessionOf}
-use Rattle.pool_tests.proofs.sections.take_all.Given as goal
-
-abbrev pub invariant-loop-slot : goal.invariant-loop-slot
-invariant-loop-slot l = IsSessionOf l.shared l.session
