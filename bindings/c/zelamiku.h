@@ -465,13 +465,13 @@ ZELAMIKU_MUST_USE zelamiku_status zelamiku_thread_notify_all(zelamiku_thread thr
 ZELAMIKU_MUST_USE zelamiku_status zelamiku_thread_look(zelamiku_thread thread, uint32_t object, zelamiku_sight *sight);
 
 /* The lane; how many sections the thread has ended since zelamiku_thread_begin; how many of these are durable, from the first on. Any
- * thread may ask. ZELAMIKU_NOBODY and 0 where there is no such thread. */
+ * thread may ask. ZELAMIKU_NOBODY and 0 where no thread has the handle. */
 uint32_t zelamiku_thread_lane(zelamiku_thread thread);
 uint64_t zelamiku_thread_sections(zelamiku_thread thread);
 uint64_t zelamiku_thread_durable(zelamiku_thread thread);
 
 /* How many sections the lane had ended in this opening before zelamiku_thread_begin lent it. Section `n` of the lane in the next opening's
- * report (zelamiku_dropped, and `kept`) is this thread's section n - earlier. Any thread may ask; 0 where there is no such thread. */
+ * report (zelamiku_dropped, and `kept`) is this thread's section n - earlier. Any thread may ask; 0 where no thread has the handle. */
 uint64_t zelamiku_thread_earlier(zelamiku_thread thread);
 
 /* Sleeps until all sections that the thread has ended are durable: it asks for a round, and sleeps on while a section that one of them

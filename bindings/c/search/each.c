@@ -1,8 +1,8 @@
 /* All schedules with at most so many preemptions of a program in which nothing comes by chance. A preemption is a choice of another task while the
  * one that runs could go on, or of the end of somebody's time while any task could. Who goes on when the one that runs can't is chosen freely.
  *
- * Of two schedules that bring the same steps in the same order, but for the order of steps that touch no word in common, one is tried. Two things
- * leave the other one out:
+ * Two schedules are alike if they have the same steps in the same order, but for the order of steps that touch no word in common. One of them is
+ * tried. Two things leave the other one out:
  *
  *  - Where each task has done the same, in the same order, as at a place of a run before, the same choices are left; they aren't tried again,
  *    unless more preemptions are left now (Musuvathi and Qadeer, 2007).

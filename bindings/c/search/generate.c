@@ -153,7 +153,7 @@ static void choose_fault(program *it) {
 
 typedef enum { LOOPS, SHORT_LOOPS, FILES, FORKS, TWO_ENDS, MORE_THEMES } more_theme;
 
-/* Of a thread with an event loop: some sections, and then it asks, or sleeps until it is told. */
+/* A thread with an event loop makes some sections, and then asks, or sleeps until it is told. */
 static void add_loop_turn(program *it, uint32_t thread, more_theme of) {
     uint32_t object = (uint32_t)below(OBJECTS);
     for (uint64_t sections = below(3) + (of == SHORT_LOOPS); sections > 0; sections--) {

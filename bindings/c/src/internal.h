@@ -40,7 +40,7 @@
     })
 #define COLD __attribute__((noinline, cold)) static
 
-/* tools/search makes it small, so that its programs have such groups. */
+/* tools/search makes it small, so that its programs, of few sections, have groups. */
 #ifndef ZELAMIKU_GROUP
 #define ZELAMIKU_GROUP 256
 #endif

@@ -250,7 +250,7 @@ static zelamiku_status make_on(door *at, const zelamiku_device *to, uint64_t siz
     return status == ZELAMIKU_OK ? status : refuse(at, status, 0);
 }
 
-/* The new file may be read and written by whom the old one may; where its system has no such rights, by whom that says. */
+/* Who may read and write the old file may read and write the new one. A file system without rights keeps its own rule. */
 static void keep_rights(const draft *it) {
     struct stat info;
     if (it->old < 0 || fstat(it->old, &info) != 0) return;

@@ -1,6 +1,6 @@
-/* Rounds: how what threads have done becomes durable. One thread at a time leads (`is_led`, under the heap's mutex): it takes records
- * from the lanes' rings into the proved library, and makes the device's calls that this asks for: two syncs among them where the heap has a
- * lane for the helper, else four. It holds no lock meanwhile.
+/* Rounds: how what threads have done becomes durable. One thread at a time leads (`is_led`, under the heap's mutex). It takes records
+ * from the lanes' rings into the proved library, and makes the device's calls that this asks for. Two syncs are among them where the heap has
+ * a lane for the helper, else four. It holds no lock meanwhile.
  *
  *  1. Who leads. The first thread that waits for its sections, for all that come meanwhile: so it wakes nobody to have a round made, and
  *     nobody has to wake it. One with a deadline leaves the round to the helper, and so does each after a failed write. So does one that
@@ -69,8 +69,8 @@ static zelamiku_status await_room(heap *of, seat *own, uint64_t step, unsigned *
 
 /* ---- a round ---- */
 
-/* Waits until as many threads have come for their sections as the last round has told, and event loops have ended as many, a part of its
- * calls' time at most: a round that one of them misses costs it a whole one. */
+/* Waits until as many threads have come for their sections as the last round has told, and event loops have ended as many sections. It waits
+ * for a part of the last calls' time at most. Who misses a round waits for all of the next one. */
 static void gather(heap *of) {
     uint64_t now = zelamiku_now(), part = of->last_calls / GATHERED_PART, soon = now + NAP / 2;
     uint64_t end = now + (part < MOST_PART ? part : MOST_PART);
@@ -215,7 +215,7 @@ static void finish(heap *of, zelamiku_status status, int error, const zelamiku_s
     if (is_trouble) of->has_more = 0; /* it doesn't come at once */
     add_up(&of->stats, round);
     of->stats.syncs = of->syncs_made;
-    /* Of what the heap has ended with the first cause, also where a stop has set another status meanwhile. */
+    /* The first cause of the heap's end stays, also where a stop has set another status meanwhile. */
     if (is_trouble || (is_end && !of->is_settled)) of->error = error;
     of->troubles += is_trouble;
     if (is_end) {

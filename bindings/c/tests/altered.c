@@ -42,8 +42,8 @@ static bool is_zeros(const uint8_t *bytes, size_t size) {
     return size == 0 || (bytes[0] == 0 && memcmp(bytes, bytes + 1, size - 1) == 0);
 }
 
-/* Whether nothing is left of a heap, by docs/FORMAT.md: the file has only zeros; or the name, a gate that is shut, no slot that is open and has
- * a sequence, and only zeros after the rows and cells of as many fields as the header says. */
+/* Whether nothing is left of a heap, by docs/FORMAT.md. Then the file has only zeros. Or it has the name, a gate that is shut, no slot that is
+ * open and has a sequence, and only zeros after the rows and cells of as many fields as the header says. */
 static bool is_free(const image *it) {
     if (is_zeros(it->bytes, it->size)) return true;
     uint8_t begun[CONTROLLED] = {0};

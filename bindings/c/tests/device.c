@@ -284,7 +284,7 @@ static void refusals(void) {
 
 /* ---- a fault at each call ---- */
 
-/* Of an opening: none is open then, and what was is there still. Answers how many calls there were. */
+/* A fault at each call of an opening: no heap is open then, and what was there is there still. Answers how many calls there were. */
 static unsigned openings(unsigned what) {
     for (unsigned at = 1;; at++) {
         make();
@@ -312,7 +312,8 @@ static unsigned openings(unsigned what) {
     }
 }
 
-/* Of a making: afterwards there is no heap or the new one, and where there is none the device is free, or refused and left as it is. */
+/* A fault at each call of a making: afterwards there is no heap or the new one. Where there is none the device is free, or refused and left as
+ * it is. */
 static unsigned makings(unsigned what) {
     for (unsigned at = 1;; at++) {
         empty();
@@ -362,7 +363,7 @@ static void after_refusal(zelamiku_thread own) {
     close_heap();
 }
 
-/* Of a round, whose section stores 8. A crash now leaves 7 or 8, whatever of the writes since the last sync is there. */
+/* A fault at each call of a round, whose section stores 8. A crash now leaves 7 or 8, whatever of the writes since the last sync is there. */
 static unsigned rounds(unsigned what) {
     for (unsigned at = 1;; at++) {
         empty();

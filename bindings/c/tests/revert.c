@@ -3,8 +3,8 @@
  *     revert FOLDER [STEPS [KILLS]]      answers 0 where all is as it must be
  *     revert FOLDER threads              only what several threads do at once: for ThreadSanitizer
  *
- * Of the random steps (20,000) each answer is told beforehand by a model of few lines. So many times (20) a process is killed in the midst of
- * transfers, of which each second one is taken back. With -DINLINE the calls of sections are those of zelamiku_inline.h. */
+ * Random steps (20,000): a model of few lines tells each answer beforehand. So many times (20) a process is killed in the midst of transfers, and
+ * each second transfer is taken back. With -DINLINE the calls of sections are those of zelamiku_inline.h. */
 #define _GNU_SOURCE
 #include <errno.h>
 #include <fcntl.h>
@@ -131,7 +131,7 @@ static void values(void) {
     OK(zelamiku_thread_store(own, 12, 1)); /* transient */
     OK(zelamiku_thread_revert(own));
     MUST(load(own, 4) == 7 && load(own, 8) == 8 && load(own, 12) == 12);
-    /* Of nothing, and twice. */
+    /* A revert of nothing, and a second one. */
     OK(zelamiku_thread_revert(own));
     OK(zelamiku_thread_store(own, 4, 200));
     OK(zelamiku_thread_store(own, 16, 200));
@@ -532,7 +532,7 @@ static void refusals(void) {
     MUST(zelamiku_thread_revert(own) == ZELAMIKU_CLOSED);
 }
 
-/* A heap of another device keeps the values too; and memory may be wanting for one of the lanes. */
+/* A heap of another device keeps the values too; and memory may be refused to one of the lanes. */
 static void other_devices(void) {
     zelamiku_plan plan = {.fields = fields, .count = FIELDS, .objects = OBJECTS, .lanes = LANES, .reverts = 1, .fingerprint = 5};
     memory held = new_memory(1 << 24);
@@ -554,7 +554,7 @@ static void other_devices(void) {
     free_memory(&held);
 }
 
-/* Memory is wanting for one of the lanes: no heap is open then, and nothing is left of it. */
+/* Memory is refused to one of the lanes: no heap is open then, and nothing is left of it. */
 static void scarce_memory(void) {
     zelamiku_plan plan = {.fields = fields, .count = FIELDS, .objects = OBJECTS, .lanes = LANES, .reverts = 1, .fingerprint = 5};
     MUST(unlink("revert.heap") == 0 || errno == ENOENT);

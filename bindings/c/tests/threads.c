@@ -608,7 +608,7 @@ static void enters_with_deadlines(void) {
     MUST(zelamiku_heap_close(all) == ZELAMIKU_OK);
 }
 
-/* Of a lane that two threads have had the report's numbers are those of both: each thread tells how many come before its own. */
+/* Two threads have had a lane: the report's numbers count the sections of both, and each thread tells how many come before its own. */
 static void tells_earlier_sections(void) {
     begin_anew();
     zelamiku_thread first = begin_thread();
@@ -986,7 +986,7 @@ static void *close_too(void *data) {
     return status == ZELAMIKU_OK ? data : NULL;
 }
 
-/* Of many that close it one does. */
+/* Many threads close it at once: one of them does. */
 static void closes_at_once(void) {
     for (int i = 0; i < 20; i++) {
         pthread_t threads[LANES];
