@@ -55,8 +55,8 @@ link_to_slot n s low = elim (eqb_tells s n) [
   | inr away ↦ ap (λ (b : Bool). if b then 0 else s + 1) away.0
 ]
 
-link_behind : (n s : ℕ) → first_link n s ≡ link_to n (s + 1)
-link_behind n s = let e : s + 2 ≡ s + 1 + 1 = omega arith in ap (λ (x : ℕ). if s + 1 == n then 0 else x) e
+link_after : (n s : ℕ) → first_link n s ≡ link_to n (s + 1)
+link_after n s = let e : s + 2 ≡ s + 1 + 1 = omega arith in ap (λ (x : ℕ). if s + 1 == n then 0 else x) e
 
 link_to_end : (n : ℕ) → link_to n n ≡ 0
 link_to_end n = elim (eqb_tells n n) [
@@ -93,7 +93,7 @@ first_list d name n some =
     let known = first_values (with_part d name n n) in
     let count : field_count h ≡ field_count d + 1 = omega (arith, length-append d.fields (cell_field (head_name name) o 1 ∷ [])) in
     let head : known (field_count d) ≡ Some 1 = kept_by_slots h name o n n (field_count d) 1 (first_last before (cell_field (head_name name) o 1) (field_count d) refl) in
-    let links : (s : ℕ) → s < n → known (cell_of p s) ≡ Some (link_to n (s + 1)) = (λ s low. ap (λ (i : ℕ). known (i + s)) (sym count) ∙ slot_begins h name o n n s low ∙ ap Some (link_behind n s)) in record {
+    let links : (s : ℕ) → s < n → known (cell_of p s) ≡ Some (link_to n (s + 1)) = (λ s low. ap (λ (i : ℕ). known (i + s)) (sym count) ∙ slot_begins h name o n n s low ∙ ap Some (link_after n s)) in record {
       spelled = spelled_from p known links (known (field_count d)) 0 n (omega arith) (head ∙ ap Some (sym (link_to_slot n 0 some)));
       distinct = distinct_from 0 n;
     }
@@ -104,7 +104,7 @@ free_list p known some firsts =
     let n = p.slots in
     let head : known p.head ≡ Some 1 = ap known (let e : p.head ≡ p.head + 0 = omega arith in e) ∙ firsts 0 (omega arith) in
     let links : (s : ℕ) → s < n → known (cell_of p s) ≡ Some (link_to n (s + 1)) =
-    (λ s low. ap known (let e : p.head + 1 + s ≡ p.head + suc s = omega arith in e) ∙ firsts (suc s) (omega arith) ∙ ap Some (link_behind n s)) in record {
+    (λ s low. ap known (let e : p.head + 1 + s ≡ p.head + suc s = omega arith in e) ∙ firsts (suc s) (omega arith) ∙ ap Some (link_after n s)) in record {
       spelled = spelled_from p known links (known p.head) 0 n (omega arith) (head ∙ ap Some (sym (link_to_slot n 0 some)));
       distinct = distinct_from 0 n;
     }

@@ -59,7 +59,7 @@ HasRoom d n = (object_count d ≢ MOST_OBJECTS) × (field_count d + n < MOST_FIE
 abbrev pub first_values : Declarations → Values
 first_values d = λ f. slice_get (firsts_of d.fields) f
 
--- The pool is declared, and its fields are those behind what was declared before: with the values with which they begin, all
+-- The pool is declared, and its fields are those after what was declared before: with the values with which they begin, all
 -- slots are free, in their order.
 pub record LaysOut (d e : Declarations) (name : List ℕ) (n : ℕ) (p : Place) : Type 0 where
   pub new : IsNewPool d name n
@@ -70,7 +70,7 @@ pub record LaysOut (d e : Declarations) (name : List ℕ) (n : ℕ) (p : Place) 
   -- The first values of a pool's fields spell all its slots free, in order.
   pub free : IsFreeList p (first_values e) (range_with_len 0 n)
 
--- what was declared before memory was wanting: nothing, the object, or the head and some slots too
+-- what was declared before memory ran out: nothing, the object, or the head and some slots too
 abbrev pub IsPart : Declarations → Declarations → List ℕ → (slots : ℕ) → Type 0
 IsPart d e name n = ((e ≡ d) ⊎ (e ≡ with_object d name)) ⊎ ((k : ℕ) × (k ≤ n) × (e ≡ with_part d name n k))
 

@@ -16,7 +16,7 @@ pub trait Cells {
     /// What is known of the cells.
     ghost knows: { Self → Knowledge Self.Fault };
 
-    /// What calls keep beside that, as which cells these are, where they loaded and stored this, the newest first.
+    /// What calls that loaded and stored this, the newest first, keep of the cells in addition: for example which cells they are.
     ghost keeps: { Self → Self → List Access → Type 0 };
 
     /// The value of the field's cell: the known one, if it is known.

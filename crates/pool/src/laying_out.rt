@@ -2,9 +2,9 @@
 
 ghost use Rattle.std.specs.Prelude.{◌≡◌, ◌≢◌, ◌<◌, ◌≤◌, ◌+◌, [], OnOk, IfErr};
 ghost use Rattle.heap_model.specs.declared.limits.TheConstants.{MOST_FIELDS};
-ghost use Rattle.guards.specs.Schema.{object_count, field_count, names_of, with_field, IsNewName};
-ghost use Rattle.pool.specs.LaidOut.{cell_name, first_link, cell_field, with_slots, IsNewPool, LayOutAnswers};
-ghost use Rattle.pool.specs.Declaring.{NamesAnswer, DeclareAnswer, IsPartOfSlots, AreNewSlots};
+ghost use Rattle.guards.specs.Schema.{object_count, field_count, names_of, IsNewName};
+ghost use Rattle.pool.specs.LaidOut.{cell_name, first_link, with_slots, IsNewPool, LayOutAnswers};
+ghost use Rattle.pool.specs.Declaring.{NamesAnswer, DeclareAnswer, AreNewSlots, StopsAtPart, with_cell};
 
 use crate::names::{HEAD, names_a_cell, spell};
 use crate::pool::{MOST_SLOTS, Pool};
@@ -76,10 +76,10 @@ fn declare_slots(
     requires object { object.0 < object_count builder.old }
     requires room { field_count builder.old + slots ≤ MOST_FIELDS }
     ensures ok { OnOk result (builder.new ≡ with_slots builder.old name.now object.0 slots slots) }
-    ensures err { IfErr result (λ e. (e ≡ SchemaError.NoMemory) × IsPartOfSlots builder.old builder.new name.now object.0 slots) }
+    ensures err { StopsAtPart builder.old builder.new name.now object.0 slots result }
 {
     for slot in 0..slots {
-        let link = link_behind(slot, slots);
+        let link = link_after(slot, slots);
         declare_cell(builder, name, object, Buffer::new().format(slot), link)?;
     }
     Ok(())
@@ -96,7 +96,7 @@ fn declare_cell(
     requires new { IsNewName (names_of builder.old.fields) (cell_name name.now cell.now) }
     requires object { object.0 < object_count builder.old }
     requires room { field_count builder.old < MOST_FIELDS }
-    ensures ok { OnOk result (builder.new ≡ with_field builder.old (cell_field (cell_name name.now cell.now) object.0 first)) }
+    ensures ok { OnOk result (builder.new ≡ with_cell builder.old name.now cell.now object.0 first) }
     ensures err { IfErr result (λ e. (e ≡ SchemaError.NoMemory) × (builder.new ≡ builder.old)) }
 {
     let Ok(text) = spell(builder.allocator(), name, cell) else {
@@ -107,7 +107,7 @@ fn declare_cell(
 }
 
 // The link with which a slot begins: to the next one, but for the last.
-pub(crate) fn link_behind(slot: u32, slots: u32) -> u64
+pub(crate) fn link_after(slot: u32, slots: u32) -> u64
     requires { slot < slots }
     ensures { result ≡ first_link slots slot }
 {

@@ -3,7 +3,7 @@
 ghost use Rattle.std.specs.Prelude.{◌≡◌, ◌≢◌, ◌<◌, ◌↔◌, ◌++◌, ℕ, List, IsTrue, MatchOption, IfOk, codes, decimal, string_bytes};
 ghost use Rattle.guards.specs.Schema.{names_of};
 ghost use Rattle.pool.specs.LaidOut.{cell_name, NamesACell};
-ghost use Rattle.pool.specs.Names.{IsCell, IsCellName};
+ghost use Rattle.pool.specs.Names.{IsCell, IsCellName, IsRest};
 
 use guards::SchemaBuilder;
 use heap_model::FieldId;
@@ -39,10 +39,10 @@ pub(crate) fn names_a_cell(builder: &SchemaBuilder, name: &str, slots: u32) -> b
 fn is_cell_name(text: &str, name: &str, slots: u32) -> bool
     ensures { IsTrue result ↔ IsCellName name.now slots text.now }
 {
-    let Some(rest) = behind(text, name) else {
+    let Some(rest) = rest_after(text, name) else {
         return false;
     };
-    let Some(cell) = behind(rest, ".") else {
+    let Some(cell) = rest_after(rest, ".") else {
         return false;
     };
     cell == HEAD || is_slot(cell, slots)
@@ -59,8 +59,8 @@ fn is_slot(cell: &str, slots: u32) -> bool
 }
 
 // What follows the prefix.
-fn behind<'a>(text: &'a str, prefix: &str) -> Option<&'a str>
-    ensures { MatchOption result ((rest : List ℕ) → text.now ≢ prefix.now ++ rest) (λ rest. text.now ≡ prefix.now ++ rest.now) }
+fn rest_after<'a>(text: &'a str, prefix: &str) -> Option<&'a str>
+    ensures { IsRest text.now prefix.now result }
 {
     text.strip_prefix(prefix)
 }

@@ -3,19 +3,18 @@
 ghost use Rattle.std.specs.Prelude.{◌≡◌, ◌≤◌};
 ghost use Rattle.pool.specs.Numbered.{FreeLaw, cell_first};
 
-use crate::laying_out::link_behind;
+use crate::laying_out::link_after;
 use crate::pool::Pool;
 use heap_model::{FieldId, MOST_FIELDS};
 
 impl Pool {
-    ghost use Rattle.std.specs.Prelude.{◌≡◌, MatchOption};
-    ghost use Rattle.pool.specs.Numbered.{FitsHeap};
+    ghost use Rattle.pool.specs.Numbered.{IsPoolAt};
 
     /// The pool whose head is kept in this field, and its slots in those that follow: where a heap may have so many fields.
     pub fn in_fields(head: FieldId, slots: u32) -> Option<Pool>
         // A pool in numbered fields is that of the head and the slots named, exactly where a heap may have so many
         // fields.
-        ensures { MatchOption result (¬ FitsHeap head.0 slots) (λ pool. FitsHeap head.0 slots × (pool ≡ record { head = head.0; slots = slots })) }
+        ensures { IsPoolAt head.0 slots result }
     {
         if head.0 as usize + slots as usize >= MOST_FIELDS {
             return None;
@@ -33,7 +32,7 @@ pub fn first_value(slots: u32, cell: u32) -> u64
     if cell == 0 {
         1
     } else {
-        link_behind(cell - 1, slots)
+        link_after(cell - 1, slots)
     }
 }
 
