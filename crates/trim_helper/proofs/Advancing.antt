@@ -1,6 +1,7 @@
 -- Records are applied, one after the other.
-use Rattle.std.proofs.Common.{ℕ, ◌≡◌, ◌≢◌, ◌+◌, ◌-◌, ◌*◌, ◌^◌, ◌<◌, ◌≤◌, if◌then◌else◌, Bool, true, false, List, [], ◌∷◌, ◌++◌, length, Ok, Err, Option, None, Some, MatchOption, refl, sym, ap, ◌∙◌, subst, inl, inr, arith}
-use Rattle.std.proofs.lemmas.Bool.{cases_eq}
+use Rattle.std.proofs.Common.{ℕ, zero, suc, ◌≡◌, ◌≢◌, ◌+◌, ◌-◌, ◌*◌, ◌/◌, ◌^◌, ◌<◌, ◌≤◌, if◌then◌else◌, Bool, true, false, List, [], ◌∷◌, ◌++◌, length, Ok, Err, Option, None, Some, MatchOption, refl, sym, ap, ◌∙◌, subst, inl, inr, arith}
+use Rattle.std.proofs.Math.Nat.{zero-div}
+use Rattle.std.proofs.lemmas.Bool.{cases_eq, cases_lt}
 use Rattle.std.proofs.lemmas.Bool.Decides.{eqb_tells}
 use Rattle.std.proofs.lemmas.List.{append-nil, append_assoc, length-append}
 use Rattle.thread_rings.specs.Rings.{Receiving}
@@ -15,9 +16,9 @@ use Rattle.store_rounds.specs.Store.{HasPast}
 use Rattle.heap_model.specs.declared.store_error.StoreError.{StoreError}
 use Rattle.heap_model.specs.declared.store_error.StoreError.TheVariants.{Failed}
 use Rattle.trim_helper.specs.Rings.{received_of, known_of, held_back, waiting_in, stream}
-use Rattle.trim_helper.specs.Moves.{Moves, most_room, known_sum, held_sum}
-use Rattle.trim_helper.specs.Taken.{Taking, HasTaken, Advances, AllStuck, IsLaneStuck, IsStuckAt, applied_more}
-use Rattle.trim_helper.specs.Draining.{Empties, AppliesNext, HasAll, Rests, AppliesLane, Takes, AppliesLanes}
+use Rattle.trim_helper.specs.Moves.{HasNothing, Moves, most_room, known_sum, held_sum}
+use Rattle.trim_helper.specs.Taken.{Taking, HadTurn, HasGone, HasTaken, Advances, AllStuck, IsLaneStuck, IsStuckAt, applied_more}
+use Rattle.trim_helper.specs.Draining.{Empties, AppliesNext, HadParts, HasAll, Rests, AppliesLane, Takes, AppliesLanes}
 use Rattle.trim_helper.proofs.Progress.{stream_own, stream_other}
 use Rattle.trim_helper.proofs.RingMoves.{same_refl, same_then, known_most, held_most}
 use Rattle.trim_helper.proofs.Seeing.{keeps_refl, keeps_then}
@@ -28,6 +29,18 @@ whole_all r0 r1 w0 w1 lane gone moves l = elim (eqb_tells lane l) [
   | inr e ↦ let o = moves.others l e.1 in ap (λ (xs : List Record). xs ++ known_of r1 l) o.0 ∙ ap (λ (xs : List Record). received_of r0 l ++ xs) o.1
 ]
 
+-- of no lane what was applied grows less
+rises_all : (r0 r1 : List Receiving) (w0 w1 : List (Option Record)) (lane : ℕ) (gone : List Record) → Moves lane gone r0 w0 r1 w1 → (l : ℕ) →
+    (length (received_of r0 l) + length (held_back (waiting_in w1 l))) + 0 ≤ length (received_of r1 l) + length (held_back (waiting_in w0 l))
+rises_all r0 r1 w0 w1 lane gone moves l = elim (eqb_tells lane l) [
+  | inl e ↦ subst (λ k. (length (received_of r0 k) + length (held_back (waiting_in w1 k))) + 0 ≤ length (received_of r1 k) + length (held_back (waiting_in w0 k))) e.1 (let count = moves.count in omega arith)
+  | inr e ↦
+      let o = moves.others l e.1 in
+      let a : length (received_of r1 l) ≡ length (received_of r0 l) = ap (λ (xs : List Record). length xs) o.0 in
+      let b : length (held_back (waiting_in w1 l)) ≡ length (held_back (waiting_in w0 l)) = ap (λ v. length (held_back v)) o.2 in
+      omega arith
+]
+
 -- the record that was fetched was applied
 pub moves_then : (r0 r1 r2 : List Receiving) (w0 w1 w2 : List (Option Record)) (lane : ℕ) (gone : List Record) → Moves lane [] r0 w0 r1 w1 → Moves lane gone r1 w1 r2 w2 → Moves lane gone r0 w0 r2 w2
 moves_then r0 r1 r2 w0 w1 w2 lane gone one two = record {
@@ -35,6 +48,7 @@ moves_then r0 r1 r2 w0 w1 w2 lane gone one two = record {
   whole = two.whole ∙ one.whole;
   others = λ l other. let a = one.others l other in let b = two.others l other in (b.0 ∙ a.0, b.1 ∙ a.1, b.2 ∙ a.2);
   left = let a = one.left in let b = two.left in omega arith;
+  count = let a = one.count in let b = two.count in omega arith;
   same = same_then r0 r1 r2 one.same two.same;
   told = keeps_then r0 r1 r2 one.told two.told;
   slots = two.slots ∙ one.slots;
@@ -70,6 +84,7 @@ module _ {D : Type 0} (device : D → Device) where
     made = λ s p has. ([], refl, moved_has x y lane s p moves same has);
     whole = whole_all x.rings y.rings x.waiting y.waiting lane [] moves;
     left = moves.left;
+    rises = rises_all x.rings y.rings x.waiting y.waiting lane [] moves;
     same = moves.same;
     told = moves.told;
     slots = moves.slots;
@@ -88,6 +103,7 @@ module _ {D : Type 0} (device : D → Device) where
     made = λ s p has. ((lane, r) ∷ [], refl, applied_has x y lane r s p moves has (makes s p has.has));
     whole = whole_all x.rings y.rings x.waiting y.waiting lane (r ∷ []) moves;
     left = moves.left;
+    rises = rises_all x.rings y.rings x.waiting y.waiting lane (r ∷ []) moves;
     same = moves.same;
     told = moves.told;
     slots = moves.slots;
@@ -100,7 +116,7 @@ module _ {D : Type 0} (device : D → Device) where
   }
 
   pub advances_start : (x : Taking D) → Advances device x x 0
-  advances_start x = record { made = λ s p has. ([], refl, has); whole = λ l. refl; left = omega arith; same = same_refl x.rings; told = keeps_refl x.rings; slots = refl; layout = refl; threads = refl; running = refl; sequence = refl; uncalled = refl; still = λ off. (refl, refl) }
+  advances_start x = record { made = λ s p has. ([], refl, has); whole = λ l. refl; left = omega arith; rises = λ l. omega arith; same = same_refl x.rings; told = keeps_refl x.rings; slots = refl; layout = refl; threads = refl; running = refl; sequence = refl; uncalled = refl; still = λ off. (refl, refl) }
 
   pub advances_then : (x y z : Taking D) (n m : ℕ) → Advances device x y n → Advances device y z m → Advances device x z (n + m)
   advances_then x y z n m one two = record {
@@ -113,6 +129,7 @@ module _ {D : Type 0} (device : D → Device) where
         );
     whole = λ l. two.whole l ∙ one.whole l;
     left = let a = one.left in let b = two.left in omega arith;
+    rises = λ l. let a = one.rises l in let b = two.rises l in omega arith;
     same = same_then x.rings y.rings z.rings one.same two.same;
     told = keeps_then x.rings y.rings z.rings one.told two.told;
     slots = two.slots ∙ one.slots;
@@ -148,6 +165,10 @@ module _ {D : Type 0} (device : D → Device) where
       subst (λ (v : Option Record). MatchOption v (known_of y.rings lane ≡ []) (λ k. (f : StoreError) × (f ≢ Failed) × RefusesApply y.store.known s p lane k f)) (sym is) (none is)
   stuck_empty y lane (Some q) is not none s p has = absurd (not q refl)
 
+  -- the lane has nothing to go on with
+  pub stuck_nothing : (y : Taking D) (lane : ℕ) → HasNothing y.rings y.waiting lane → IsStuckAt device y lane
+  stuck_nothing y lane nothing = stuck_empty y lane None nothing.1 (λ q no. absurd (let clash : None ≡ Some q = no in cc)) (λ none. nothing.0)
+
   -- so the lane rests
   pub rests_so : (x y : Taking D) (lane : ℕ) → Moves lane [] x.rings x.waiting y.rings y.waiting → y.store ≡ x.store → IsStuckAt device y lane → Rests device lane x y
   rests_so x y lane moves same stuck = record {
@@ -174,17 +195,22 @@ module _ {D : Type 0} (device : D → Device) where
 
   -- nothing went, and the lane rests
   pub goes_not : (x y : Taking D) (lane : ℕ) → Moves lane [] x.rings x.waiting y.rings y.waiting → y.store ≡ x.store → IsStuckAt device y lane → AppliesNext device lane x y (Ok false)
-  goes_not x y lane moves same stuck = record { takes = takes_done x y 0 (advances_none x y lane moves same); rests = λ none. rests_so x y lane moves same stuck }
+  goes_not x y lane moves same stuck = record {
+    takes = takes_done x y 0 (advances_none x y lane moves same);
+    gone = let count = moves.count in let gone : HasGone 0 lane x y = omega arith in gone;
+    rests = λ none. rests_so x y lane moves same stuck;
+  }
 
   -- one went
-  pub goes_one : (x y : Taking D) (lane : ℕ) → Advances device x y 1 → AppliesNext device lane x y (Ok true)
-  goes_one x y lane on = record { takes = takes_done x y 1 on; rests = λ no. absurd (let not : true ≡ false = no in cc) }
+  pub goes_one : (x y : Taking D) (lane : ℕ) (r : Record) → Moves lane (r ∷ []) x.rings x.waiting y.rings y.waiting → Advances device x y 1 → AppliesNext device lane x y (Ok true)
+  goes_one x y lane r moves on = record { takes = takes_done x y 1 on; gone = let count = moves.count in let gone : HasGone 1 lane x y = omega arith in gone; rests = λ no. absurd (let not : true ≡ false = no in cc) }
 
   -- the store has failed
   pub goes_failed : (x y : Taking D) (lane : ℕ) (e : StoreError) → Moves lane [] x.rings x.waiting y.rings y.waiting → y.store ≡ x.store → e ≡ Failed →
       ((s : Setting) (p : Past) → HasPast x.store.known s p (device x.store.disk) → x.store.known.has_failed ≡ true) → AppliesNext device lane x y (Err e)
   goes_failed x y lane e moves same is why = record {
     takes = record { ok = tt; kept = (0, advances_none x y lane moves same); failed = is; why = λ s p taken. why s p taken.has };
+    gone = tt;
     rests = tt;
   }
 
@@ -205,41 +231,90 @@ module _ {D : Type 0} (device : D → Device) where
   pub advances_by_one : (x y z : Taking D) (lane n : ℕ) (b : Bool) → b ≡ true → Advances device x y n → AppliesNext device lane y z (Ok b) → Advances device x z (n + 1)
   advances_by_one x y z lane n b is one go = subst (λ k. Advances device x z (n + k)) (one_is b is) (advances_then device x y z n (if b then 1 else 0) one go.takes.ok)
 
+  pub gone_by_one : (x y z : Taking D) (lane n : ℕ) (b : Bool) → b ≡ true → HasGone n lane x y → AppliesNext device lane y z (Ok b) → HasGone (n + 1) lane x z
+  gone_by_one x y z lane n b is was go =
+      let before : HasGone n lane x y = was in
+      let one : HasGone 1 lane y z = subst (λ (k : ℕ). HasGone k lane y z) (one_is b is) go.gone in
+      omega arith
+
   -- the lane has run on as long as it could
-  pub runs_done : (x y z : Taking D) (lane most n : ℕ) (b : Bool) → b ≡ false → n < most → Advances device x y n → (n ≡ 0 → y ≡ x) → AppliesNext device lane y z (Ok b) → AppliesLane device lane most x z (Ok n)
-  runs_done x y z lane most n b not low one still go =
+  pub runs_done : (x y z : Taking D) (lane most n : ℕ) (b : Bool) → b ≡ false → n < most → Advances device x y n → HasGone n lane x y → (n ≡ 0 → y ≡ x) → AppliesNext device lane y z (Ok b) → AppliesLane device lane most x z (Ok n)
+  runs_done x y z lane most n b not low one was still go =
       let rests = go.rests not in
       record {
         takes = takes_done device x z n (advances_done device x y z n (if b then 1 else 0) one go.takes.ok (none_is b not));
         within = omega arith;
+        gone =
+            let before : HasGone n lane x y = was in
+            let none : HasGone (if b then 1 else 0) lane y z = go.gone in
+            omega arith;
         stuck = λ below. rests.stuck;
         rests = λ none some. subst (λ k. Rests device lane k z) (still none) rests;
       }
 
   -- the lane has run on as long as it might
-  pub runs_full : (x y : Taking D) (lane most n : ℕ) → n ≡ most → Advances device x y n → AppliesLane device lane most x y (Ok n)
-  runs_full x y lane most n full one = record {
+  pub runs_full : (x y : Taking D) (lane most n : ℕ) → n ≡ most → Advances device x y n → HasGone n lane x y → AppliesLane device lane most x y (Ok n)
+  runs_full x y lane most n full one was = record {
     takes = takes_done device x y n one;
     within = omega arith;
+    gone = was;
     stuck = λ below. absurd (omega arith);
     rests = λ none some. absurd (omega arith);
   }
 
   pub runs_failed : (x y z : Taking D) (lane most n : ℕ) (e : StoreError) → Advances device x y n → AppliesNext device lane y z (Err e) → AppliesLane device lane most x z (Err e)
-  runs_failed x y z lane most n e one go = record { takes = takes_failed device x y z n e one go.takes; within = tt; stuck = tt; rests = tt }
+  runs_failed x y z lane most n e one go = record { takes = takes_failed device x y z n e one go.takes; within = tt; gone = tt; stuck = tt; rests = tt }
 
   -- The lanes below this one had their turn, and so many records were applied, within the bound.
   pub record Turned (most : ℕ) (x y : Taking D) (went lane : ℕ) : Type 0 where
     pub advances : Advances device x y went
     pub stuck : went ≡ 0 → 0 < most → (l : ℕ) → l < lane → IsStuckAt device y l
+    pub parts : (l : ℕ) → l < lane → HadTurn device (most / length x.rings) l x y
 
   pub turned_none : (most : ℕ) (x : Taking D) → Turned most x x 0 0
-  turned_none most x = record { advances = advances_start device x; stuck = λ none some l lt. absurd (omega arith) }
+  turned_none most x = record { advances = advances_start device x; stuck = λ none some l lt. absurd (omega arith); parts = λ l lt. absurd (omega arith) }
+
+  -- a lane that had its turn has had it
+  pub turn_kept : (part l : ℕ) (x y z : Taking D) (m : ℕ) → HadTurn device part l x y → Advances device y z m → HadTurn device part l x z
+  turn_kept part l x y z m had on = elim had [
+    | inl gone ↦ inl (let before : HasGone part l x y = gone in let since : HasGone 0 l y z = on.rises l in omega arith)
+    | inr out ↦ inr (record { moment = out.moment; before = out.before; since = out.since + m; first = out.first; later = advances_then device out.moment y z out.since m out.later on; stuck = out.stuck })
+  ]
+
+  -- the lane can't go on now
+  pub turn_out : (part l : ℕ) (x y : Taking D) (n : ℕ) → Advances device x y n → IsStuckAt device y l → HadTurn device part l x y
+  turn_out part l x y n on stuck = inr (record { moment = y; before = n; since = 0; first = on; later = advances_start device y; stuck = stuck })
+
+  -- the next lane has nothing to go on with
+  pub turned_past : (most : ℕ) (x y : Taking D) (went lane : ℕ) → HasNothing y.rings y.waiting lane → Turned most x y went lane → Turned most x y went (lane + 1)
+  turned_past most x y went lane nothing was =
+      let here : IsStuckAt device y lane = stuck_nothing device y lane nothing in
+      record {
+        advances = was.advances;
+        stuck = λ none some l lt. elim (cases_eq lane l) [
+          | inl at ↦ subst (λ k. IsStuckAt device y k) at here
+          | inr other ↦ was.stuck none some l (omega arith)
+        ];
+        parts = λ l lt. elim (cases_eq lane l) [
+          | inl at ↦ subst (λ k. HadTurn device (most / length x.rings) k x y) at (turn_out (most / length x.rings) lane x y went was.advances here)
+          | inr other ↦ was.parts l (omega arith)
+        ];
+      }
 
   -- the next lane had its share, which is some where something remained
-  pub turned_more : (most share : ℕ) (x y z : Taking D) (went n lane : ℕ) → (0 < most - went → 0 < share) → Turned most x y went lane → AppliesLane device lane share y z (Ok n) → Turned most x z (went + n) (lane + 1)
-  turned_more most share x y z went n lane gets was ran = record {
+  pub turned_more : (most share : ℕ) (x y z : Taking D) (went n lane : ℕ) → (0 < most - went → 0 < share) → most / length x.rings ≤ share → Turned most x y went lane → AppliesLane device lane share y z (Ok n) → Turned most x z (went + n) (lane + 1)
+  turned_more most share x y z went n lane gets least was ran = record {
     advances = advances_then device x y z went n was.advances ran.takes.ok;
+    parts = λ l lt.
+        let part = most / length x.rings in
+        let here : HadTurn device part lane x z = elim (cases_lt n share) [
+          | inl low ↦ turn_out part lane x z (went + n) (advances_then device x y z went n was.advances ran.takes.ok) (ran.stuck low)
+          | inr full ↦ inl (let before : HasGone 0 lane x y = was.advances.rises lane in let gone : HasGone n lane y z = ran.gone in let le : part ≤ n = omega (arith, least, full) in omega (arith, before, gone, le))
+        ] in
+        elim (cases_eq lane l) [
+          | inl at ↦ subst (λ k. HadTurn device part k x z) at here
+          | inr other ↦ turn_kept part l x y z n (was.parts l (omega arith)) ran.takes.ok
+        ];
     stuck = λ none some l lt.
         let got : 0 < share = gets (omega arith) in
         let rests : Rests device lane y z = ran.rests (omega arith) got in
@@ -251,23 +326,53 @@ module _ {D : Type 0} (device : D → Device) where
 
   -- each lane had its turn
   pub turns_done : (most : ℕ) (x y : Taking D) (went lane : ℕ) → length y.rings ≤ lane → went ≤ most → Turned most x y went lane → AppliesLanes device most x y (Ok went)
-  turns_done most x y went lane all within was = record { takes = takes_done device x y went was.advances; within = within; stuck = λ none some l lt. was.stuck none some l (omega arith) }
+  turns_done most x y went lane all within was = record {
+    takes = takes_done device x y went was.advances;
+    within = within;
+    stuck = λ none some l lt. was.stuck none some l (omega arith);
+    parts = λ l lt. was.parts l (omega (arith, was.advances.same.count));
+  }
 
   pub turns_failed : (most share : ℕ) (x y z : Taking D) (went lane : ℕ) (e : StoreError) → Turned most x y went lane → AppliesLane device lane share y z (Err e) → AppliesLanes device most x z (Err e)
-  turns_failed most share x y z went lane e was ran = record { takes = takes_failed device x y z went e was.advances ran.takes; within = tt; stuck = tt }
+  turns_failed most share x y z went lane e was ran = record { takes = takes_failed device x y z went e was.advances ran.takes; within = tt; stuck = tt; parts = tt }
 
   -- a turn in which some might go, and none did, was the last
   pub empties_done : (most left : ℕ) (x y z : Taking D) (n m : ℕ) → m ≡ 0 → n + left ≡ most → 0 < left → Advances device x y n → AppliesLanes device left y z (Ok m) → (AllStuck device z → HasAll device z) → Empties device most x z (Ok n)
   empties_done most left x y z n m none all some one last whole =
       let stuck : AllStuck device z = last.stuck none some in
-      record { takes = takes_done device x z n (advances_done device x y z n m one last.takes.ok none); within = omega arith; stuck = λ below. stuck; whole = λ below. whole stuck }
+      record { takes = takes_done device x z n (advances_done device x y z n m one last.takes.ok none); within = omega arith; stuck = λ below. stuck; whole = λ below. whole stuck; parts = λ full. absurd (omega arith) }
+
+  -- no lane has anything to go on with
+  pub empties_nothing : (most : ℕ) (x y : Taking D) (n : ℕ) → n < most → Advances device x y n → ((l : ℕ) → l < length y.rings → HasNothing y.rings y.waiting l) → (AllStuck device y → HasAll device y) → Empties device most x y (Ok n)
+  empties_nothing most x y n low one nothing whole =
+      let stuck : AllStuck device y = λ l lt. stuck_nothing device y l (nothing l lt) in
+      record { takes = takes_done device x y n one; within = omega arith; stuck = λ below. stuck; whole = λ below. whole stuck; parts = λ full. absurd (omega arith) }
+
+  -- each lane had its part in the first turn
+  pub turns_parts : (most left n m : ℕ) (x y z : Taking D) → n + left ≡ most → (n ≡ 0 → y ≡ x) → (0 < n → HadParts device most x y) → AppliesLanes device left y z (Ok m) → HadParts device most x z
+  turns_parts most left zero m x y z all start parts last =
+      let same : left ≡ most = omega arith in
+      subst (λ k. HadParts device k x z) same (subst (λ (k : Taking D). HadParts device left k z) (start refl) last.parts)
+  turns_parts most left (suc n) m x y z all start parts last = λ l lt. turn_kept (most / length x.rings) l x y z m (parts (omega arith) l lt) last.takes.ok
+
+  -- so it is at the bound, also where that is none
+  pub full_parts : (most : ℕ) (x y : Taking D) (n : ℕ) → n ≡ most → (0 < n → HadParts device most x y) → Advances device x y n → HadParts device most x y
+  full_parts most x y zero full parts on = λ l lt.
+      inl (subst (λ m. HasGone (m / length x.rings) l x y) full (subst (λ k. HasGone k l x y) (sym (zero-div (length x.rings))) (on.rises l)))
+  full_parts most x y (suc n) full parts on = parts (omega arith)
 
   -- so many were applied as might be
-  pub empties_full : (most : ℕ) (x y : Taking D) (n : ℕ) → n ≡ most → Advances device x y n → Empties device most x y (Ok n)
-  empties_full most x y n full one = record { takes = takes_done device x y n one; within = omega arith; stuck = λ below. absurd (omega arith); whole = λ below. absurd (omega arith) }
+  pub empties_full : (most : ℕ) (x y : Taking D) (n : ℕ) → n ≡ most → (0 < n → HadParts device most x y) → Advances device x y n → Empties device most x y (Ok n)
+  empties_full most x y n full parts one = record {
+    takes = takes_done device x y n one;
+    within = omega arith;
+    stuck = λ below. absurd (omega arith);
+    whole = λ below. absurd (omega arith);
+    parts = λ at. full_parts most x y n full parts one;
+  }
 
   pub empties_failed : (most left : ℕ) (x y z : Taking D) (n : ℕ) (e : StoreError) → Advances device x y n → AppliesLanes device left y z (Err e) → Empties device most x z (Err e)
-  empties_failed most left x y z n e one last = record { takes = takes_failed device x y z n e one last.takes; within = tt; stuck = tt; whole = tt }
+  empties_failed most left x y z n e one last = record { takes = takes_failed device x y z n e one last.takes; within = tt; stuck = tt; whole = tt; parts = tt }
 
 pub longer : (k n m : ℕ) → m ≡ n → k < n → k < m
 longer k n m e lt = omega arith

@@ -21,3 +21,4 @@ pub mod ClosingReasons
 pub mod Sent
 pub mod Completing
 pub mod Besides
+pub mod Sharing

@@ -1,5 +1,5 @@
 -- The rings are looked at again and again, and emptied each time.
-use Rattle.std.proofs.Common.{ℕ, ◌≡◌, ◌+◌, ◌-◌, ◌*◌, ◌<◌, ◌≤◌, ◌^◌, List, [], ◌++◌, length, Option, None, Some, MatchOption, Result, Ok, Err, refl, sym, ap, ◌∙◌, subst, arith}
+use Rattle.std.proofs.Common.{ℕ, zero, suc, ◌≡◌, ◌+◌, ◌-◌, ◌*◌, ◌/◌, ◌<◌, ◌≤◌, ◌^◌, List, [], ◌++◌, length, Option, None, Some, MatchOption, Result, Ok, Err, refl, sym, ap, ◌∙◌, subst, inl, inr, arith}
 use Rattle.std.proofs.Math.Nat.{mul-le-mul_right}
 use Rattle.std.proofs.lemmas.List.{append-nil, append_assoc, length-append}
 use Rattle.thread_rings.specs.Rings.{Receiving}
@@ -10,12 +10,12 @@ use Rattle.block_disk.specs.Device.{Device}
 use Rattle.heap_model.specs.Past.{Past}
 use Rattle.heap_model.specs.declared.store_error.StoreError.{StoreError}
 use Rattle.trim_helper.specs.declared.draining.TheConstants.{LOOKS}
-use Rattle.trim_helper.specs.Draining.{Drained, DrainsRings, Empties, HasAll}
+use Rattle.trim_helper.specs.Draining.{Drained, DrainsRings, Empties, HasAll, SharesBound, WasStuck}
 use Rattle.trim_helper.specs.Moves.{Looks, held_sum, known_sum, most_room}
 use Rattle.trim_helper.specs.Rings.{received_of, known_of}
-use Rattle.trim_helper.specs.Taken.{Taking, HasTaken, Advances, AllStuck, applied_more}
+use Rattle.trim_helper.specs.Taken.{Taking, HadTurn, HasGone, HasTaken, Advances, AllStuck, RanOut, applied_more}
 use Rattle.trim_helper.proofs.Seeing.{keeps_refl, keeps_then}
-use Rattle.trim_helper.proofs.RingMoves.{held_most, known_most, same_refl, same_then, taken_most}
+use Rattle.trim_helper.proofs.RingMoves.{held_most, known_most, looks_none, same_refl, same_then, taken_most}
 
 module _ {D : Type 0} (device : D → Device) where
   pub looks_taken : (x : Taking D) (seen : List Receiving) (s : Setting) (p : Past) → Looks x.rings seen → HasTaken device x s p → HasTaken device (record x { rings = seen }) s p
@@ -44,28 +44,6 @@ module _ {D : Type 0} (device : D → Device) where
     sequence = on.sequence;
     uncalled = on.uncalled;
     still = on.still;
-  }
-
-  -- the rings were looked at, and then emptied
-  pub looks_drains : (most : ℕ) (x y : Taking D) (seen : List Receiving) (answer : Result ℕ StoreError) → most_room x.rings ≤ MOST_RING_RECORDS → length x.rings ≤ 32 → length x.waiting ≡ 32 → Looks x.rings seen →
-      Empties device most (record x { rings = seen }) y answer → DrainsRings device 1 (Some most) x y answer
-  looks_drains most x y seen (Ok n) have few slots looks on = record {
-    ok = drained_by x y seen n have few slots looks on.takes.ok;
-    within = on.within;
-    kept = tt;
-    stuck = on.stuck;
-    whole = on.whole;
-    failed = tt;
-    why = λ s p taken. tt;
-  }
-  looks_drains most x y seen (Err e) have few slots looks on = record {
-    ok = tt;
-    within = tt;
-    kept = (on.takes.kept.0, drained_by x y seen on.takes.kept.0 have few slots looks on.takes.kept.1);
-    stuck = tt;
-    whole = tt;
-    failed = on.takes.failed;
-    why = λ s p taken. on.takes.why s p (looks_taken x seen s p looks taken);
   }
 
   -- they were looked at so often, and once they were, no lane goes on below the bound
@@ -148,13 +126,76 @@ module _ {D : Type 0} (device : D → Device) where
     still = was.still;
   }
 
-  pub looked_done : (most : ℕ) (x y : Taking D) (n looks often : ℕ) → 0 < looks → looks ≤ often → n ≤ most → Looked most x y n looks → DrainsRings device often (Some most) x y (Ok n)
-  looked_done most x y n looks often some le within was = record {
+  -- the lane couldn't go on after a look
+  was_stuck : (l : ℕ) (x y : Taking D) (seen : List Receiving) → most_room x.rings ≤ MOST_RING_RECORDS → length x.rings ≤ 32 → length x.waiting ≡ 32 → Looks x.rings seen → RanOut device l (record x { rings = seen }) y → WasStuck device l x y
+  was_stuck l x y seen have few slots looks out = record {
+    moment = out.moment;
+    before = out.before;
+    since = out.since;
+    first = drained_within x out.moment out.before 1 LOOKS (omega arith) (drained_by x out.moment seen out.before have few slots looks out.first);
+    later = drained_within out.moment y out.since 1 LOOKS (omega arith) (drained_by out.moment y out.moment.rings out.since (omega (arith, out.first.same.rooms, looks.same.rooms, have)) (omega (arith, out.first.same.count, looks.same.count, few)) (out.first.slots ∙ slots)
+        (looks_none out.moment.rings) out.later);
+    stuck = out.stuck;
+  }
+
+  -- the rings were looked at, and then emptied
+  pub looks_drains : (most : ℕ) (x y : Taking D) (seen : List Receiving) (answer : Result ℕ StoreError) → most_room x.rings ≤ MOST_RING_RECORDS → length x.rings ≤ 32 → length x.waiting ≡ 32 → Looks x.rings seen →
+      Empties device most (record x { rings = seen }) y answer → DrainsRings device 1 (Some most) x y answer
+  looks_drains most x y seen (Ok n) have few slots looks on = record {
+    ok = drained_by x y seen n have few slots looks on.takes.ok;
+    within = on.within;
+    kept = tt;
+    stuck = on.stuck;
+    whole = on.whole;
+    shares = λ at l lt.
+        let part : HadTurn device (n / length x.rings) l (record x { rings = seen }) y =
+        subst (λ m. HadTurn device (m / length x.rings) l (record x { rings = seen }) y) (sym at)
+        (subst (λ k. HadTurn device (most / k) l (record x { rings = seen }) y) looks.same.count (on.parts at l (omega (arith, looks.same.count, lt)))) in
+        elim part [
+          | inl gone ↦ inl (let same : length (received_of seen l) ≡ length (received_of x.rings l) = ap (λ (xs : List Record). length xs) (looks.received l) in
+              let since : HasGone (n / length x.rings) l (record x { rings = seen }) y = gone in omega (arith, same, since))
+          | inr out ↦ inr (was_stuck l x y seen have few slots looks out)
+        ];
+    failed = tt;
+    why = λ s p taken. tt;
+  }
+  looks_drains most x y seen (Err e) have few slots looks on = record {
+    ok = tt;
+    within = tt;
+    kept = (on.takes.kept.0, drained_by x y seen on.takes.kept.0 have few slots looks on.takes.kept.1);
+    stuck = tt;
+    whole = tt;
+    shares = tt;
+    failed = on.takes.failed;
+    why = λ s p taken. on.takes.why s p (looks_taken x seen s p looks taken);
+  }
+
+  -- the bound was reached in the first look, or each lane couldn't go on after the last one
+  pub looked_shares : (most left : ℕ) (x y z : Taking D) (n m looks : ℕ) → (looks ≡ 0 → (n ≡ 0) × (y ≡ x)) → (0 < looks → n < most) → n + left ≡ most → looks ≤ LOOKS → Looked most x y n looks → DrainsRings device 1 (Some left) y z (Ok m) →
+      n + m ≡ most → SharesBound device (n + m) x z
+  looked_shares most left x y z n m zero start low all le was last at =
+      let none : n ≡ 0 = (start refl).0 in
+      let full : m ≡ left = omega arith in
+      let same : m ≡ n + m = omega arith in
+      subst (λ (k : Taking D). SharesBound device (n + m) k z) (start refl).1 (subst (λ k. SharesBound device k y z) same (last.shares full))
+  looked_shares most left x y z n m (suc looks) start low all le was last at = λ l lt.
+      inr (record {
+        moment = y;
+        before = n;
+        since = m;
+        first = drained_within x y n (suc looks) LOOKS le was.drained;
+        later = drained_within y z m 1 LOOKS (omega arith) last.ok;
+        stuck = was.stuck (omega arith) (low (omega arith)) l (omega (arith, was.drained.same.count, lt));
+      })
+
+  pub looked_done : (most : ℕ) (x y : Taking D) (n looks often : ℕ) → 0 < looks → looks ≤ often → n ≤ most → (n ≡ most → SharesBound device n x y) → Looked most x y n looks → DrainsRings device often (Some most) x y (Ok n)
+  looked_done most x y n looks often some le within shares was = record {
     ok = drained_within x y n looks often le was.drained;
     within = within;
     kept = tt;
     stuck = was.stuck some;
     whole = was.whole some;
+    shares = shares;
     failed = tt;
     why = λ s p taken. tt;
   }
@@ -168,6 +209,7 @@ module _ {D : Type 0} (device : D → Device) where
         kept = (n + kept.0, drained_within x z (n + kept.0) (looks + 1) often (omega arith) (drained_then x y z n kept.0 looks 1 was.drained kept.1));
         stuck = tt;
         whole = tt;
+        shares = tt;
         failed = last.failed;
         why = λ s p taken. let made = was.drained.made s p taken in sym was.drained.running ∙ last.why s (applied_more made.0 p) made.2;
       }
@@ -178,5 +220,5 @@ module _ {D : Type 0} (device : D → Device) where
   drains_up_to None bound x y (Ok n) is on =
       let bounded : bound ≡ 2 ^ 64 - 1 = is in
       let low : n < bound = let few = on.ok.few in omega arith in
-      record { ok = on.ok; within = tt; kept = tt; stuck = λ below. on.stuck low; whole = λ below. on.whole low; failed = tt; why = on.why }
-  drains_up_to None bound x y (Err e) is on = record { ok = tt; within = tt; kept = on.kept; stuck = tt; whole = tt; failed = on.failed; why = on.why }
+      record { ok = on.ok; within = tt; kept = tt; stuck = λ below. on.stuck low; whole = λ below. on.whole low; shares = λ at. absurd at; failed = tt; why = on.why }
+  drains_up_to None bound x y (Err e) is on = record { ok = tt; within = tt; kept = on.kept; stuck = tt; whole = tt; shares = tt; failed = on.failed; why = on.why }

@@ -18,7 +18,7 @@ use Rattle.store_rounds.specs.Runs.{HasRun, TakesSequences}
 use Rattle.store_rounds.specs.Store as stores
 use Rattle.store_rounds.specs.Store.{Known, HasPast}
 use Rattle.store_rounds.proofs.Shown.{rests}
-use Rattle.trim_helper.specs.Calls.{AreStuck, DrainsUpTo, HasGoneOn, IsBelow, IsWithin, Publishes, RoundsUpTo, SettlesUpTo}
+use Rattle.trim_helper.specs.Calls.{AreStuck, DrainsUpTo, HasGoneOn, IsBelow, IsWithin, Publishes, RoundsUpTo, SettlesUpTo, SharesOut}
 use Rattle.trim_helper.specs.Counts.{WasCount}
 use Rattle.trim_helper.specs.Draining.{DrainsRings}
 use Rattle.trim_helper.specs.declared.draining.TheConstants.{LOOKS}
@@ -508,6 +508,15 @@ module _ {D : Type 0} (device : D → Device) (most : Option ℕ) (s : Setting) 
           within = r.within;
           stuck = r.stuck;
         }
+
+-- publishing keeps what was applied of each lane
+pub shares_published : {D : Type 0} (device : D → Device) (x z : Parts D) (h : Home) (y : Parts D) → Publishes device h z y → (n : ℕ) → SharesOut device n x z → SharesOut device n x y
+shares_published device x z h y published n shares = record {
+  drained = shares.drained;
+  shares = shares.shares;
+  received = λ l. ap (λ (rings : List Receiving). received_of rings l) published.rings ∙ shares.received l;
+  waiting = published.waiting ∙ shares.waiting;
+}
 
 -- publishing keeps the words, the lanes and the rings
 pub goes_on_published : {D : Type 0} (device : D → Device) (h : Home) (x z y : Parts D) → Publishes device h z y → HasGoneOn h x z → HasGoneOn h x y

@@ -17,11 +17,12 @@ use Rattle.store_rounds.specs.Store.{Known, HasPast}
 use Rattle.monitor.specs.Seats.{Final, Helping, Home}
 use Rattle.monitor.specs.Views.{GoesOn}
 use Rattle.monitor.specs.Words.{setting_of}
-pub use Rattle.trim_helper.specs.Bounds.{IsBelow, IsWithin}
+pub use Rattle.trim_helper.specs.Bounds.{IsAt, IsBelow, IsWithin}
 use Rattle.trim_helper.specs.Closed.{HasSpelled, IsClosedDown, Stood, disk_of}
 use Rattle.trim_helper.specs.Counts.{StandForCuts}
-use Rattle.trim_helper.specs.Draining.{DrainsRings}
+use Rattle.trim_helper.specs.Draining.{DrainsRings, SharesBound}
 use Rattle.trim_helper.specs.Endings.{HoldNone, IsCloseStop, IsCloseWhy, IsComplete, IsOfSessions, RefusesClosing, parts_of}
+use Rattle.trim_helper.specs.Heard.{HasSeen}
 use Rattle.trim_helper.specs.Hearing.{IsNoted}
 use Rattle.trim_helper.specs.Helping.{IsBehind, IsHelper, taken_in}
 use Rattle.trim_helper.specs.Moves.{SameRings, most_room}
@@ -43,8 +44,8 @@ pub record HasGoneOn {D : Type 0} (h : Home) (x y : Parts D) : Type 0 where
   pub layout : y.store.known.layout ≡ x.store.known.layout
   pub threads : y.store.known.threads ≡ x.store.known.threads
 
--- No lane goes on, where a store of this layout, with so many lanes of threads, has this past on this device: the store refuses the record
--- that waits, as not next, for want of room or at an end of numbers, or none waits and none is known to be in the ring.
+-- No lane can go on, where a store of this layout, with so many lanes of threads, has this past on this device. The store refuses the
+-- record that waits, as not next, for want of room or at an end of numbers; or none waits, and none is known to be in the ring.
 pub record AreStuck (l : Layout) (t : ℕ) (d : Device) (rings : List Receiving) (waiting : List (Option Record)) (s : Setting) (p : Past) : Type 0 where
   pub known : Known
   pub layout : known.layout ≡ l
@@ -147,6 +148,33 @@ module _ {D : Type 0} (device : D → Device) where
   abbrev pub RoundsUpTo : (most : Option ℕ) → Setting → Past → (x y : Parts D) → Result ℕ StoreError → Type 0
   RoundsUpTo most s p x y answer = WorksUpTo most (y.is_settled ≡ true) s p x y answer
 
+  -- So many records were applied, and shared equally among the lanes: of each at least its part was applied, or at some moment of the drain it
+  -- couldn't go on.
+  pub record SharesOut (n : ℕ) (x y : Parts D) : Type 0 where
+    pub drained : Taking D
+    pub shares : SharesBound device n (taking_of x) drained
+    pub received : (l : ℕ) → received_of y.rings l ≡ received_of drained.rings l
+    pub waiting : y.waiting ≡ drained.waiting
+
+  -- a call that reaches its bound shares it so
+  abbrev pub SharesUpTo : (most : Option ℕ) → (x y : Parts D) → Result ℕ StoreError → Type 0
+  SharesUpTo most x y answer = IfOk answer (λ n. IsAt most n → SharesOut n x y)
+
+  -- A round of a helper of this heap, of at most so many records where a bound is told.
+  pub record MakesRound (h : Home) (most : Option ℕ) (x y : Parts D) (answer : Result ℕ StoreError) : Type 0 where
+    -- A round with a bound applies at most so many records. If it applied fewer, and the store hadn't failed, no record that waits or is
+    -- known to be in a ring could be applied then.
+    pub rounds : (s : Setting) (p : Past) → IsServing device x s p → RoundsUpTo most s p x y answer
+    -- A round that reaches its bound shares it equally among the lanes: of each at least the bound divided by their number was applied, or
+    -- at some moment of the drain it couldn't go on.
+    pub shares : SharesUpTo most x y answer
+    pub goes_on : HasGoneOn h x y
+    -- While threads go on, a round sees one legal history. What it took of each lane, up to the last release, is the beginning of what that
+    -- history logs of the lane. So it is whatever the round answers, unless the store had failed.
+    pub seen : x.store.known.has_failed ≡ false → HasSeen h y
+    -- The history that a round sees goes on from the one that the helper had seen before.
+    pub later : GoesOn y.seat.view.history x.seat.view.history
+
   -- all that was applied is durable, by some past that the helper serves, so that it may be published
   abbrev pub MayBePublished : Parts D → Type 0
   MayBePublished x = (s : Setting) × (p : Past) × IsServing device x s p × IsDurable x.store.known s p
@@ -196,7 +224,7 @@ module _ {D : Type 0} (device : D → Device) where
     -- A closing takes at most two of the control's sequences, in whatever a crash leaves.
     pub shown : LeavesOnly (device x.store.disk) (device (disk_of answer)) (ShowsUpTo x.store.known.layout (x.store.known.committed.sequence + 2))
 
-  -- Sessions that are complete and hold nothing meet the rings of a helper of this past: what they sent is applied, made durable and
+  -- Sessions that are complete and hold nothing meet the rings of a helper of this past. What they sent is applied, made durable and
   -- acknowledged, and the words at the end are those of its history; or the store stops that.
   pub record HasFinished (h : Home) (seat : Helping) (ended : List Ended) (p : Past) (x : Taking D) (now : Device) (answer : Result Final CloseError) : Type 0 where
     pub ok : IsBehind seat x.store.known.threads p → StandForCuts seat x.store.known.threads p →

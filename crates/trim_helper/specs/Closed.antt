@@ -30,8 +30,8 @@ use Rattle.trim_helper.specs.Rings.{stream}
 use Rattle.trim_helper.specs.Taken.{trimmed_of}
 
 -- One legal history has these threads' views as its parts, and the store has applied its logs since, lane by
--- lane. Whatever a crash leaves now shows the acknowledged cut of that past, so that recovery takes it, and it stands for the history's heap with
--- all its sections: after it the persistent fields have these values, and the transient ones begin anew. None of the threads was told of more sections than were acknowledged before, nor of a
+-- lane. Whatever a crash leaves now shows the acknowledged cut of that past, so that recovery accepts it. It stands for the history's heap
+-- with all its sections: after recovery the persistent fields have these values, and the transient ones begin anew. None of the threads was told of more sections than were acknowledged before, nor of a
 -- place past what was trimmed. The history goes on from the one that the helper's seat had seen; and each count of sections that a thread
 -- last read, the helper had published, and it is that of a whole, closed cut of the history's log.
 pub record IsClosedDown (k : Plan) (l : Layout) (parts : List Part) (p : Past) (seat : Helping) (since d : Device) : Type 0 where

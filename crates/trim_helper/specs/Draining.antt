@@ -1,5 +1,5 @@
 -- How rings are drained: each function's call as one relation (this project's own).
-use Rattle.std.specs.Prelude.{ℕ, ◌≡◌, ◌≢◌, ◌+◌, ◌*◌, ◌<◌, ◌≤◌, if◌then◌else◌, Bool, true, false, List, ◌++◌, length, Option, Result, Ok, Err, IfOk, IfErr, OnErr}
+use Rattle.std.specs.Prelude.{ℕ, ◌≡◌, ◌≢◌, ◌+◌, ◌*◌, ◌/◌, ◌<◌, ◌≤◌, ◌⊎◌, if◌then◌else◌, Bool, true, false, List, ◌++◌, length, Option, Result, Ok, Err, IfOk, IfErr, OnErr}
 use Rattle.heap_model.specs.declared.event.Event.{Event}
 use Rattle.thread_rings.specs.declared.ring_records.TheConstants.{MOST_RING_RECORDS}
 use Rattle.heap_model.specs.declared.record.Record.{Record}
@@ -10,12 +10,13 @@ use Rattle.block_disk.specs.Device.{Device}
 use Rattle.heap_model.specs.Past.{Past, applied}
 use Rattle.heap_model.specs.declared.store_error.StoreError.{StoreError}
 use Rattle.heap_model.specs.declared.store_error.StoreError.TheVariants.{Failed}
-use Rattle.trim_helper.specs.Bounds.{IsBelow, IsWithin}
+use Rattle.trim_helper.specs.Bounds.{IsAt, IsBelow, IsWithin}
 use Rattle.trim_helper.specs.Moves.{SameRings, most_room}
 use Rattle.trim_helper.specs.Rings.{received_of, known_of}
 use Rattle.trim_helper.specs.Seen.{KeepsTold}
 use Rattle.trim_helper.specs.Serving.{HoldHistory}
-use Rattle.trim_helper.specs.Taken.{Taking, HasTaken, Advances, IsLaneStuck, IsStuckAt, AllStuck, applied_more}
+use Rattle.trim_helper.specs.Taken.{Taking, HadTurn, HasGone, HasTaken, Advances, IsLaneStuck, IsStuckAt, AllStuck, applied_more}
+use Rattle.trim_helper.specs.declared.draining.TheConstants.{LOOKS}
 
 -- how many records went, where it answers whether one did
 abbrev pub counted : Result Bool StoreError → Result ℕ StoreError
@@ -39,14 +40,20 @@ module _ {D : Type 0} (device : D → Device) where
   -- One lane's next record is applied, if one is known and it is next: it answers whether.
   pub record AppliesNext (lane : ℕ) (x y : Taking D) (answer : Result Bool StoreError) : Type 0 where
     pub takes : Takes x y (counted answer)
+    pub gone : IfOk (counted answer) (λ n. HasGone n lane x y)
     pub rests : IfOk answer (λ gone. gone ≡ false → Rests lane x y)
 
   -- At most so many of one lane's records are applied, as long as the next one can be.
   pub record AppliesLane (lane most : ℕ) (x y : Taking D) (answer : Result ℕ StoreError) : Type 0 where
     pub takes : Takes x y answer
     pub within : IfOk answer (λ n. n ≤ most)
+    pub gone : IfOk answer (λ n. HasGone n lane x y)
     pub stuck : IfOk answer (λ n. n < most → IsStuckAt device y lane)
     pub rests : IfOk answer (λ n. n ≡ 0 → 0 < most → Rests lane x y)
+
+  -- each lane had its turn, for an equal part of so many records, rounded down
+  abbrev pub HadParts : (most : ℕ) → (x y : Taking D) → Type 0
+  HadParts most x y = (l : ℕ) → l < length x.rings → HadTurn device (most / length x.rings) l x y
 
   -- At most so many of the lanes' records are applied, in turn, as long as the next one can be. Where some might be and none was, none can
   -- be.
@@ -54,6 +61,8 @@ module _ {D : Type 0} (device : D → Device) where
     pub takes : Takes x y answer
     pub within : IfOk answer (λ n. n ≤ most)
     pub stuck : IfOk answer (λ n. n ≡ 0 → 0 < most → AllStuck device y)
+    -- each lane could have an equal part, rounded down
+    pub parts : IfOk answer (λ n. HadParts most x y)
 
   -- where the rings hold the logs of one legal history, all of it is applied
   abbrev pub HasAll : Taking D → Type 0
@@ -65,6 +74,7 @@ module _ {D : Type 0} (device : D → Device) where
     pub within : IfOk answer (λ n. n ≤ most)
     pub stuck : IfOk answer (λ n. n < most → AllStuck device y)
     pub whole : IfOk answer (λ n. n < most → HasAll y)
+    pub parts : IfOk answer (λ n. n ≡ most → HadParts most x y)
 
   -- So many records were applied of what the rings held in so many looks at them: of each lane at most a ring's a look.
   pub record Drained (looks : ℕ) (x y : Taking D) (n : ℕ) : Type 0 where
@@ -88,11 +98,27 @@ module _ {D : Type 0} (device : D → Device) where
     -- A store that has failed stays as it is, and nothing is applied.
     pub still : x.store.known.has_failed ≡ true → (n ≡ 0) × (y.store ≡ x.store)
 
+  -- At some moment of a drain the lane couldn't go on: nothing more was known of its ring, or the store refused the record that waits.
+  pub record WasStuck (lane : ℕ) (x y : Taking D) : Type 0 where
+    pub moment : Taking D
+    pub before : ℕ
+    pub since : ℕ
+    pub first : Drained LOOKS x moment before
+    pub later : Drained LOOKS moment y since
+    pub stuck : IsStuckAt device moment lane
+
+  -- Each lane had an equal part of so many records, rounded down: at least so many of its records were applied, or at some moment it
+  -- couldn't go on.
+  abbrev pub SharesBound : (most : ℕ) → (x y : Taking D) → Type 0
+  SharesBound most x y = (l : ℕ) → l < length x.rings → HasGone (most / length x.rings) l x y ⊎ WasStuck l x y
+
   -- The rings are looked at, at most so often, and each time the lanes go on until none can, or so many records were applied.
   pub record DrainsRings (looks : ℕ) (most : Option ℕ) (x y : Taking D) (answer : Result ℕ StoreError) : Type 0 where
     pub ok : IfOk answer (λ n. Drained looks x y n)
     -- A drain with a bound applies at most so many records.
     pub within : IfOk answer (λ n. IsWithin most n)
+    -- A drain that reaches its bound shares it equally: no lane is left out for another one.
+    pub shares : IfOk answer (λ n. IsAt most n → SharesBound n x y)
     -- What a refused drain had applied stands.
     pub kept : OnErr answer ((n : ℕ) × Drained looks x y n)
     -- A drain that applied fewer than its bound leaves no lane that can go on.

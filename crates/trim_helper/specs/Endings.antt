@@ -32,8 +32,8 @@ place_read s = noted (32 + (lane_of s.view).0) s.view.notes
 abbrev pub part_at : Sitting → Part
 part_at s = record { lane = (lane_of s.view).0; events = s.view.events; count = count_read s; place = place_read s }
 
--- What is known of a session that has ended: its seat's view has its lane; what it sent is the log of its events, within the limits by the
--- trimmed place that it last read; it counts what it holds; and its ring is the lane's.
+-- What is known of a session that has ended. Its seat's view has its lane. What it sent is the log of its events, within the limits by the
+-- trimmed place that it last read. It counts what it holds, and its ring is the lane's.
 pub record IsEnded (h : Home) (capacity : ℕ) (rings : Rings) (e : Ended) : Type 0 where
   pub seat : IsSeatOf h e.seat
   pub lane : e.lane.0 ≡ (lane_of e.seat.view).0

@@ -13,7 +13,8 @@ use Rattle.trim_helper.specs.Serving.{Part, Among}
 abbrev pub HoldsNothing : Setting → List Event → Type 0
 HoldsNothing s events = length (holding (map action (own_log s events))) ≡ 0
 
--- Of each of these lanes, what was received and what is left is what was sent, which is the log of its events; it keeps to the limits, and it holds nothing.
+-- What was received of each of these lanes, and what is left, is what was sent: the log of its events. It keeps to the limits, and the lane
+-- holds nothing.
 pub record HaveMet (s : Setting) (rings : List Receiving) (parts : List Part) (capacity : ℕ) : Type 0 where
   pub whole : (x : Part) → Among parts x → received_of rings x.lane ++ known_of rings x.lane ≡ sent_of s x.events
   pub limits : (x : Part) → Among parts x → KeepsLimits x.place capacity (own_log s x.events)

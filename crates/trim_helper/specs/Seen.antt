@@ -1,7 +1,7 @@
 -- What the helper has seen of the one history, and what of it stands for what it took of the rings (this project's own).
 use Rattle.std.specs.Prelude.{ℕ, zero, suc, ◌≡◌, List, [], ◌∷◌, ◌++◌, Some}
 use Rattle.thread_rings.specs.Following.{Whose, to_release}
-use Rattle.thread_rings.specs.Rings.{Receiving, received, whose_received}
+use Rattle.thread_rings.specs.Rings.{KeepsWitness, Receiving, received, whose_received}
 use Rattle.heap_model.specs.declared.record.Record.{Record}
 use Rattle.heap_model.specs.declared.event.Event.{Event}
 use Rattle.heap_model.specs.Log.{lane}
@@ -24,8 +24,8 @@ pub record SameSight (h k : Helping) : Type 0 where
 abbrev pub BeginsLog : Plan → (lane : ℕ) → List (ℕ × Event) → List Record → Type 0
 BeginsLog k l h log = (later : List Record) × (sent_of (setting_of k) (lane l h) ≡ log ++ later)
 
--- The ring is of this lane of the helper's heap; and where it keeps no witness, what was taken of it, up to the last release, is the beginning
--- of what the history that the helper has seen logs of the lane.
+-- The ring is of this lane of the helper's heap. Where it keeps no witness, what was taken of it up to the last release is the beginning of
+-- what the seen history logs of the lane.
 pub record SeesOne (h : Helping) (lane : ℕ) (c : Receiving) : Type 0 where
   pub whose : whose_received c ≡ Some (own_lane h lane)
   pub seen : c.told ≡ [] → BeginsLog h.view.plan lane h.view.history (to_release (received c))
@@ -37,7 +37,7 @@ SeesFrom h l (c ∷ cs) = SeesOne h l c × SeesFrom h (suc l) cs
 
 -- What was taken of a ring: it is of the lane that it was of; and where it keeps no witness now, it kept none, and no release was taken.
 abbrev pub KeepsOne : (old new : Receiving) → Type 0
-KeepsOne c d = (whose_received d ≡ whose_received c) × (d.told ≡ [] → (c.told ≡ []) × (to_release (received d) ≡ to_release (received c)))
+KeepsOne c d = (whose_received d ≡ whose_received c) × KeepsWitness c d
 
 -- and of each
 abbrev pub KeepsTold : (old new : List Receiving) → Type 0

@@ -39,8 +39,8 @@ pub record IsDurable (x : Known) (s : Setting) (p : Past) : Type 0 where
 abbrev pub IsStop : StoreError → Type 0
 IsStop e = (e ≡ Failed) ⊎ ((e ≡ Worn) ⊎ (e ≡ Fault))
 
--- Why a round is refused, and whether the store runs on: the device had failed before, so that it doesn't; the control has to be written,
--- and its sequence is at its last value, so that it does; or a call of the device failed now, so that from now on it doesn't.
+-- Why a round is refused, and whether the store runs on. The device had failed before: it doesn't. The control has to be written, and its
+-- sequence is at its last value: it does. A call of the device failed now: it doesn't from now on.
 abbrev pub RefusesRound : (old new : Known) → StoreError → Type 0
 RefusesRound old new Failed = (old.has_failed ≡ true) × (new.has_failed ≡ true)
 RefusesRound old new Worn = (old.has_failed ≡ false) × (new.has_failed ≡ false) × (new.committed.sequence ≡ 2 ^ 64 - 1)

@@ -1,5 +1,5 @@
 -- What takes records from the rings: what it has taken, and what became of it.
-use Rattle.std.specs.Prelude.{ℕ, ◌≡◌, ◌≢◌, ◌+◌, ◌<◌, true, List, [], ◌++◌, length, Option, MatchOption}
+use Rattle.std.specs.Prelude.{ℕ, ◌≡◌, ◌≢◌, ◌+◌, ◌<◌, ◌≤◌, ◌⊎◌, true, List, [], ◌++◌, length, Option, MatchOption}
 use Rattle.thread_rings.specs.Rings.{Receiving}
 use Rattle.heap_model.specs.declared.record.Record.{Record}
 use Rattle.heap_model.specs.Setting.{Setting}
@@ -24,6 +24,10 @@ pub record Taking (D : Type 0) : Type 0 where
 -- these three
 abbrev pub with_rings : {D : Type 0} → stores.Parts D → List Receiving → List (Option Record) → Taking D
 with_rings store rings waiting = record { store = store; rings = rings; waiting = waiting }
+
+-- at least so many of the lane's records were applied: those that were taken of its ring, less the one that waits
+abbrev pub HasGone : {D : Type 0} → (part lane : ℕ) → (x y : Taking D) → Type 0
+HasGone n l x y = (length (received_of x.rings l) + length (held_back (waiting_in y.waiting l))) + n ≤ length (received_of y.rings l) + length (held_back (waiting_in x.waiting l))
 
 -- the past in which these were applied too, the newest first
 abbrev pub applied_more : List (ℕ × Record) → Past → Past
@@ -54,6 +58,8 @@ module _ {D : Type 0} (device : D → Device) where
     pub made : (s : Setting) (p : Past) → HasTaken x s p → (newer : List (ℕ × Record)) × (length newer ≡ n) × HasTaken y s (applied_more newer p)
     pub whole : (l : ℕ) → received_of y.rings l ++ known_of y.rings l ≡ received_of x.rings l ++ known_of x.rings l
     pub left : known_sum x.rings + held_sum x.waiting ≡ (known_sum y.rings + held_sum y.waiting) + n
+    -- of no lane what was applied grows less
+    pub rises : (l : ℕ) → HasGone 0 l x y
     pub same : SameRings x.rings y.rings
     -- where a ring keeps no witness now, no release was taken of it
     pub told : KeepsTold x.rings y.rings
@@ -74,3 +80,16 @@ module _ {D : Type 0} (device : D → Device) where
   -- no lane does
   abbrev pub AllStuck : Taking D → Type 0
   AllStuck x = (lane : ℕ) → lane < length x.rings → IsStuckAt x lane
+
+  -- At some moment the lane couldn't go on.
+  pub record RanOut (lane : ℕ) (x y : Taking D) : Type 0 where
+    pub moment : Taking D
+    pub before : ℕ
+    pub since : ℕ
+    pub first : Advances x moment before
+    pub later : Advances moment y since
+    pub stuck : IsStuckAt moment lane
+
+  -- the lane had its turn: so many of its records were applied, or at some moment it couldn't go on
+  abbrev pub HadTurn : (part lane : ℕ) → (x y : Taking D) → Type 0
+  HadTurn n l x y = HasGone n l x y ⊎ RanOut l x y

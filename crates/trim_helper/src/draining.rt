@@ -2,11 +2,12 @@
 ghost use Rattle.std.specs.Prelude.{◌≡◌, ◌<◌, ◌≤◌, Some, length};
 ghost use Rattle.thread_rings.specs.declared.ring_records.TheConstants.{MOST_RING_RECORDS};
 ghost use Rattle.trim_helper.specs.declared.draining.TheConstants.{LOOKS};
+ghost use Rattle.trim_helper.specs.Bounds.{IsShare};
 ghost use Rattle.trim_helper.specs.Draining.{DrainsRings, Empties, AppliesNext, AppliesLane, AppliesLanes};
 ghost use Rattle.trim_helper.specs.Moves.{most_room};
 ghost use Rattle.trim_helper.specs.Taken.{with_rings};
 
-use crate::rings::{clear_waiting, fetch, look};
+use crate::rings::{clear_waiting, fetch, has_nothing, have_nothing, look};
 use block_disk::Disk;
 use heap_model::{Lane, Record, StoreError};
 use law_histories::{log_law, next_law, own_log_law};
@@ -76,11 +77,11 @@ pub fn apply_lane<D: Disk>(
 }
 
 // The next lane's part of what remains of a bound, where so many lanes are left: an equal part, rounded up. So a bound of at least one
-// record a lane leaves no lane out.
+// record for each lane leaves no lane out.
 fn share_of(remaining: u64, lanes: usize) -> u64
     requires lanes { 0 < lanes }
-    ensures within { result ≤ remaining }
-    ensures some { 0 < remaining → 0 < result }
+    // The part is at least any equal part that all of the lanes can have, and leaves the others theirs.
+    ensures { IsShare remaining lanes result }
 {
     if remaining == 0 {
         0
@@ -104,6 +105,10 @@ pub fn apply_lanes<D: Disk>(
     let lanes = rings.len();
     let mut went = 0u64;
     for lane in 0..lanes {
+        // An idle lane costs a look at two words.
+        if has_nothing(rings, waiting, lane) {
+            continue;
+        }
         let share = share_of(most - went, lanes - lane);
         match apply_lane(store, rings, waiting, lane, share) {
             Ok(gone) => went += gone,
@@ -131,6 +136,9 @@ pub fn drain_known<D: Disk>(
     own_log_law();
     let mut count = 0u64;
     'turns: while count < most {
+        if have_nothing(rings, waiting) {
+            return Ok(count);
+        }
         match apply_lanes(store, rings, waiting, most - count) {
             Ok(went) => {
                 if went == 0 {
@@ -142,27 +150,6 @@ pub fn drain_known<D: Disk>(
         }
     }
     Ok(count)
-}
-
-/// Looks how many records are in the rings, and applies what is next in its lane of those, until nothing is or `most` were applied.
-/// Answers how many it applied.
-fn drain_once<D: Disk>(
-    store: &mut RoundStore<D>,
-    rings: &mut [Receiver],
-    waiting: &mut [Option<Record>],
-    most: u64,
-) -> Result<u64, StoreError>
-    requires slots { length waiting.old ≡ 32 }
-    requires few { length rings.old ≤ 32 }
-    requires room { most_room rings.old ≤ MOST_RING_RECORDS }
-    requires lanes { length rings.old ≡ store.old.known.threads }
-    ensures { DrainsRings D.device 1 (Some most) (with_rings store.old rings.old waiting.old) (with_rings store.new rings.new waiting.new) result }
-{
-    look(rings);
-    match drain_known(store, rings, waiting, most) {
-        Ok(count) => Ok(count),
-        Err(reason) => Err(reason),
-    }
 }
 
 /// Looks at the rings and applies what is next in its lane, again and again until nothing was, it has looked [`LOOKS`] times, or
@@ -180,11 +167,15 @@ pub fn drain_rings<D: Disk>(
     ensures { DrainsRings D.device LOOKS (Some most) (with_rings store.old rings.old waiting.old) (with_rings store.new rings.new waiting.new) result }
 {
     let mut count = 0u64;
-    for look in 0..LOOKS {
-        match drain_once(store, rings, waiting, most - count) {
+    for again in 0..LOOKS {
+        look(rings);
+        match drain_known(store, rings, waiting, most - count) {
             Ok(more) => {
                 count += more;
                 if more == 0 {
+                    return Ok(count);
+                }
+                if count == most {
                     return Ok(count);
                 }
             }

@@ -4,7 +4,8 @@ ghost use Rattle.store_rounds.specs.Store.{HasPast};
 ghost use Rattle.heap_model.specs.Setting.{Setting};
 ghost use Rattle.monitor.specs.Views.{GoesOn};
 ghost use Rattle.heap_model.specs.Past.{Past, no_past};
-ghost use Rattle.trim_helper.specs.Calls.{Drains, DrainsUpTo, HasGoneOn, MayBePublished, Publishes, RoundsUpTo, SettlesUpTo};
+ghost use Rattle.trim_helper.specs.Calls.{Drains, DrainsUpTo, HasGoneOn, MakesRound, MayBePublished, Publishes};
+ghost use Rattle.trim_helper.specs.Calls.{SettlesUpTo, SharesUpTo};
 ghost use Rattle.trim_helper.specs.Heard.{HasSeen, Hears};
 ghost use Rattle.trim_helper.specs.Hearing.{IsNoted};
 ghost use Rattle.trim_helper.specs.Helping.{IsHelper};
@@ -53,9 +54,9 @@ impl<D: Disk> Model for Helper<D> {
 }
 
 impl<D: Disk> Helper<D> {
-    /// The helper of a store that runs and was told nothing, with the ends of the rings of the threads' lanes, lane i's as the i-th, from
-    /// which nothing was taken, and with the helper's seat, of the heap whose lanes' rings they are, which has published nothing. All is
-    /// settled: the first round makes no device call unless something came.
+    /// The helper of a store that runs and has applied nothing. The rings are those of the threads' lanes, lane i's as the i-th, and nothing
+    /// was taken from them. The seat is that of their heap, and has published nothing. All is settled: the first round makes no device
+    /// call unless something came.
     pub fn new(store: RoundStore<D>, rings: Vec<Receiver>, seat: HelperSeat) -> Helper<D>
         requires lanes { vec_len rings ≡ store.known.threads }
         requires rooms { most_room rings.items ≤ MOST_RING_RECORDS }
@@ -129,40 +130,25 @@ impl<D: Disk> Helper<D> {
         catch_up(shared, &mut self.rings, &mut self.seat);
     }
 
-    /// The first half of a round. It drains the rings, hears what they tell of the one history, makes durable what was applied,
-    /// acknowledges its stable cut and forgets what is acknowledged, so that each lane has its area but for the records that aren't
-    /// acknowledged. It publishes nothing. It answers how many records it applied. With nothing applied since the last round that
-    /// answered Ok, or since the opening, it makes no device call, and isn't refused.
+    /// The first half of a round of at most `most` records. It drains the rings, hears what they tell of the one history, makes durable
+    /// what was applied, acknowledges its stable cut and forgets what is acknowledged, so that each lane has its area but for the records
+    /// that aren't acknowledged. It publishes nothing. It answers how many records it applied. With nothing applied since the last round
+    /// that answered Ok, or since the opening, it makes no device call, and isn't refused.
+    ///
+    /// A drain that reaches the bound stops there, and what is left in the rings waits for the next call. Each lane gets an equal part of
+    /// what remains of the bound, rounded up. `None` is no bound.
     ///
     /// Refusals: `Failed`; `Worn`: a control must be written, and its sequence is at its last value; `Fault`: a call of the device
     /// failed now. What was done before one stands.
-    pub fn settle(&mut self, shared: &Shared) -> Result<u64, StoreError>
-        requires seat { IsHelper shared.now self.old.seat }
-        requires lanes { shared.now.plan.lanes ≡ self.old.store.known.threads }
-        // Settling makes durable what was applied, acknowledges its stable cut and trims that, by a run of the
-        // store. Unless the store had failed, no record that waits or is known to be in a ring could be applied then.
-        ensures settles { (s : Setting) (p : Past) → IsServing D.device self.old s p → SettlesUpTo D.device None s p self.old self.new result }
-        // After Ok, what is acknowledged may be published.
-        ensures ready { OnOk result (MayBePublished D.device self.new) }
-        // Settling publishes nothing: what the sessions may have read is what was published before.
-        ensures noted { IsNoted self.old.seat self.new.seat }
-        ensures goes_on { HasGoneOn shared.now self.old self.new }
-        // Unless the store had failed, the helper has seen what it took of each ring, up to the last release of its lane.
-        ensures seen { self.old.store.known.has_failed ≡ false → HasSeen shared.now self.new }
-        // The history that settling sees goes on from the one that the helper had seen before.
-        ensures later { GoesOn self.new.seat.view.history self.old.seat.view.history }
-    {
-        self.bounded_settle(shared, None)
-    }
-
-    /// [`settle`](Helper::settle) of at most `most` records: a drain that reaches the bound stops there, and what is left in the rings
-    /// waits for the next call. Each lane gets an equal part of what remains of the bound, rounded up. `None` is no bound.
-    pub fn bounded_settle(&mut self, shared: &Shared, most: Option<u64>) -> Result<u64, StoreError>
+    pub fn settle(&mut self, shared: &Shared, most: Option<u64>) -> Result<u64, StoreError>
         requires seat { IsHelper shared.now self.old.seat }
         requires lanes { shared.now.plan.lanes ≡ self.old.store.known.threads }
         // Settling with a bound applies at most so many records. It makes durable what was applied, acknowledges its
         // stable cut and trims that. If it applied fewer, and the store hadn't failed, no record could be applied then.
         ensures settles { (s : Setting) (p : Past) → IsServing D.device self.old s p → SettlesUpTo D.device most s p self.old self.new result }
+        // Settling that reaches its bound shares it equally among the lanes: of each at least the bound divided by their number was applied,
+        // or at some moment of the drain it couldn't go on.
+        ensures shares { SharesUpTo D.device most self.old self.new result }
         // After Ok, what is acknowledged may be published.
         ensures ready { OnOk result (MayBePublished D.device self.new) }
         // Settling publishes nothing: what the sessions may have read is what was published before.
@@ -212,36 +198,23 @@ impl<D: Disk> Helper<D> {
     pub fn round(&mut self, shared: &Shared) -> Result<u64, StoreError>
         requires seat { IsHelper shared.now self.old.seat }
         requires lanes { shared.now.plan.lanes ≡ self.old.store.known.threads }
-        ensures rounds { (s : Setting) (p : Past) → IsServing D.device self.old s p → RoundsUpTo D.device None s p self.old self.new result }
-        ensures goes_on { HasGoneOn shared.now self.old self.new }
-        // While threads go on, a round sees one legal history. What it took of each lane, up to the last release, is
-        // the beginning of what that history logs of the lane. So it is whatever the round answers, where the store
-        // hadn't failed.
-        ensures seen { self.old.store.known.has_failed ≡ false → HasSeen shared.now self.new }
-        // The history that a round sees goes on from the one that the helper had seen before.
-        ensures later { GoesOn self.new.seat.view.history self.old.seat.view.history }
+        // A round is one with no bound.
+        ensures { MakesRound D.device shared.now None self.old self.new result }
     {
         self.bounded_round(shared, None)
     }
 
-    /// A round of at most `most` records: [`bounded_settle`](Helper::bounded_settle), and then, if that answered Ok,
-    /// [`publish`](Helper::publish). So a round stays short, however much the rings hold. What is left in them waits for
-    /// the next round. `None` is no bound. It is refused as [`round`](Helper::round) is.
+    /// A round of at most `most` records: [`settle`](Helper::settle), and then, if that answered Ok, [`publish`](Helper::publish). So a
+    /// round stays short, however much the rings hold. What is left in them waits for the next round. `None` is no bound. It is refused
+    /// as [`round`](Helper::round) is.
     pub fn bounded_round(&mut self, shared: &Shared, most: Option<u64>) -> Result<u64, StoreError>
         requires seat { IsHelper shared.now self.old.seat }
         requires lanes { shared.now.plan.lanes ≡ self.old.store.known.threads }
-        // A round with a bound applies at most so many records. If it applied fewer, and the store hadn't failed, no
-        // record that waits or is known to be in a ring could be applied then.
-        ensures rounds { (s : Setting) (p : Past) → IsServing D.device self.old s p → RoundsUpTo D.device most s p self.old self.new result }
-        ensures goes_on { HasGoneOn shared.now self.old self.new }
-        // While threads go on, a round sees one legal history. What it took of each lane, up to the last release, is
-        // the beginning of what that history logs of the lane. So it is whatever the round answers, where the store
-        // hadn't failed.
-        ensures seen { self.old.store.known.has_failed ≡ false → HasSeen shared.now self.new }
-        // The history that a round sees goes on from the one that the helper had seen before.
-        ensures later { GoesOn self.new.seat.view.history self.old.seat.view.history }
+        // A round applies what is next, within the bound, makes it durable, acknowledges and publishes its stable cut. It shares the bound
+        // equally among the lanes, and sees one legal history, which has all that it applied.
+        ensures { MakesRound D.device shared.now most self.old self.new result }
     {
-        match self.bounded_settle(shared, most) {
+        match self.settle(shared, most) {
             Ok(count) => {
                 self.publish(shared);
                 Ok(count)

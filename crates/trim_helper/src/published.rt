@@ -64,8 +64,8 @@ pub fn gather(shared: &Shared, helper: &mut HelperSeat, seat: Seat)
     shared.gather(helper, seat);
 }
 
-/// Nobody goes on: one legal history has the lanes that were taken in as its parts and goes on from what the helper had seen, lock words,
-/// fat words, masks and fields spell its state, and nobody read more than was published, nor a count that wasn't.
+/// Nobody goes on. One legal history has the lanes that were taken in as its parts, and goes on from what the helper had seen. Lock words,
+/// fat words, masks and fields spell its state. Each count that a lane read was published.
 pub fn close(shared: Shared, helper: HelperSeat) -> Finals
     requires helper { IsHelper shared helper }
     ensures history { TellsHistory shared.plan helper result }

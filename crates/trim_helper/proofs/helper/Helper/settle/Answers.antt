@@ -3,12 +3,13 @@ use Rattle.heap_model.specs.declared.store_error.StoreError.TheVariants.{Fault}
 use Rattle.monitor.specs.Seats.{Helping}
 use Rattle.trim_helper.specs.Calls.{DrainsUpTo, MayBePublished}
 use Rattle.trim_helper.specs.Heard.{HasSeen, Hears}
+use Rattle.trim_helper.specs.Parts.{taking_of}
 use Rattle.trim_helper.proofs.HeardRings.{drained_parts, goes_on_heard, round_heard, rounds_heard}
 use Rattle.trim_helper.proofs.Rounding.{passed_on}
 use Rattle.trim_helper.proofs.Noting.{noted_same, noted_then}
 use Rattle.trim_helper.proofs.RingMoves.{same_refl}
 use Rattle.trim_helper.proofs.Rounds.{goes_on_drained, parts_from, rounds_done, rounds_failed, rounds_quiet, rounds_refused, same_serves, whole_still}
-use Rattle.trim_helper.proofs.helper.Helper.bounded_settle.Goals as goal
+use Rattle.trim_helper.proofs.helper.Helper.settle.Goals as goal
 
 -- nothing was heard
 pub returns-in-Err-clause-settles : goal.returns-in-Err-clause-settles
@@ -34,6 +35,9 @@ pub returns-then-self-clause-settles : goal.returns-then-self-clause-settles
 returns-then-self-clause-settles g c = λ s p serving. let hears = c.hear.ensures in
     round_heard g.D.Disk.device c.args.shared.now c.drain_within.new.self c.hear.new.self hears c.args.most s p c.args.self.now (Ok c.in-Ok.count)
     (rounds_quiet g.D.Disk.device s p c.args.self.now serving c.drain_within.new.self c.args.most c.in-Ok.count c.in-Ok.ensures (sym hears.settled ∙ ap (λ x. x.is_settled) (sym c.self.view_is) ∙ c.if-self.true))
+
+pub returns-then-self-clause-shares : goal.returns-then-self-clause-shares
+returns-then-self-clause-shares g c = λ at. record { drained = taking_of c.drain_within.new.self; shares = c.in-Ok.ensures.rings.shares at; received = c.hear.ensures.records.received; waiting = c.hear.ensures.waiting }
 
 pub returns-then-self-clause-noted : goal.returns-then-self-clause-noted
 returns-then-self-clause-noted g c = noted_then c.args.self.now.seat c.drain_within.new.self.seat c.hear.new.self.seat (noted_same c.args.self.now.seat c.drain_within.new.self.seat c.in-Ok.ensures.seat) c.hear.ensures.noted
@@ -110,6 +114,13 @@ returns-clause-settles g c = λ s p serving.
     rounds_heard g.D.Disk.device (parts_from w d.rings x.waiting x.is_settled d.seat) x.rings.items x.seat hears.records hears.noted c.args.most s p c.args.self.now (Ok c.in-Ok.count)
     (rounds_done g.D.Disk.device s p c.args.self.now serving z c.args.most c.in-Ok.count drains w c.if-self.false c.settle_and_trim.ensures.threads c.in_default.ensures.running c.in_default.ensures.settles c.settle_and_trim.ensures.takes
     c.settle_and_trim.ensures.cause.later)
+
+pub returns-clause-shares : goal.returns-clause-shares
+returns-clause-shares g c = λ at.
+    let x = c.self.inside in
+    let d = c.drain_within.new.self in
+    let hears : Hears c.args.shared.now d (parts_from x.store x.rings.items x.waiting x.is_settled x.seat) = subst (λ k. Hears c.args.shared.now d k) (sym c.self.view_is) c.hear.ensures in
+    record { drained = taking_of d; shares = c.in-Ok.ensures.rings.shares at; received = hears.records.received; waiting = hears.waiting }
 
 pub returns-clause-ready : goal.returns-clause-ready
 returns-clause-ready g c =
