@@ -665,11 +665,13 @@ def many_clients(tried):
         raise Wrong(f"a client without a descriptor: {outside.take()}")
     except TimeoutError:
         pass
-    used = processor_time(server)
+    used, begun = processor_time(server), time.monotonic()
     for n in range(1, 40):
         must(inside[0].ask("INCR", "k:9") == b":%d\r\n" % n, "one that is in")
         time.sleep(0.02)
-    must(processor_time(server) - used < 0.4, f"{processor_time(server) - used:.2f} s of the processor, for 40 counts and one that waits")
+    used, took = processor_time(server) - used, time.monotonic() - begun
+    # (A server that asks again and again takes all of a processor. On a busy machine counts take more, and longer.)
+    must(used < max(0.4, took / 4), f"{used:.2f} s of the processor in {took:.2f} s, for 40 counts and one that waits")
     resource.prlimit(server.process.pid, resource.RLIMIT_NOFILE, (soft, hard))
     outside.socket.settimeout(10)
     must(outside.take() == b"+PONG\r\n", "the one that waited")
