@@ -74,3 +74,8 @@ pub record MayTurn (l : Layout) (s : Setting) (records : List (ℕ × Record)) (
   pub others : (lane : ℕ) → l.lanes ≤ lane → undo_logs later lane ≡ []
   pub rows_fit : AreRows l rows
   pub unsettled : IsUnsettled l rows
+
+-- So it is for some heaps and records: what a call can ask for.
+abbrev pub CanTurn : Layout → Committed → Device → List HomeValue → (from : List LaneRow) → (fresh : ℕ → List UndoRecord) → (rows : List LaneRow) → Type 0
+CanTurn l c d cells from fresh rows =
+    (s : Setting) × (records : List (ℕ × Record)) × (heap : ℕ → ℕ) × (later : List (ℕ × Record)) × MayTurn l s records heap later c d cells from fresh rows

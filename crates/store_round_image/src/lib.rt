@@ -6,8 +6,6 @@
 #![tactic(auto)]
 
 mod cells;
-mod commit;
-mod records;
 mod turning;
 
 pub use cells::HomeValue;

@@ -38,8 +38,8 @@ pub record IsRoundOn (l : Layout) (t : ℕ) (s : Setting) (log : List (ℕ × Re
   pub heap : IsHeapOn l (from_heap s (kept_by s log cut)) (round_records t s log cut sections) c d
 
 -- What a round needs that takes these newer records on and acknowledges this cut, with these sections of the helper's: `fresh` has the
--- threads' newer records, and `helper` those of the sections; `places` are behind the cut's. The cells that it writes are of fields to which
--- a live record of the last round stores. Each other field to which no live record of this one stores has its kept value at home. Behind the
+-- threads' newer records, and `helper` those of the sections; `places` has, by lane, the place after the cut's. The cells that it writes are of fields to which
+-- a live record of the last round stores. Each other field to which no live record of this one stores has its kept value at home. After the
 -- threads' t lanes the image has the helper's, or none, and then there are no sections.
 pub record MayMake (l : Layout) (t : ℕ) (s : Setting) (log : List (ℕ × Record)) (cut : ℕ → ℕ) (sections : List HelperSection) (newer : List (ℕ × Record)) (later : List HelperSection)
     (c : Committed) (d : Device) (next : Cut) (places : List ℕ) (cells : List HomeValue) (fresh : ℕ → List UndoRecord) (helper : List UndoRecord) : Type 0 where
@@ -61,3 +61,9 @@ pub record MayMake (l : Layout) (t : ℕ) (s : Setting) (log : List (ℕ × Reco
   pub covered : (f : ℕ) → Contains (fields_of cells) f → has_store f (round_records t s log cut sections) ≡ true
   pub homes : (f : ℕ) → f < l.fields → s.is_logged f ≡ true →
       (has_store f (round_records t s (newer ++ log) (counts_of next) later) ≡ true) ⊎ Contains (fields_of cells) f ⊎ HasCell l f d.now.bytes (kept_by s (newer ++ log) (counts_of next) f)
+
+-- So it is for some logs and sections: what a call can ask for.
+abbrev pub CanMake : Layout → (t : ℕ) → Committed → Device → Cut → (places : List ℕ) → List HomeValue → (fresh : ℕ → List UndoRecord) → (helper : List UndoRecord) → Type 0
+CanMake l t c d next places cells fresh helper =
+    (s : Setting) × (log : List (ℕ × Record)) × (cut : ℕ → ℕ) × (sections : List HelperSection) × (newer : List (ℕ × Record)) × (later : List HelperSection)
+    × MayMake l t s log cut sections newer later c d next places cells fresh helper

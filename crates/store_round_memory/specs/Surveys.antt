@@ -56,6 +56,14 @@ pub record IsSurvey (objects fields : ℕ) (v : Survey) : Type 0 where
   pub room : fields ≤ vec_capacity v.changed
   pub marked : AreMarked v.changed.items v.marks.items
 
+-- the survey can be made of these records: it has a mark for each of their fields, and a number for each of their objects
+abbrev pub CanSurvey : Survey → List LaneRecord → Type 0
+CanSurvey v records = (objects : ℕ) × (fields : ℕ) × IsSurvey objects fields v × All (FitsLane 32 objects fields) records
+
+-- it stays one of as many objects and fields
+abbrev pub StaysSurvey : (old new : Survey) → Type 0
+StaysSurvey old new = (objects fields : ℕ) → IsSurvey objects fields old → IsSurvey objects fields new
+
 -- each number that the survey has of an object is one at which these records take it
 abbrev pub IsOfTakers : List (ℕ × Record) → Survey → Type 0
 IsOfTakers records v = (o : ℕ) → slice_index v.first.items o ≢ 0 → first_taken o records ≢ None
@@ -78,3 +86,7 @@ pub record FoundNothing (v : Survey) : Type 0 where
   pub changed : v.changed.items ≡ []
   pub marks : (f : ℕ) → is_marked v.marks.items f ≡ false
   pub first : (o : ℕ) → slice_index v.first.items o ≡ 0
+
+-- it tells of as many records as before, and of the same
+abbrev pub TellsAsBefore : (old new : Survey) → Type 0
+TellsAsBefore old new = (counts : List ℕ) (all older : List (ℕ × Record)) → TellsDownTo counts all older old → TellsDownTo counts all older new

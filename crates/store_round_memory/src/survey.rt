@@ -5,7 +5,7 @@ ghost use Rattle.heap_model.specs.declared.record.Record.{Record as AnyRecord};
 ghost use Rattle.heap_model.specs.Log.{log_from};
 ghost use Rattle.store_helper_sections.specs.HelperSections.{first_taken};
 ghost use Rattle.store_round_memory.specs.Counting.{is_kept as is_kept_of, without_taken};
-ghost use Rattle.store_round_memory.specs.Surveys.{Fits, FitsLane, FoundNothing, HasField, IsOfTakers, IsSortedByField, IsSurvey, NotesStore, TellsDownTo, is_marked};
+ghost use Rattle.store_round_memory.specs.Surveys.{CanSurvey, Fits, FitsLane, FoundNothing, HasField, IsOfTakers, IsSortedByField, IsSurvey, NotesStore, StaysSurvey, TellsAsBefore, TellsDownTo, is_marked};
 
 use crate::counting::lane_counts;
 use heap_model::{FieldId, Lane, LaneRecord, ObjectId, Record};
@@ -38,9 +38,9 @@ impl Survey {
 
     /// Surveys these records, of which the oldest is first; `counts` has how many of each lane's are kept.
     pub(crate) fn make(&mut self, records: &[LaneRecord], counts: &[u64; 32])
-        requires survey { (objects : ℕ) × (fields : ℕ) × IsSurvey objects fields self.old × All (FitsLane 32 objects fields) records.now }
+        requires survey { CanSurvey self.old records.now }
         requires takers { IsOfTakers (log_from records.now) self.old }
-        ensures survey { (objects fields : ℕ) → IsSurvey objects fields self.old → IsSurvey objects fields self.new }
+        ensures survey { StaysSurvey self.old self.new }
         ensures tells { TellsDownTo counts.now (log_from records.now) [] self.new }
         ensures sorted { IsSortedByField self.new.changed.items }
     {
@@ -51,9 +51,9 @@ impl Survey {
 
     // Forgets what was found. The time is linear in that and in the records.
     fn forget(&mut self, records: &[LaneRecord])
-        requires survey { (objects : ℕ) × (fields : ℕ) × IsSurvey objects fields self.old × All (FitsLane 32 objects fields) records.now }
+        requires survey { CanSurvey self.old records.now }
         requires takers { IsOfTakers (log_from records.now) self.old }
-        ensures survey { (objects fields : ℕ) → IsSurvey objects fields self.old → IsSurvey objects fields self.new }
+        ensures survey { StaysSurvey self.old self.new }
         ensures nothing { FoundNothing self.new }
     {
         unmark(&mut self.marks, &self.changed);
@@ -63,9 +63,9 @@ impl Survey {
 
     // Notes each record, the newest first.
     fn note_all(&mut self, records: &[LaneRecord], counts: &[u64; 32])
-        requires survey { (objects : ℕ) × (fields : ℕ) × IsSurvey objects fields self.old × All (FitsLane 32 objects fields) records.now }
+        requires survey { CanSurvey self.old records.now }
         requires nothing { FoundNothing self.old }
-        ensures survey { (objects fields : ℕ) → IsSurvey objects fields self.old → IsSurvey objects fields self.new }
+        ensures survey { StaysSurvey self.old self.new }
         ensures tells { TellsDownTo counts.now (log_from records.now) [] self.new }
     {
         let mut left = lane_counts(records);
@@ -79,8 +79,8 @@ impl Survey {
     // Puts the values in the order of their fields. Neighbours are then written one after the other, and a device that joins such writes
     // makes one of them.
     fn sort_changed(&mut self)
-        ensures survey { (objects fields : ℕ) → IsSurvey objects fields self.old → IsSurvey objects fields self.new }
-        ensures tells { (counts : List ℕ) (all older : List (ℕ × AnyRecord)) → TellsDownTo counts all older self.old → TellsDownTo counts all older self.new }
+        ensures survey { StaysSurvey self.old self.new }
+        ensures tells { TellsAsBefore self.old self.new }
         ensures sorted { IsSortedByField self.new.changed.items }
     {
         self.changed.sort_unstable_by_key(|change| change.field.0);
@@ -89,7 +89,7 @@ impl Survey {
     // Notes a record that is older than those noted.
     fn note(&mut self, next: Record, is_kept: bool)
         requires survey { (objects : ℕ) × (fields : ℕ) × IsSurvey objects fields self.old × Fits objects fields next }
-        ensures survey { (objects fields : ℕ) → IsSurvey objects fields self.old → IsSurvey objects fields self.new }
+        ensures survey { StaysSurvey self.old self.new }
         ensures tells { (counts : List ℕ) (all older : List (ℕ × AnyRecord)) (l : ℕ) → is_kept ≡ is_kept_of counts l older
             → TellsDownTo counts all ((l, next) ∷ older) self.old → TellsDownTo counts all older self.new }
     {

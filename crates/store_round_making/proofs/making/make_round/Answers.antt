@@ -21,35 +21,41 @@ turn_round-requires-clause-turns g c =
           c.skips-skipped.result c.from_rows-from.result c.next_rows-rows.result c.skips-skipped.ensures c.from_rows-from.ensures.lanes c.from_rows-from.ensures.rest c.next_rows-rows.ensures.lanes c.next_rows-rows.ensures.helper c.next_rows-rows.ensures.rest c.next_rows-rows.ensures.size,
     )
 
-pub returns-clause-ok : goal.returns-clause-ok
-returns-clause-ok g c = λ s log cut sections newer later may.
-    on_ok_two c.turn_round.result
-    (λ rows_are on. round_on c.args.layout.now c.args.threads s log cut sections newer later c.args.committed.now (g.D.Disk.device c.args.disk.now) c.args.next.now c.args.places.now c.args.cells.now (g.F.NewRecords.fresh c.args.fresh.now) c.args.helper.now may
-    c.skips-skipped.result c.from_rows-from.result c.next_rows-rows.result c.skips-skipped.ensures c.from_rows-from.ensures.lanes c.from_rows-from.ensures.rest c.next_rows-rows.ensures.lanes c.next_rows-rows.ensures.helper c.next_rows-rows.ensures.rest c.next_rows-rows.ensures.size
-    c.turn_round.new.committed (g.D.Disk.device c.turn_round.new.disk) rows_are on)
-    c.turn_round.ensures.rows
-    (c.turn_round.ensures.ok (from_heap s (kept_by s log cut)) (round_records c.args.threads s log cut sections) (kept_by s (newer ++ log) (counts_of c.args.next.now)) (round_records c.args.threads s (newer ++ log) (counts_of c.args.next.now) later)
-    (may_turn c.args.layout.now c.args.threads s log cut sections newer later c.args.committed.now (g.D.Disk.device c.args.disk.now) c.args.next.now c.args.places.now c.args.cells.now (g.F.NewRecords.fresh c.args.fresh.now) c.args.helper.now may
-    c.skips-skipped.result c.from_rows-from.result c.next_rows-rows.result c.skips-skipped.ensures c.from_rows-from.ensures.lanes c.from_rows-from.ensures.rest c.next_rows-rows.ensures.lanes c.next_rows-rows.ensures.helper c.next_rows-rows.ensures.rest c.next_rows-rows.ensures.size))
-
-pub returns-clause-any_moment : goal.returns-clause-any_moment
-returns-clause-any_moment g c = λ s log cut sections newer later may.
-    let l : Layout = c.args.layout.now in
-    weaker (g.D.Disk.device c.args.disk.now) (g.D.Disk.device c.turn_round.new.disk)
-    (ShowsEitherHeap l (from_heap s (kept_by s log cut)) (round_records c.args.threads s log cut sections) c.args.committed.now.rows (kept_by s (newer ++ log) (counts_of c.args.next.now)) (round_records c.args.threads s (newer ++ log) (counts_of c.args.next.now) later) c.next_rows-rows.result)
-    (Either c.args.layout.now c.args.threads s log cut sections newer later c.args.committed.now (g.D.Disk.device c.args.disk.now) c.args.next.now c.args.places.now c.args.cells.now (g.F.NewRecords.fresh c.args.fresh.now) c.args.helper.now may
-    c.skips-skipped.result c.from_rows-from.result c.next_rows-rows.result c.skips-skipped.ensures c.from_rows-from.ensures.lanes c.from_rows-from.ensures.rest c.next_rows-rows.ensures.lanes c.next_rows-rows.ensures.helper c.next_rows-rows.ensures.rest c.next_rows-rows.ensures.size)
-    (either_round c.args.layout.now c.args.threads s log cut sections newer later c.args.committed.now (g.D.Disk.device c.args.disk.now) c.args.next.now c.args.places.now c.args.cells.now (g.F.NewRecords.fresh c.args.fresh.now) c.args.helper.now may
-    c.skips-skipped.result c.from_rows-from.result c.next_rows-rows.result c.skips-skipped.ensures c.from_rows-from.ensures.lanes c.from_rows-from.ensures.rest c.next_rows-rows.ensures.lanes c.next_rows-rows.ensures.helper c.next_rows-rows.ensures.rest c.next_rows-rows.ensures.size)
-    (c.turn_round.ensures.any_moment (from_heap s (kept_by s log cut)) (round_records c.args.threads s log cut sections) (kept_by s (newer ++ log) (counts_of c.args.next.now)) (round_records c.args.threads s (newer ++ log) (counts_of c.args.next.now) later)
-    (may_turn c.args.layout.now c.args.threads s log cut sections newer later c.args.committed.now (g.D.Disk.device c.args.disk.now) c.args.next.now c.args.places.now c.args.cells.now (g.F.NewRecords.fresh c.args.fresh.now) c.args.helper.now may
-    c.skips-skipped.result c.from_rows-from.result c.next_rows-rows.result c.skips-skipped.ensures c.from_rows-from.ensures.lanes c.from_rows-from.ensures.rest c.next_rows-rows.ensures.lanes c.next_rows-rows.ensures.helper c.next_rows-rows.ensures.rest c.next_rows-rows.ensures.size))
-
-pub returns-clause-crash : goal.returns-clause-crash
-returns-clause-crash g c = λ s log cut sections newer later may. λ image left.
-    let l : Layout = c.args.layout.now in
-    either_round c.args.layout.now c.args.threads s log cut sections newer later c.args.committed.now (g.D.Disk.device c.args.disk.now) c.args.next.now c.args.places.now c.args.cells.now (g.F.NewRecords.fresh c.args.fresh.now) c.args.helper.now may
-    c.skips-skipped.result c.from_rows-from.result c.next_rows-rows.result c.skips-skipped.ensures c.from_rows-from.ensures.lanes c.from_rows-from.ensures.rest c.next_rows-rows.ensures.lanes c.next_rows-rows.ensures.helper c.next_rows-rows.ensures.rest c.next_rows-rows.ensures.size image
-    (c.turn_round.ensures.crash (from_heap s (kept_by s log cut)) (round_records c.args.threads s log cut sections) (kept_by s (newer ++ log) (counts_of c.args.next.now)) (round_records c.args.threads s (newer ++ log) (counts_of c.args.next.now) later)
-    (may_turn c.args.layout.now c.args.threads s log cut sections newer later c.args.committed.now (g.D.Disk.device c.args.disk.now) c.args.next.now c.args.places.now c.args.cells.now (g.F.NewRecords.fresh c.args.fresh.now) c.args.helper.now may
-    c.skips-skipped.result c.from_rows-from.result c.next_rows-rows.result c.skips-skipped.ensures c.from_rows-from.ensures.lanes c.from_rows-from.ensures.rest c.next_rows-rows.ensures.lanes c.next_rows-rows.ensures.helper c.next_rows-rows.ensures.rest c.next_rows-rows.ensures.size) image left)
+pub returns : goal.returns
+returns g c = record {
+  ok = λ s log cut sections newer later may.
+      on_ok_two c.turn_round.result
+      (λ rows_are on. round_on c.args.layout.now c.args.threads s log cut sections newer later c.args.committed.now (g.D.Disk.device c.args.disk.now) c.args.next.now c.args.places.now c.args.cells.now (g.F.NewRecords.fresh c.args.fresh.now) c.args.helper.now may
+      c.skips-skipped.result c.from_rows-from.result c.next_rows-rows.result c.skips-skipped.ensures c.from_rows-from.ensures.lanes c.from_rows-from.ensures.rest c.next_rows-rows.ensures.lanes c.next_rows-rows.ensures.helper c.next_rows-rows.ensures.rest c.next_rows-rows.ensures.size
+      c.turn_round.new.committed (g.D.Disk.device c.turn_round.new.disk) rows_are on)
+      c.turn_round.ensures.rows_are
+      (c.turn_round.ensures.ok (from_heap s (kept_by s log cut)) (round_records c.args.threads s log cut sections) (kept_by s (newer ++ log) (counts_of c.args.next.now)) (round_records c.args.threads s (newer ++ log) (counts_of c.args.next.now) later)
+      (may_turn c.args.layout.now c.args.threads s log cut sections newer later c.args.committed.now (g.D.Disk.device c.args.disk.now) c.args.next.now c.args.places.now c.args.cells.now (g.F.NewRecords.fresh c.args.fresh.now) c.args.helper.now may
+      c.skips-skipped.result c.from_rows-from.result c.next_rows-rows.result c.skips-skipped.ensures c.from_rows-from.ensures.lanes c.from_rows-from.ensures.rest c.next_rows-rows.ensures.lanes c.next_rows-rows.ensures.helper c.next_rows-rows.ensures.rest c.next_rows-rows.ensures.size));
+  worn = c.turn_round.ensures.worn;
+  no_call = c.turn_round.ensures.step.no_call;
+  no_other = c.turn_round.ensures.step.no_other;
+  err = c.turn_round.ensures.step.takes.err;
+  sequence = c.turn_round.ensures.step.takes.sequence;
+  any_moment = λ s log cut sections newer later may.
+      let l : Layout = c.args.layout.now in
+      weaker (g.D.Disk.device c.args.disk.now) (g.D.Disk.device c.turn_round.new.disk)
+      (ShowsEitherHeap l (from_heap s (kept_by s log cut)) (round_records c.args.threads s log cut sections) c.args.committed.now.rows (kept_by s (newer ++ log) (counts_of c.args.next.now)) (round_records c.args.threads s (newer ++ log) (counts_of c.args.next.now) later) c.next_rows-rows.result)
+      (Either c.args.layout.now c.args.threads s log cut sections newer later c.args.committed.now (g.D.Disk.device c.args.disk.now) c.args.next.now c.args.places.now c.args.cells.now (g.F.NewRecords.fresh c.args.fresh.now) c.args.helper.now may
+      c.skips-skipped.result c.from_rows-from.result c.next_rows-rows.result c.skips-skipped.ensures c.from_rows-from.ensures.lanes c.from_rows-from.ensures.rest c.next_rows-rows.ensures.lanes c.next_rows-rows.ensures.helper c.next_rows-rows.ensures.rest c.next_rows-rows.ensures.size)
+      (either_round c.args.layout.now c.args.threads s log cut sections newer later c.args.committed.now (g.D.Disk.device c.args.disk.now) c.args.next.now c.args.places.now c.args.cells.now (g.F.NewRecords.fresh c.args.fresh.now) c.args.helper.now may
+      c.skips-skipped.result c.from_rows-from.result c.next_rows-rows.result c.skips-skipped.ensures c.from_rows-from.ensures.lanes c.from_rows-from.ensures.rest c.next_rows-rows.ensures.lanes c.next_rows-rows.ensures.helper c.next_rows-rows.ensures.rest c.next_rows-rows.ensures.size)
+      (c.turn_round.ensures.any_moment (from_heap s (kept_by s log cut)) (round_records c.args.threads s log cut sections) (kept_by s (newer ++ log) (counts_of c.args.next.now)) (round_records c.args.threads s (newer ++ log) (counts_of c.args.next.now) later)
+      (may_turn c.args.layout.now c.args.threads s log cut sections newer later c.args.committed.now (g.D.Disk.device c.args.disk.now) c.args.next.now c.args.places.now c.args.cells.now (g.F.NewRecords.fresh c.args.fresh.now) c.args.helper.now may
+      c.skips-skipped.result c.from_rows-from.result c.next_rows-rows.result c.skips-skipped.ensures c.from_rows-from.ensures.lanes c.from_rows-from.ensures.rest c.next_rows-rows.ensures.lanes c.next_rows-rows.ensures.helper c.next_rows-rows.ensures.rest c.next_rows-rows.ensures.size));
+  any_sequence = c.turn_round.ensures.step.takes.any_sequence;
+  within = c.turn_round.ensures.step.takes.within;
+  crash = λ s log cut sections newer later may. λ image left.
+      let l : Layout = c.args.layout.now in
+      either_round c.args.layout.now c.args.threads s log cut sections newer later c.args.committed.now (g.D.Disk.device c.args.disk.now) c.args.next.now c.args.places.now c.args.cells.now (g.F.NewRecords.fresh c.args.fresh.now) c.args.helper.now may
+      c.skips-skipped.result c.from_rows-from.result c.next_rows-rows.result c.skips-skipped.ensures c.from_rows-from.ensures.lanes c.from_rows-from.ensures.rest c.next_rows-rows.ensures.lanes c.next_rows-rows.ensures.helper c.next_rows-rows.ensures.rest c.next_rows-rows.ensures.size image
+      (c.turn_round.ensures.crash (from_heap s (kept_by s log cut)) (round_records c.args.threads s log cut sections) (kept_by s (newer ++ log) (counts_of c.args.next.now)) (round_records c.args.threads s (newer ++ log) (counts_of c.args.next.now) later)
+      (may_turn c.args.layout.now c.args.threads s log cut sections newer later c.args.committed.now (g.D.Disk.device c.args.disk.now) c.args.next.now c.args.places.now c.args.cells.now (g.F.NewRecords.fresh c.args.fresh.now) c.args.helper.now may
+      c.skips-skipped.result c.from_rows-from.result c.next_rows-rows.result c.skips-skipped.ensures c.from_rows-from.ensures.lanes c.from_rows-from.ensures.rest c.next_rows-rows.ensures.lanes c.next_rows-rows.ensures.helper c.next_rows-rows.ensures.rest c.next_rows-rows.ensures.size) image left);
+  cause = c.turn_round.ensures.step.takes.cause;
+}
