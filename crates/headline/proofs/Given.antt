@@ -1,5 +1,5 @@
 -- What is kept of an image, recovery of that image gives.
-use Rattle.std.proofs.Common.{ℕ, ◌≡◌, List, Result, Ok, Err, IfErr, IfOk, MatchResult, sym, ap, ◌∙◌}
+use Rattle.std.proofs.Common.{ℕ, ◌≡◌, List, Ok, Err, IfErr, IfOk, sym, ap, ◌∙◌}
 use Rattle.heap_model.specs.declared.event.Event.{Event}
 use Rattle.heap_model.specs.Cuts.{counts_of}
 use Rattle.heap_model.specs.Setting.{Setting}

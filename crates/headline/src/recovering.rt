@@ -19,10 +19,10 @@ pub fn recover_left<D: Disk, E: Disk>(
     alloc: Global,
     left: E,
 ) -> Result<(Recovered<E>, Report), (E, RecoverError)>
-    // Of what a crash left at any moment of a round, recovery gives whole sections of the threads' history, each with all
-    // that it depends on, and with all that was acknowledged before the round.
+    // After a crash at any moment of a round, recovery gives whole sections of the threads' history, each with all that
+    // it depends on, and with all that was acknowledged before the round.
     ensures round { GivesRound D.device (E.device left).now.bytes result }
-    // Of what a crash leaves between two rounds, recovery gives all that is acknowledged by then.
+    // After a crash between two rounds, recovery gives all that is acknowledged by then.
     ensures now { GivesNow D.device (E.device left).now.bytes result }
 {
     round_law::<D>();
@@ -38,11 +38,11 @@ pub fn recover_left_of_host<E: Disk>(
     alloc: Global,
     left: E,
 ) -> Result<(Recovered<E>, Report), (E, RecoverError)>
-    // Of what a crash of a host's device left while threads ran, recovery gives whole sections of the threads' history,
-    // with all that was acknowledged when the host had made the calls that were handed over by then.
+    // After a crash of a host's device while threads ran, recovery gives whole sections of the threads' history, with
+    // all that was acknowledged when the host had made the calls that were handed over by then.
     ensures run { GivesHostRun (E.device left).now.bytes result }
-    // So it does of what a crash of the host's device left by the end of a round, by the history that the helper has seen
-    // at that end.
+    // So it does after a crash of the host's device by the end of a round, by the history that the helper has seen at
+    // that end.
     ensures round { GivesHostRound (E.device left).now.bytes result }
 {
     running_law();

@@ -1,5 +1,5 @@
 -- The schema of numbered objects and fields is the image's.
-use Rattle.std.proofs.Common.{ℕ, ◌≡◌, ◌+◌, ◌<◌, List, length, sym, ◌∙◌, arith}
+use Rattle.std.proofs.Common.{◌≡◌, List, length, sym, ◌∙◌, arith}
 use Rattle.image_parts.specs.declared.guard_row.GuardRow.{GuardRow}
 use Rattle.image_parts.specs.declared.layout.Layout.{Layout}
 use Rattle.image_parts.proofs.Numbered.{objects_are, fields_are, guard_at, mark_at}

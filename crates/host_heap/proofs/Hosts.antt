@@ -3,7 +3,7 @@ use Rattle.std.proofs.Common.{◌≡◌, ℕ, All, List, length, [], ◌∷◌, 
 use Rattle.block_disk.specs.Device.{Device, synced}
 use Rattle.block_disk.specs.Memory.{device_of, fresh}
 use Rattle.disk_deferred.specs.Deferred.{Deferred}
-use Rattle.disk_deferred.specs.Host.{Host, IsHostOf, host_name}
+use Rattle.disk_deferred.specs.Host.{Host, IsHostOf}
 use Rattle.disk_deferred.proofs.Names.{consumer_name}
 use Rattle.store_rounds.specs.Store.{Known}
 use Rattle.image_parts.specs.Calls.{Call, Write, Sync, after, after_one}
@@ -15,7 +15,6 @@ use Rattle.recover_heap.specs.Putting.{put_calls}
 use Rattle.recover.specs.Recovery.{IsRecovery, put_back_on}
 use Rattle.recover.specs.declared.report.Report.{Report}
 use Rattle.rtrb.specs.Ring.{SameConsumer}
-use Rattle.thread_heap.specs.Joined.{IsHelping}
 use Rattle.thread_steps.specs.Views.{plan}
 use Rattle.trim_helper.specs.Endings.{Rings}
 use Rattle.trim_helper.specs.Helping.{IsHelper, taken_in}

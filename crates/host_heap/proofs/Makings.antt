@@ -1,5 +1,5 @@
 -- Why an image isn't made of a disk that has room for it.
-use Rattle.std.proofs.Common.{ℕ, ◌≡◌, ◌≤◌, List, length, arith}
+use Rattle.std.proofs.Common.{ℕ, ◌≤◌, List, length, arith}
 use Rattle.block_disk.specs.Device.{Device}
 use Rattle.guards.specs.Schema.{Declarations}
 use Rattle.image_parts.specs.Layout.{size_of}

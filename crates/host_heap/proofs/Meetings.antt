@@ -5,10 +5,8 @@ use Rattle.block_disk.specs.Memory.{Stop, moment_after}
 use Rattle.disk_deferred.specs.Deferred.{Deferred, onto}
 use Rattle.disk_deferred.specs.Host.{Fetches, HasLooked, HaveMet, Host}
 use Rattle.disk_deferred.specs.Syncs.{LeftAt, durable_moments, moments_of, syncs_in}
-use Rattle.disk_deferred.specs.declared.call.DeviceCall.{DeviceCall}
 use Rattle.disk_deferred.specs.declared.call.Handed.{Handed}
 use Rattle.store_helper_sections.specs.Image.{ShowsCutOf}
-use Rattle.monitor.specs.Seats.{Home}
 use Rattle.rtrb.specs.Ring.{known_items}
 use Rattle.thread_steps.specs.Views.{plan}
 use Rattle.heap_model.specs.Past.{Past, applied}

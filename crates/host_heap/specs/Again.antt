@@ -1,5 +1,5 @@
 -- A session that has ended is handed out again (this project's own).
-use Rattle.std.specs.Prelude.{◌≡◌, ◌<◌, ℕ, List, All, Some, length, set}
+use Rattle.std.specs.Prelude.{◌≡◌, ◌<◌, ℕ, List, All, Option, Some, MatchOption, length, set}
 use Rattle.std.specs.List.{slice_index_or}
 use Rattle.thread_heap.specs.Joined.{IsJoined}
 use Rattle.session.specs.Logs.{held_count}
@@ -39,8 +39,12 @@ pub record HandsAgain (x y : Hosting) (s : Seated) : Type 0 where
   pub quietly : GoesOnQuietly x (record y { out = seen })
   pub out : LetsGo seen y.out s
 
--- Of the sessions that were handed out none that holds no monitor has ended.
+-- No session that was handed out has ended without holding a monitor.
 pub record HasNoneIdle (x y : Hosting) : Type 0 where
   -- No session is handed out again only where, after a look, each that was handed out is out or holds a monitor.
   pub taken : All IsTaken y.out
   pub quietly : GoesOnQuietly x y
+
+-- one of those is handed out again, or there is none
+abbrev pub HandsIfIdle : (x y : Hosting) → Option Seated → Type 0
+HandsIfIdle x y handed = MatchOption handed (HasNoneIdle x y) (HandsAgain x y)

@@ -33,7 +33,7 @@ pub record GoesOnWithout (x y : Hosting) : Type 0 where
   pub helper : y.helper ≡ x.helper
   pub unused : y.unused ≡ []
   pub out : KeepCome x.out (drop (length x.unused) y.out)
-  -- A heap is told to be in use only once each session has come back, and goes on without those that weren't handed
+  -- A heap is answered `InUse` only once each session has come back, and goes on without those that weren't handed
   -- out.
   pub came : All HasCome y.out
   pub stop : y.stop ≡ x.stop
@@ -70,8 +70,8 @@ abbrev pub IsNotFinished : Hosting → NotClosed → Type 0
 IsNotFinished x (InUse y) = SameHeap x y × (y.calls ≡ x.calls)
 IsNotFinished x other = HasStopped x.home x.helper x.calls other
 
--- A session that was handed out hasn't come back; the ring hasn't room for the syncs of a closing; somebody has the words though each session has
--- come back; or the heap has stopped, with the calls that its host is yet to make.
+-- Why a heap isn't closed. `Running`: a session that was handed out hasn't come back. `CallsLeft`: the ring hasn't room for the syncs of a closing.
+-- `InUse`: somebody has the words though each session has come back. `Stopped`: the heap has stopped, with the calls that its host is yet to make.
 abbrev pub IsNotClosed : Hosting → NotClosed → Type 0
 IsNotClosed x (Running y) = GoesOn x y × (y.calls ≡ x.calls) × Any IsAwaited y.out
 IsNotClosed x (CallsLeft y) = GoesOn x y × HasLooked x.calls y.calls × (SYNCS < length (known_items y.calls.ring) + CLOSE_SYNCS)

@@ -21,8 +21,9 @@ use Rattle.host_heap.specs.declared.lane_end.LaneEnd.{LaneEnd}
 abbrev pub hosted_device : Deferred → Device
 hosted_device d = deferred_device d
 
--- Its words, its helper, and the calls that its host has made and is yet to make; the lanes whose session wasn't handed out, the next one
--- first; where the sessions that were come back, the last one first; and the word by which they learn that it has stopped.
+-- A hosted heap has its words, its helper, and the calls that its host has made and is yet to make. `unused` are the lanes whose session wasn't
+-- handed out, the next one first. `out` are the ends where the sessions that were come back, the last one first. By the word `stop` they learn
+-- that the heap has stopped.
 pub record Hosting : Type 0 where
   pub home : Home
   pub helper : Parts Deferred
@@ -35,7 +36,7 @@ pub record Hosting : Type 0 where
 abbrev pub lanes_of : List Seated → List ℕ
 lanes_of sessions = fold (λ later s. (view_of s.session).lane.0 ∷ later) [] sessions
 
--- of the lanes' ends, the last lane's first, those behind the lanes whose session wasn't handed out
+-- of the lanes' ends, the last lane's first, those after the lanes whose session wasn't handed out
 abbrev pub handed_out : List Seated → List LaneEnd → List LaneEnd
 handed_out unused ends = drop (length unused) ends
 

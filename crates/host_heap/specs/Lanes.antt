@@ -1,6 +1,6 @@
 -- Where sessions come back (this project's own).
-use Rattle.std.specs.Prelude.{ℕ, ◌≡◌, ◌<◌, ◌⊎◌, List, ◌∷◌, ◌++◌, [], Some, None, All, IfSome, IsSome, fold, length, option_to_list}
-use Rattle.std.specs.List.{AllZip}
+use Rattle.std.specs.Prelude.{ℕ, ◌≡◌, ◌<◌, ◌⊎◌, List, ◌∷◌, ◌++◌, [], Option, Some, None, All, IfSome, IsSome, fold, option_to_list, set}
+use Rattle.std.specs.List.{AllZip, slice_index_or}
 use Rattle.monitor.specs.Seats.{Home}
 use Rattle.rtrb.specs.Ring.{IsPair, SameConsumer, known_items, received}
 use Rattle.thread_heap.specs.Joined.{IsJoined}
@@ -37,6 +37,26 @@ pub record IsBack (h : Home) (capacity : ℕ) (rings : Rings) (lane : ℕ) (s : 
 pub record IsLaneEnd (h : Home) (capacity : ℕ) (rings : Rings) (l : LaneEnd) : Type 0 where
   pub first : BeginsJoined h capacity rings (received l.back)
   pub came : IfSome l.came (IsBack h capacity rings (lane_at l))
+
+-- after a look through the ring, what came through first is a session of the same lane, joined as before
+abbrev pub KeepsFirst : (old new : List Session) → Type 0
+KeepsFirst old new = (h : Home) (capacity : ℕ) (rings : Rings) → BeginsJoined h capacity rings old → BeginsJoined h capacity rings new × (lane_in new ≡ lane_in old)
+
+-- what comes through next is a session of the same lane, joined to the same helper
+abbrev pub GivesBack : (before : List Session) → Option Session → Type 0
+GivesBack before given = (h : Home) (capacity : ℕ) (rings : Rings) → BeginsJoined h capacity rings before → IfSome given (IsBack h capacity rings (lane_in before))
+
+-- the end of this place is one that is so, and the others are as they were
+abbrev pub SetsEnd : (old : List LaneEnd) (place : ℕ) (is : LaneEnd → Type 0) (new : List LaneEnd) → Type 0
+SetsEnd old place is new = (end : LaneEnd) × (new ≡ set old place end) × is end
+
+-- they are ends of lanes of this heap
+abbrev pub AreLaneEnds : Home → List LaneEnd → Type 0
+AreLaneEnds h ends = (capacity : ℕ) × (rings : Rings) × All (IsLaneEnd h capacity rings) ends
+
+-- this has come back at the end of this place, and nothing else has changed
+abbrev pub SetsCame : (old : List LaneEnd) (place : ℕ) (came : Option Session) (new : List LaneEnd) → Type 0
+SetsCame old place came new = (d : LaneEnd) → new ≡ set old place (record (slice_index_or old place d) { came = came })
 
 -- it is the end of the same lane
 abbrev pub KeepsEnd : (old new : LaneEnd) → Type 0

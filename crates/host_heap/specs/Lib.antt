@@ -8,7 +8,9 @@ pub mod Sessions
 pub mod Stopping
 pub mod Failing
 pub mod Meeting
+pub mod Handing
 -- How sessions come back, and what is true between calls.
 pub mod Returning
 pub mod Lanes
+pub mod Seating
 pub mod Keeping

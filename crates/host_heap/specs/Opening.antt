@@ -1,5 +1,5 @@
 -- What a hosted heap begins with, and which refusal comes when (this project's own).
-use Rattle.std.specs.Prelude.{ℕ, ◌≡◌, ◌<◌, ◌-◌, ◌&&◌, if◌then◌else◌, nat_le, nat_lt, true, false, List, [], None, replicate, slice_index}
+use Rattle.std.specs.Prelude.{ℕ, ◌≡◌, ◌<◌, ◌-◌, ◌&&◌, if◌then◌else◌, nat_le, nat_lt, true, false, List, [], None, Result, MatchResult, replicate, slice_index}
 use Rattle.std.specs.List.{range_with_len, slice_index_or}
 use Rattle.block_disk.specs.Device.{Device, synced}
 use Rattle.block_disk.specs.Images.{LeavesOnly}
@@ -39,9 +39,9 @@ device_on c bytes = record (device_of (fresh bytes)) { name = host_name c }
 abbrev pub threads_of : (lanes wanted : ℕ) → ℕ
 threads_of lanes wanted = if nat_lt wanted lanes && nat_le 2 lanes then lanes - 1 else lanes
 
--- It runs with what was recovered: with its values, its layout and its device, nothing was told to it, and all is settled. So many of its lanes
--- are the threads'. The calls of its host are that device's: it has made none and has fetched none, and no session was handed out: the
--- threads' sessions come by number.
+-- A heap runs with what was recovered: its values, its layout and its device. No record was sent to it, and all is settled. So many of its lanes
+-- are the threads'. The calls of its host are that device's. The host has made none and fetched none. No session was handed out: the threads'
+-- sessions come by number.
 pub record HasBegun (schema : Declarations) (threads : ℕ) (r : Parts Deferred) (x : Hosting) : Type 0 where
   pub plan_is : x.home.plan ≡ record { schema = schema; first = r.heap; last = LAST_NUMBER; lanes = threads }
   pub threads_are : x.helper.store.known.threads ≡ threads
@@ -66,9 +66,9 @@ pub record HasBegun (schema : Declarations) (threads : ℕ) (r : Parts Deferred)
 abbrev pub HasRings : (records : ℕ) → Hosting → Type 0
 HasRings records x = HaveRoom records x.helper.rings
 
--- It was made of so many objects and of these fields, with so many lanes of so many records, for so many threads, and begins with their
--- first values. The calls made the image of a device of zeros.
-pub record IsMade (objects : ℕ) (rows : List GuardRow) (lanes capacity wanted : ℕ) (x : Hosting) : Type 0 where
+-- A heap was made of so many objects and of these fields, with so many lanes of so many records each, for so many threads, with rings of this
+-- room. It begins with the fields' first values. The calls made the image of a device of zeros.
+pub record IsMade (objects : ℕ) (rows : List GuardRow) (lanes capacity threads ring : ℕ) (x : Hosting) : Type 0 where
   pub limits : AreLimits lanes capacity
   pub made : Parts Deferred
   pub layout_is : made.layout ≡ layout_with (numbered objects rows) lanes capacity
@@ -77,10 +77,13 @@ pub record IsMade (objects : ℕ) (rows : List GuardRow) (lanes capacity wanted 
   -- Each field of a new heap has its first value.
   pub values : (f : ℕ) (d : GuardRow) → f < made.layout.fields → slice_index made.heap f ≡ (slice_index_or rows f d).first
   -- Where a heap is made with more lanes than its caller has threads, the last lane is the helper's, unless it is the only one.
-  pub begun : HasBegun (numbered objects rows) (threads_of made.layout.lanes wanted) made x
+  pub begun : HasBegun (numbered objects rows) (threads_of made.layout.lanes threads) made x
+  -- Each lane's ring has room for as many records as the caller asks for.
+  pub rings : HasRings ring x
 
--- It runs, for so many threads, with what recovery finds in these bytes, an image of one of these versions, which it reports.
-pub record IsFound (versions : Versions) (wanted : ℕ) (bytes : List ℕ) (x : Hosting) (report : Report) : Type 0 where
+-- A heap runs, for so many threads and with rings of this room, with what recovery finds in these bytes, an image of one of these versions.
+-- Recovery gives this report.
+pub record IsFound (versions : Versions) (threads ring : ℕ) (bytes : List ℕ) (x : Hosting) (report : Report) : Type 0 where
   pub taken : IsTooOld versions bytes → ⊥
   pub found : Parts Deferred
   -- An opened heap is what recovery finds in these bytes.
@@ -89,7 +92,9 @@ pub record IsFound (versions : Versions) (wanted : ℕ) (bytes : List ℕ) (x : 
   pub any_moment : (s : Study) → IsStudyOf bytes s → LeavesOnly (synced (device_on x.calls bytes)) (hosted_device found.disk) (IsOnTheWay s)
   -- Where the image of a heap that is opened has more lanes than its caller has threads, the last lane is the helper's, unless it is the
   -- only one.
-  pub begun : HasBegun (numbered found.layout.objects found.guards) (threads_of found.layout.lanes wanted) found x
+  pub begun : HasBegun (numbered found.layout.objects found.guards) (threads_of found.layout.lanes threads) found x
+  -- Each lane's ring has room for as many records as the caller asks for, whatever room it had before.
+  pub rings : HasRings ring x
 
 -- why no heap is made
 abbrev pub RefusesMaking : (objects : ℕ) (rows : List GuardRow) (lanes capacity : ℕ) → HostError → Type 0
@@ -100,9 +105,19 @@ RefusesMaking objects rows lanes capacity (Image images.NoMemory) = AreLimits la
 RefusesMaking objects rows lanes capacity (Image images.Fault) = AreLimits lanes capacity
 RefusesMaking objects rows lanes capacity _ = ⊥
 
--- why none is opened, where these versions are taken
+-- why no heap is opened, where these versions are accepted
 abbrev pub RefusesOpening : Versions → (bytes : List ℕ) → HostError → Type 0
 RefusesOpening versions bytes NoMemory = Unit {0}
 RefusesOpening versions bytes (Recover e) = RefusesOf versions bytes e
 RefusesOpening versions bytes (Schema e) = e ≡ schemas.NoMemory
 RefusesOpening versions bytes (Image e) = ⊥
+
+-- `format`: a heap of these objects and fields, or why there is none
+abbrev pub Formats : (objects : ℕ) (rows : List GuardRow) (lanes capacity threads ring : ℕ) → Result Hosting HostError → Type 0
+Formats objects rows lanes capacity threads ring answer =
+    MatchResult answer (IsMade objects rows lanes capacity threads ring) (RefusesMaking objects rows lanes capacity)
+
+-- `open`: the heap that recovery finds in these bytes with its report, or why there is none
+abbrev pub Opens : (versions : Versions) (threads ring : ℕ) (bytes : List ℕ) → Result (Hosting × Report) HostError → Type 0
+Opens versions threads ring bytes answer =
+    MatchResult answer (λ found. IsFound versions threads ring bytes found.0 found.1) (RefusesOpening versions bytes)

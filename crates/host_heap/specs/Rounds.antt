@@ -39,8 +39,8 @@ pub record KeepsSessions (x y : Hosting) : Type 0 where
   pub layout : y.helper.store.known.layout ≡ x.helper.store.known.layout
   pub threads : y.helper.store.known.threads ≡ x.helper.store.known.threads
 
--- The helper goes on. Where its store hadn't failed, it has seen one legal history, of which what it has taken of each lane, up to the last
--- release, is the beginning; and that history goes on from the one that it had seen before.
+-- The helper goes on. Where its store hadn't failed, it has seen one legal history. What it has taken of each lane, up to the last release, is
+-- the beginning of what that history logs. The history goes on from the one that the helper had seen before.
 pub record HearsThreads (x y : Hosting) : Type 0 where
   pub goes_on : HasGoneOn x.home x.helper y.helper
   -- A round that was begun has seen one legal history, where the store hadn't failed. What it took of each lane, up to

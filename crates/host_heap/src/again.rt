@@ -1,10 +1,9 @@
 //! A session that has ended is handed out again.
-ghost use Rattle.std.specs.Prelude.{◌≡◌, ◌<◌, ◌≤◌, [], ℕ, All, IfNone, IfOk, IfSome, None, Some, true, false, drop, length, set, slice_index_or, take};
+ghost use Rattle.std.specs.Prelude.{◌≡◌, ◌<◌, ◌≤◌, [], All, IfNone, IfOk, IfSome, None, Some, true, false, drop, length, slice_index_or, take};
 ghost use Rattle.std.specs.Arc.{arc_value};
-ghost use Rattle.host_heap.specs.Lanes.{IsAwaitedBy, IsIdle, IsLaneEnd, IsTaken, KeepCome, KeepsEnds};
+ghost use Rattle.host_heap.specs.Lanes.{AreLaneEnds, IsAwaitedBy, IsIdle, IsTaken, KeepCome, KeepsEnds, SetsCame, SetsEnd};
 ghost use Rattle.host_heap.specs.declared.lane_end.LaneEnd.{LaneEnd as End};
 ghost use Rattle.rtrb.specs.Ring.{IsPair, known_free, known_items, received, sent};
-ghost use Rattle.trim_helper.specs.Endings.{Rings};
 
 use crate::beginning::{outfit, seat};
 use crate::heap::HostedHeap;
@@ -19,15 +18,17 @@ use std::alloc::{AllocError, Global};
 use std::sync::Arc;
 
 impl HostedHeap {
-    ghost use Rattle.std.specs.Prelude.{◌≡◌, IfOk, MatchOption, OnErr};
-    ghost use Rattle.host_heap.specs.Again.{HandsAgain, HasNoneIdle};
+    ghost use Rattle.std.specs.Prelude.{◌≡◌, IfOk, OnErr};
+    ghost use Rattle.host_heap.specs.Again.{HandsIfIdle};
 
     /// Hands out again a session that was handed out before, has ended ([`HostedSession::end`]) and holds no monitor, whichever it is.
     /// It goes on where it ended, so that its lane's sections are counted on. `None` where there is none.
     ///
     /// An error is want of memory: nothing was done.
     pub fn session_again(&mut self) -> Result<Option<HostedSession>, AllocError>
-        ensures again { IfOk result (λ o. MatchOption o (HasNoneIdle self.old self.new) (HandsAgain self.old self.new)) }
+        // A session that has ended and holds no monitor is handed out again, just as it came back. None is handed out only
+        // where, after a look, there is none.
+        ensures again { IfOk result (HandsIfIdle self.old self.new) }
         // Want of memory changes nothing.
         ensures err { OnErr result (self.new ≡ self.old) }
     {
@@ -68,7 +69,7 @@ fn is_idle_at(lanes: &mut Vec<LaneEnd>, place: usize) -> bool
     requires { place < length lanes.old.items }
     ensures kept { KeepsEnds lanes.old.items lanes.new.items }
     ensures come { KeepCome lanes.old.items lanes.new.items }
-    ensures taken { (end : End) × (lanes.new.items ≡ set lanes.old.items place end) × (result ≡ false → IsTaken end) }
+    ensures taken { SetsEnd lanes.old.items place (λ e. result ≡ false → IsTaken e) lanes.new.items }
     ensures count { length lanes.new.items ≡ length lanes.old.items }
     ensures idle { (d : End) → result ≡ true → IsIdle (slice_index_or lanes.new.items place d) }
 {
@@ -86,16 +87,15 @@ fn hand_out_at(
 ) -> HostedSession
     requires place { place < length lanes.old.items }
     requires idle { (d : End) → IsIdle (slice_index_or lanes.old.items place d) }
-    requires ends { (capacity : ℕ) × (rings : Rings) × All (IsLaneEnd (arc_value shared) capacity rings) lanes.old.items }
+    requires ends { AreLaneEnds (arc_value shared) lanes.old.items }
     requires pair { IsPair producer back }
     requires unsent { (sent producer ≡ []) × (known_free producer ≡ 2) }
     requires unread { (received back ≡ []) × (known_items back ≡ []) }
     ensures home { result.home ≡ arc_value shared }
     ensures stop { result.stop ≡ stop }
     ensures session { (d : End) → (slice_index_or lanes.old.items place d).came ≡ Some result.session }
-    ensures new { (end : End) × (lanes.new.items ≡ set lanes.old.items place end) × IsAwaitedBy result end }
+    ensures new { SetsEnd lanes.old.items place (IsAwaitedBy result) lanes.new.items }
     ensures kept { KeepsEnds lanes.old.items lanes.new.items }
-    ensures count { length lanes.new.items ≡ length lanes.old.items }
 {
     let came = take_at(lanes, place);
     let (session, end) = seat(shared, came.unwrap(), stop, producer, back);
@@ -107,7 +107,7 @@ fn hand_out_at(
 fn take_at(lanes: &mut Vec<LaneEnd>, place: usize) -> Option<Session>
     requires { place < length lanes.old.items }
     ensures came { (d : End) → result ≡ (slice_index_or lanes.old.items place d).came }
-    ensures left { (d : End) → lanes.new.items ≡ set lanes.old.items place (record (slice_index_or lanes.old.items place d) { came = None }) }
+    ensures left { SetsCame lanes.old.items place None lanes.new.items }
 {
     lanes[place].came.take()
 }

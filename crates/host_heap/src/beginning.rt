@@ -1,16 +1,15 @@
 //! The sessions of a heap that begins to run, and where they come back.
-ghost use Rattle.std.specs.Prelude.{◌≡◌, ◌∷◌, ◌++◌, [], ℕ, All, IfOk, OnOk, None, length};
+ghost use Rattle.std.specs.Prelude.{◌≡◌, ◌∷◌, ◌++◌, [], All, IfOk, OnOk, None, length};
 ghost use Rattle.std.specs.List.{range_with_len};
 ghost use Rattle.std.specs.Arc.{arc_value};
 ghost use Rattle.host_heap.specs.Hosting.{lanes_of};
-ghost use Rattle.host_heap.specs.Lanes.{AreNewHere, ArePaired, IsAwaitedBy, IsJoinedHere, IsLaneEnd, lanes_at};
+ghost use Rattle.host_heap.specs.Lanes.{IsAwaitedBy};
+ghost use Rattle.host_heap.specs.Seating.{AreSeated};
 ghost use Rattle.host_heap.specs.Sessions.{Seated};
 ghost use Rattle.host_heap.specs.declared.lane_end.LaneEnd.{LaneEnd as End};
-ghost use Rattle.monitor.specs.Seats.{Home};
 ghost use Rattle.rtrb.specs.Ring.{IsPair, known_free, known_items, received, sent};
-ghost use Rattle.thread_heap.specs.Joined.{AreNew, IsJoined};
+ghost use Rattle.thread_heap.specs.Joined.{AreNew};
 ghost use Rattle.session.specs.Sessions.{IsSessionOf};
-ghost use Rattle.trim_helper.specs.Endings.{Rings};
 
 use crate::lane_end::LaneEnd;
 use crate::returning::Returning;
@@ -22,8 +21,47 @@ use session::Session;
 use std::alloc::{AllocError, Global};
 use std::sync::Arc;
 
-/// The sessions with their words, and where each comes back.
-pub fn begin_all(
+/// The words, to be shared; the word by which their sessions learn of a stop, which isn't written; the sessions with both; and the ends
+/// where they come back.
+pub fn seat_all(
+    alloc: Global,
+    shared: Shared,
+    sessions: Vec<Session>,
+) -> Result<(Arc<Shared>, Stopper, Vec<HostedSession>, Vec<LaneEnd>), AllocError>
+    requires of { All (IsSessionOf shared) sessions.items }
+    requires fresh { AreNew 0 sessions.items }
+    ensures home { IfOk result (λ r. arc_value r.0 ≡ shared) }
+    ensures unstopped { IfOk result (λ r. r.1.seen ≡ None) }
+    ensures in_order { IfOk result (λ r. lanes_of r.2.items ≡ range_with_len 0 (length sessions.items)) }
+    ensures seated { IfOk result (λ r. AreSeated shared sessions.items r.1.word r.2.items r.3.items) }
+{
+    let shared = match Arc::new(alloc, shared) {
+        Ok(shared) => shared,
+        Err(error) => {
+            drop(sessions);
+            return Err(error.into());
+        }
+    };
+    let mut stop = match Stopper::new(alloc) {
+        Ok(stop) => stop,
+        Err(error) => {
+            drop(shared);
+            drop(sessions);
+            return Err(error);
+        }
+    };
+    match begin_all(alloc, &shared, sessions, &mut stop) {
+        Ok((unused, lanes)) => Ok((shared, stop, unused, lanes)),
+        Err(error) => {
+            drop(stop);
+            drop(shared);
+            Err(error)
+        }
+    }
+}
+
+// The sessions with their words, and where each comes back.
+fn begin_all(
     alloc: Global,
     shared: &Arc<Shared>,
     sessions: Vec<Session>,
@@ -31,14 +69,10 @@ pub fn begin_all(
 ) -> Result<(Vec<HostedSession>, Vec<LaneEnd>), AllocError>
     requires of { All (IsSessionOf (arc_value shared.now)) sessions.items }
     requires fresh { AreNew 0 sessions.items }
-    ensures homes { IfOk result (λ r. AreNewHere (arc_value shared.now) stop.old.word r.0.items) }
     ensures stop { stop.new ≡ stop.old }
     ensures in_order { IfOk result (λ r. lanes_of r.0.items ≡ range_with_len 0 (length sessions.items)) }
-    ensures ends { IfOk result (λ r. lanes_at r.1.items ≡ lanes_of r.0.items) }
-    ensures paired { IfOk result (λ r. ArePaired r.0.items r.1.items) }
-    ensures count { IfOk result (λ r. length r.0.items ≡ length r.1.items) }
-    ensures lanes { (capacity : ℕ) (rings : Rings) → All (IsJoined (arc_value shared.now) capacity rings) sessions.items
-        → IfOk result (λ r. All (IsLaneEnd (arc_value shared.now) capacity rings) r.1.items × All (IsJoinedHere (arc_value shared.now) capacity rings) r.0.items) }
+    ensures seated { IfOk result (λ r.
+        AreSeated (arc_value shared.now) sessions.items stop.old.word r.0.items r.1.items) }
 {
     let mut left = sessions;
     let mut unused = Vec::new(alloc);

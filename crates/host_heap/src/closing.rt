@@ -1,9 +1,9 @@
 //! A hosted heap is closed.
-ghost use Rattle.std.specs.Prelude.{◌≡◌, ◌<◌, ◌≤◌, [], ℕ, All, Any, IfErr, IfOk, Some, true, false, drop, length, set, slice_index_or, take};
+ghost use Rattle.std.specs.Prelude.{◌≡◌, ◌<◌, ◌≤◌, [], ℕ, All, Any, IfErr, IfOk, Some, true, false, drop, length, slice_index_or, take};
 ghost use Rattle.std.specs.List.{range_with_len};
 ghost use Rattle.host_heap.specs.Closing.{HasStopped};
 ghost use Rattle.host_heap.specs.Hosting.{IsClosedWith, hosted_device};
-ghost use Rattle.host_heap.specs.Lanes.{HasCome, IsAwaited, IsLaneEnd, KeepCome, KeepsEnds, TakesBack, lanes_at};
+ghost use Rattle.host_heap.specs.Lanes.{HasCome, IsAwaited, IsLaneEnd, KeepCome, KeepsEnds, SetsCame, SetsEnd, TakesBack, lanes_at};
 ghost use Rattle.host_heap.specs.declared.lane_end.LaneEnd.{LaneEnd as End};
 ghost use Rattle.monitor.specs.Seats.{Home};
 ghost use Rattle.thread_heap.specs.Joined.{IsHelping};
@@ -32,8 +32,8 @@ impl Closed {
     ghost use Rattle.std.specs.Prelude.{◌≡◌};
     ghost use Rattle.host_heap.specs.Failing.{failed_call};
 
-    /// The host couldn't make the call that the calls gave. Answers which that was, as [`HostedHeap::call_failed`] does: a write may be
-    /// made again; behind a sync no call may follow.
+    /// The host couldn't make the call that the calls gave. Answers which that was, as [`HostedHeap::call_failed`] does. A write may be
+    /// made again. No call may follow a sync.
     pub fn call_failed(&self) -> Option<FailedCall>
         // A call that the host couldn't make is the first of those that are left, a write or a sync.
         ensures { result ≡ failed_call self.now.calls.left }
@@ -79,7 +79,7 @@ impl HostedHeap {
         ensures ok { IfOk result (λ closed. IsClosedWith self.home self.helper closed.disk) }
         // The calls that are left after a closing are the heap's own.
         ensures calls { IfOk result (λ closed. HasLooked self.calls closed.calls) }
-        // A heap is told to be running only where, after a look, a session that was handed out hasn't come back. There,
+        // A heap is answered `Running` only where, after a look, a session that was handed out hasn't come back. There,
         // and where the syncs of a closing have no room, it goes on as it was.
         ensures refused { IfErr result (IsNotClosed self) }
     {
@@ -168,7 +168,7 @@ fn has_come_at(lanes: &mut Vec<LaneEnd>, place: usize) -> bool
     requires { place < length lanes.old.items }
     ensures kept { KeepsEnds lanes.old.items lanes.new.items }
     ensures come { KeepCome lanes.old.items lanes.new.items }
-    ensures came { (end : End) × (lanes.new.items ≡ set lanes.old.items place end) × (result ≡ true → HasCome end) }
+    ensures came { SetsEnd lanes.old.items place (λ e. result ≡ true → HasCome e) lanes.new.items }
     ensures count { length lanes.new.items ≡ length lanes.old.items }
     ensures awaited { (d : End) → result ≡ false → IsAwaited (slice_index_or lanes.new.items place d) }
 {
@@ -193,7 +193,7 @@ fn bring_back(unused: &mut Vec<HostedSession>, lanes: &mut Vec<LaneEnd>)
 // Lets a session come back to the end at this place.
 fn bring_to(lanes: &mut Vec<LaneEnd>, place: usize, session: HostedSession)
     requires { place < length lanes.old.items }
-    ensures { (d : End) → lanes.new.items ≡ set lanes.old.items place (record (slice_index_or lanes.old.items place d) { came = Some session.session }) }
+    ensures { SetsCame lanes.old.items place (Some session.session) lanes.new.items }
 {
     let HostedSession {
         shared,

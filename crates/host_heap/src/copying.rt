@@ -1,5 +1,4 @@
 //! A copy of a heap's disk in memory.
-ghost use Rattle.std.specs.Prelude.{◌≡◌};
 ghost use Rattle.disk_deferred.specs.Copying.{CopiesFrom};
 ghost use Rattle.host_heap.specs.Hosting.{hosted_device};
 

@@ -1,4 +1,4 @@
-//! Why a hosted heap isn't opened, told of, or closed.
+//! Why a hosted heap isn't opened, makes no round, counts no section as acknowledged, or isn't closed.
 use guards::SchemaError;
 use heap_model::StoreError;
 use image::ImageError;
@@ -43,10 +43,10 @@ pub enum FailedCall {
     Sync,
 }
 
-/// Why it isn't told how many sections of a lane are acknowledged.
+/// Why it isn't answered how many sections of a lane are acknowledged.
 #[derive(Clone, Copy, Debug, Drop, Error, PartialEq, Eq)]
 pub enum AcknowledgedError {
-    /// No thread has such a lane.
+    /// No thread has this lane.
     #[error("bad lane")]
     BadLane,
     /// The host has yet to make a call that it was given.

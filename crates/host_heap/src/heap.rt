@@ -50,29 +50,22 @@ impl Model for HostedHeap {
 }
 
 impl HostedHeap {
-    ghost use Rattle.std.specs.Prelude.{◌≡◌, ◌≢◌, ◌<◌, ◌≤◌, ◌+◌, ◌↔◌, [], ◌∷◌, List, ℕ, None, Some, IsSome, Err, true, false, length, IfOk, IfSome, IsErrOf, OnOk, MatchOption};
-    ghost use Rattle.disk_deferred.specs.Deferred.{stop_of};
+    ghost use Rattle.std.specs.Prelude.{◌≡◌, ◌≢◌, ◌<◌, ◌≤◌, ◌+◌, ◌↔◌, [], None, Some, IsSome, Err, false, length, IfSome, IsErrOf, OnOk, MatchOption};
     ghost use Rattle.disk_deferred.specs.Handing.{IsSmall};
-    ghost use Rattle.block_disk.specs.Device.{Image};
     ghost use Rattle.disk_deferred.specs.Host.{Fetches, HasLooked, HaveMet};
     ghost use Rattle.disk_deferred.specs.declared.call.DeviceCall.{DeviceCall};
     ghost use Rattle.disk_deferred.specs.declared.disk.TheConstants.{SYNCS};
     ghost use Rattle.rtrb.specs.Ring.{known_items};
     ghost use Rattle.session.specs.Sessions.{view_of};
     ghost use Rattle.host_heap.specs.Rounds.{HasRound, HearsThreads, KeepsSessions, MakesRoundUpTo};
-    ghost use Rattle.host_heap.specs.Lanes.{IsAwaitedBy};
-    ghost use Rattle.host_heap.specs.declared.lane_end.LaneEnd.{LaneEnd};
-    ghost use Rattle.thread_heap.specs.Joined.{IsJoined};
-    ghost use Rattle.host_heap.specs.Hosting.{SameHeap, hosted_device};
+    ghost use Rattle.host_heap.specs.Hosting.{SameHeap};
     ghost use Rattle.host_heap.specs.Failing.{HasTold, failed_call};
     ghost use Rattle.host_heap.specs.declared.error.FailedCall.TheVariants as FailedCalls;
     ghost use Rattle.host_heap.specs.declared.error.AcknowledgedError.TheVariants.{BadLane, CallsLeft};
     ghost use Rattle.image_parts.specs.Layout.{size_of};
-    ghost use Rattle.thread_steps.specs.Views.{plan};
-    ghost use Rattle.heap_model.specs.Past.{Past, applied};
-    ghost use Rattle.store_helper_sections.specs.Image.{ShowsCutOf};
-    ghost use Rattle.host_heap.specs.Meeting.{AreAllMade, FetchesAll, SameButMet, host_moment};
-    ghost use Rattle.trim_helper.specs.Parts.{IsServing};
+    ghost use Rattle.heap_model.specs.Past.{applied};
+    ghost use Rattle.host_heap.specs.Handing.{GivesFirst, IsAwaitedOut, IsJoinedTo, IsOfNextLane, MakesFirst, SameButOut};
+    ghost use Rattle.host_heap.specs.Meeting.{AreAllMade, FetchesAll, KeepsCut, SameButMet, TellsCut};
 
     /// The layout of its image.
     pub fn layout(&self) -> Layout
@@ -100,19 +93,19 @@ impl HostedHeap {
     /// back where it is awaited. `None` once all were.
     pub fn session(&mut self) -> Option<HostedSession>
         // Sessions are handed out lane by lane, each once; none is answered only where none is left.
-        ensures next { MatchOption result (self.old.unused ≡ []) (λ s. self.old.unused ≡ (view_of s.session).lane.0 ∷ self.new.unused) }
+        ensures next { MatchOption result (self.old.unused ≡ []) (IsOfNextLane self.old self.new) }
         // A session that is handed out is awaited at the end of its lane, by the ring that it has.
-        ensures out { IfSome result (λ s. (end : LaneEnd) × (self.new.out ≡ end ∷ self.old.out) × IsAwaitedBy s end) }
+        ensures out { IfSome result (IsAwaitedOut self.old self.new) }
         // A session that is handed out was told nothing.
         ensures untold { IfSome result (λ s. (view_of s.session).events ≡ []) }
         ensures home { IfSome result (λ s. s.home ≡ self.old.home) }
         // A session that is handed out is joined to its heap's helper.
-        ensures joined { IfSome result (λ s. IsJoined self.old.home self.old.helper.store.known.layout.capacity self.old.helper.rings s.session) }
+        ensures joined { IfSome result (IsJoinedTo self.old) }
         // A session that is handed out shares the word by which it learns that its heap has stopped.
         ensures word { IfSome result (λ s. s.stop.word ≡ self.old.stop.word) }
         // Where no session is left the heap stays as it was.
         ensures none { result ≡ None → self.new ≡ self.old }
-        ensures same { (self.new.home ≡ self.old.home) × (self.new.helper ≡ self.old.helper) × (self.new.calls ≡ self.old.calls) × (self.new.stop ≡ self.old.stop) }
+        ensures same { SameButOut self.old self.new }
     {
         self.unused.pop()
     }
@@ -129,7 +122,7 @@ impl HostedHeap {
     /// The call that the host has to make next, of those that were fetched. A write has [`MOST_BYTES`](disk_deferred::MOST_BYTES) at most.
     pub fn next_call(&self) -> Option<&DeviceCall>
         ensures small { IfSome result (λ call. IsSmall call.now) }
-        ensures first { MatchOption result (self.now.calls.left ≡ []) (λ call. (later : List DeviceCall) × (self.now.calls.left ≡ call.now ∷ later)) }
+        ensures first { GivesFirst self.now.calls.left result }
     {
         self.calls.next_call()
     }
@@ -137,8 +130,7 @@ impl HostedHeap {
     /// The host has made the call that [`next_call`](HostedHeap::next_call) gave. Answers whether there was one.
     pub fn done(&mut self) -> bool
         ensures none { self.old.calls.left ≡ [] → (result ≡ false) × (self.new.calls ≡ self.old.calls) }
-        ensures one { (call : DeviceCall) (later : List DeviceCall) → self.old.calls.left ≡ call ∷ later
-            → (result ≡ true) × (self.new.calls.left ≡ later) × (self.new.calls.made ≡ stop_of call ∷ self.old.calls.made) }
+        ensures one { MakesFirst self.old.calls self.new.calls result }
         ensures heap { SameHeap self.old self.new }
     {
         self.calls.done()
@@ -270,14 +262,13 @@ impl HostedHeap {
     /// - `BadLane`;
     /// - `CallsLeft`: a call that was handed over isn't made. The calls up to the next sync are fetched then.
     pub fn acknowledged(&mut self, lane: Lane) -> Result<u64, AcknowledgedError>
-        // What is told as acknowledged is the acknowledged cut's count of the lane.
-        ensures ok { (p : Past) → IsServing hosted_device self.old.helper (plan self.old.home) p → IfOk result (λ n. n ≡ p.cut lane.0) }
-        // What is acknowledged is told only where no call is left, of those fetched or handed over.
+        // The answer is the acknowledged cut's count of the lane.
+        ensures ok { TellsCut self.old lane.0 result }
+        // A count is answered only where no call is left, of those fetched or handed over.
         ensures all_made { OnOk result (AreAllMade self.new.calls) }
-        // When a count is told, whatever a crash of the host's device leaves shows the acknowledged cut of what was
+        // When a count is answered, whatever a crash of the host's device leaves shows the acknowledged cut of what was
         // applied, or a later one.
-        ensures kept { OnOk result ((p : Past) (image : List ℕ) → IsServing hosted_device self.old.helper (plan self.old.home) p → Image (host_moment self.new) image
-            → ShowsCutOf self.old.helper.store.known.layout self.old.helper.store.known.threads (plan self.old.home) (applied p) p.cut image) }
+        ensures kept { OnOk result (KeepsCut self.old self.new) }
         // `BadLane` is answered exactly for a lane that isn't one of the threads'.
         ensures bad_lane { (result ≡ Err BadLane) ↔ (self.old.helper.store.known.threads ≤ lane.0) }
         // `CallsLeft` is answered exactly where the lane is one of the threads' and a call is left.

@@ -1,9 +1,7 @@
 //! The heap's end of a lane.
-ghost use Rattle.std.specs.Prelude.{◌≡◌, ◌↔◌, ◌∷◌, ◌++◌, [], ℕ, true, false, None, IfNone, IfSome, IsSome, IsTrue, option_to_list};
-ghost use Rattle.host_heap.specs.Lanes.{BeginsJoined, IsAwaited, IsBack, IsIdle, IsTaken, KeepsCome, KeepsEnd, lane_in};
-ghost use Rattle.monitor.specs.Seats.{Home};
+ghost use Rattle.std.specs.Prelude.{◌≡◌, ◌↔◌, ◌++◌, [], true, false, None, IfNone, IsSome, IsTrue, option_to_list};
+ghost use Rattle.host_heap.specs.Lanes.{GivesBack, IsAwaited, IsIdle, IsTaken, KeepsCome, KeepsEnd, KeepsFirst};
 ghost use Rattle.rtrb.specs.Ring.{SameConsumer, known_items, received};
-ghost use Rattle.trim_helper.specs.Endings.{Rings};
 
 use crate::returning::Returning;
 use rtrb::Consumer;
@@ -52,9 +50,8 @@ impl LaneEnd {
 
 // The session that has come through, if one has.
 fn take_one(back: &mut Consumer<Session, Global, Returning>) -> Option<Session>
-    ensures first { (h : Home) (capacity : ℕ) (rings : Rings) → BeginsJoined h capacity rings (received back.old)
-        → BeginsJoined h capacity rings (received back.new) × (lane_in (received back.new) ≡ lane_in (received back.old)) }
-    ensures back { (h : Home) (capacity : ℕ) (rings : Rings) → BeginsJoined h capacity rings (received back.old) → IfSome result (IsBack h capacity rings (lane_in (received back.old))) }
+    ensures first { KeepsFirst (received back.old) (received back.new) }
+    ensures back { GivesBack (received back.old) result }
     ensures none { IfNone result (known_items back.new ≡ []) }
     ensures ring { SameConsumer back.old back.new }
     ensures received { received back.new ≡ received back.old ++ option_to_list result }

@@ -1,52 +1,21 @@
 //! A hosted heap is made, or opened.
-ghost use Rattle.std.specs.Prelude.{◌≡◌, ◌≤◌, ◌+◌, [], IfErr, IfOk};
+ghost use Rattle.std.specs.Prelude.{◌≡◌, ◌≤◌, ◌+◌, [], IfOk};
 ghost use Rattle.disk_deferred.specs.Host.{IsHostOf};
-ghost use Rattle.heap_model.specs.declared.limits.TheConstants.{LANES, RING_RECORDS};
-ghost use Rattle.host_heap.specs.Opening.{HasBegun, HasRings, IsFound, IsMade, RefusesMaking, RefusesOpening, threads_of};
+ghost use Rattle.host_heap.specs.Opening.{Formats, HasBegun, HasRings, Opens, threads_of};
 ghost use Rattle.trim_helper.specs.Opening.{FitsSchema};
 
-use crate::beginning::begin_all;
+use crate::beginning::seat_all;
 use crate::error::HostError;
 use crate::heap::HostedHeap;
-use crate::stop::Stopper;
 use disk_deferred::{DeferredDisk, HostCalls};
 use durable::Store;
 use guards::Schema;
-use heap_model::{LANES, LAST_NUMBER};
+use heap_model::LAST_NUMBER;
 use image::{GuardRow, ImageError, Layout, Recovered, declare};
 use recover::{Report, Versions, recover_of};
 use std::alloc::{AllocError, Global};
-use std::sync::Arc;
 use thread_heap::RunningHeap;
 use thread_rings::RingRecords;
-
-/// Makes a heap of so many objects and of these fields, and opens it, as [`format_with`] does. All its lanes are the threads', and each
-/// lane's ring has the usual room.
-pub fn format(
-    alloc: Global,
-    objects: u32,
-    rows: &[GuardRow],
-    lanes: u8,
-    capacity: u32,
-) -> Result<HostedHeap, HostError>
-    // A heap is made of exactly these objects and fields, each field with its owner, its guard and its first value.
-    ensures ok { IfOk result (IsMade objects rows.now lanes capacity lanes) }
-    // Where the caller doesn't choose, each lane's ring has room for 4,096 records.
-    ensures rings { IfOk result (HasRings RING_RECORDS) }
-    // A heap is refused by its schema only where it has no object, no field or too many, or a field names an object
-    // that there isn't; by its header only where lanes or records are past their limits; and else for want of memory.
-    ensures refused { IfErr result (RefusesMaking objects rows.now lanes capacity) }
-{
-    format_with(
-        alloc,
-        objects,
-        rows,
-        lanes,
-        capacity,
-        lanes,
-        RingRecords::usual(),
-    )
-}
 
 /// Makes a heap of so many objects and of these fields, and opens it for so many threads. Where it has more lanes than that, the last one
 /// is the helper's own, unless it is the only one; each other is a thread's. Each lane's ring has room for `ring` records. The host's
@@ -56,7 +25,7 @@ pub fn format(
 /// - `Schema`: as [`declare`] refuses;
 /// - `Image`: by `BadHeader`, where `lanes` isn't 1 to 32 or `capacity` isn't 2,000 to 1,048,576;
 /// - `NoMemory`, and `Image` by `NoMemory` and `Fault`, for want of memory.
-pub fn format_with(
+pub fn format(
     alloc: Global,
     objects: u32,
     rows: &[GuardRow],
@@ -65,13 +34,10 @@ pub fn format_with(
     threads: u8,
     ring: RingRecords,
 ) -> Result<HostedHeap, HostError>
-    // A heap is made of exactly these objects and fields, each field with its owner, its guard and its first value.
-    ensures ok { IfOk result (IsMade objects rows.now lanes capacity threads) }
-    // Each lane's ring has room for as many records as the caller asks for.
-    ensures rings { IfOk result (HasRings ring) }
-    // A heap is refused by its schema only where it has no object, no field or too many, or a field names an object
-    // that there isn't; by its header only where lanes or records are past their limits; and else for want of memory.
-    ensures refused { IfErr result (RefusesMaking objects rows.now lanes capacity) }
+    // A heap is made of exactly these objects and fields, each field with its owner, its guard and its first value. It
+    // is refused by its schema only where it has no object, no field or too many, or a field names an object that there
+    // isn't. It is refused by its header only where lanes or records are past their limits, and else for want of memory.
+    ensures { Formats objects rows.now lanes capacity threads ring result }
 {
     let schema = match declare(alloc, objects, rows) {
         Ok(schema) => schema,
@@ -100,43 +66,23 @@ pub fn format_with(
     }
 }
 
-/// Opens the heap of the image that the host's device has, as [`open_with`] does. All its lanes are the threads', and each lane's ring has
-/// the usual room.
-pub fn open(
-    alloc: Global,
-    bytes: &[u8],
-    versions: Versions,
-) -> Result<(HostedHeap, Report), HostError>
-    // A heap is opened with what recovery finds in the bytes of the host's device, and recovery's report is told.
-    ensures ok { IfOk result (λ r. IsFound versions LANES bytes.now r.0 r.1) }
-    // Where the caller doesn't choose, each lane's ring has room for 4,096 records.
-    ensures rings { IfOk result (λ r. HasRings RING_RECORDS r.0) }
-    // A heap isn't opened where recovery refuses the bytes, or memory runs out.
-    ensures refused { IfErr result (RefusesOpening versions bytes.now) }
-{
-    open_with(alloc, bytes, versions, LANES as u8, RingRecords::usual())
-}
-
 /// Opens the heap of the image that the host's device has, durably, if it is of one of these versions; these are its bytes, all of
-/// them. It is opened for so many threads: where the image has more lanes than that, the last one is the helper's own, unless it is the
-/// only one; each other is a thread's. Each lane's ring has room for `ring` records, whatever room it had before: the image doesn't say. The heap is recovered first,
-/// in memory, and so is of the current version: the calls of that are the first that the host makes.
+/// them. It is opened for so many threads, as [`format`] does. Each lane's ring has room for `ring` records, whatever room it had before:
+/// the image doesn't say. The heap is recovered first, in memory, and so is of the current version: recovery's calls are the first that
+/// the host makes.
 ///
 /// Refusals, in this order: `NoMemory` for the bytes; `Recover`, as [`recover_of`](recover::recover_of) refuses; `Schema` and
 /// `NoMemory`, for want of memory.
-pub fn open_with(
+pub fn open(
     alloc: Global,
     bytes: &[u8],
     versions: Versions,
     threads: u8,
     ring: RingRecords,
 ) -> Result<(HostedHeap, Report), HostError>
-    // A heap is opened with what recovery finds in the bytes of the host's device, and recovery's report is told.
-    ensures ok { IfOk result (λ r. IsFound versions threads bytes.now r.0 r.1) }
-    // Each lane's ring has room for as many records as the caller asks for.
-    ensures rings { IfOk result (λ r. HasRings ring r.0) }
-    // A heap isn't opened where recovery refuses the bytes, or memory runs out.
-    ensures refused { IfErr result (RefusesOpening versions bytes.now) }
+    // A heap is opened with what recovery finds in the bytes of the host's device, and with recovery's report. It isn't
+    // opened where recovery refuses the bytes, or memory runs out.
+    ensures { Opens versions threads ring bytes.now result }
 {
     let Ok((disk, calls)) = DeferredDisk::from_bytes(alloc, bytes) else {
         return Err(HostError::NoMemory);
@@ -194,27 +140,8 @@ fn begin(
         sessions,
         helper,
     } = heap;
-    let shared = match Arc::new(alloc, shared) {
-        Ok(shared) => shared,
-        Err(error) => {
-            drop(helper);
-            drop(sessions);
-            drop(calls);
-            return Err(error.into());
-        }
-    };
-    let mut stop = match Stopper::new(alloc) {
-        Ok(stop) => stop,
-        Err(error) => {
-            drop(shared);
-            drop(helper);
-            drop(sessions);
-            drop(calls);
-            return Err(error);
-        }
-    };
-    match begin_all(alloc, &shared, sessions, &mut stop) {
-        Ok((unused, lanes)) => Ok(HostedHeap {
+    match seat_all(alloc, shared, sessions) {
+        Ok((shared, stop, unused, lanes)) => Ok(HostedHeap {
             alloc,
             shared,
             helper,
@@ -225,8 +152,6 @@ fn begin(
             stop,
         }),
         Err(error) => {
-            drop(stop);
-            drop(shared);
             drop(helper);
             drop(calls);
             Err(error)

@@ -12,7 +12,7 @@ impl HostedSession {
     pub fn take_slot(self, pool: &Pool) -> (HostedSession, Result<u32, PoolError<SessionError>>)
         // A call leaves the session its heap, its lane, the ring to its helper, and the ring by which it comes back.
         ensures heap { SamePlace self result.0 }
-        // A call of a host's session tells what the session's own call tells, by the words of its own heap.
+        // A call of a host's session does and answers what the session's own call does, by the words of its own heap.
         ensures told { TakesSlot self.home self.session result.0.session pool.now result.1 }
     {
         let HostedSession {
@@ -40,7 +40,7 @@ impl HostedSession {
         requires { slot < pool.now.slots }
         // A call leaves the session its heap, its lane, the ring to its helper, and the ring by which it comes back.
         ensures heap { SamePlace self result.0 }
-        // A call of a host's session tells what the session's own call tells, by the words of its own heap.
+        // A call of a host's session does and answers what the session's own call does, by the words of its own heap.
         ensures told { GivesSlot self.home self.session result.0.session pool.now slot result.1 }
     {
         let HostedSession {

@@ -1,5 +1,4 @@
 //! A session that has come back.
-ghost use Rattle.std.specs.Prelude.{◌≡◌};
 ghost use Rattle.rtrb.specs.Ring.{sent};
 
 use crate::returning::Returning;

@@ -1,9 +1,7 @@
 //! A session, with the words of its heap.
-ghost use Rattle.std.specs.Prelude.{◌≡◌, ◌<◌, IfSome};
+ghost use Rattle.std.specs.Prelude.{◌≡◌, ◌<◌};
 ghost use Rattle.std.specs.Arc.{arc_value};
 ghost use Rattle.rtrb.specs.Ring.{known_free, sent};
-ghost use Rattle.session.specs.Sessions.{IsSessionOf};
-ghost use Rattle.host_heap.specs.Returning.{MayReturn};
 
 use crate::returned::Returned;
 use crate::returning::Returning;
@@ -75,9 +73,9 @@ impl HostedSession {
     pub fn is_stopped(&mut self) -> bool
         // A look for a stop changes nothing else of the session.
         ensures looked { HasLookedAt self.old self.new }
-        // A session tells that its heap has stopped exactly where it has seen that word written.
+        // A session answers that its heap has stopped exactly where it has seen that word written.
         ensures seen { result ≡ is_some self.new.stop.seen }
-        // A session that has seen its heap stopped tells so from then on.
+        // A session that has seen its heap stopped answers so from then on.
         ensures again { IsSome self.old.stop.seen → result ≡ true }
     {
         self.stop.is_written()
@@ -87,7 +85,7 @@ impl HostedSession {
     pub fn try_enter(&mut self, object: ObjectId) -> Result<(), SessionError>
         // A call leaves the session its heap, its lane, the ring to its helper, and the ring by which it comes back.
         ensures heap { SamePlace self.old self.new }
-        // A call of a host's session tells what the session's own call tells, by the words of its own heap.
+        // A call of a host's session does and answers what the session's own call does, by the words of its own heap.
         ensures told { Enters self.old.home self.old.session self.new.session object result }
     {
         self.session.try_enter(&self.shared, object)
@@ -97,7 +95,7 @@ impl HostedSession {
     pub fn exit(&mut self, object: ObjectId) -> Result<(), SessionError>
         // A call leaves the session its heap, its lane, the ring to its helper, and the ring by which it comes back.
         ensures heap { SamePlace self.old self.new }
-        // A call of a host's session tells what the session's own call tells, by the words of its own heap.
+        // A call of a host's session does and answers what the session's own call does, by the words of its own heap.
         ensures told { Exits self.old.home self.old.session self.new.session object result }
     {
         self.session.exit(&self.shared, object)
@@ -107,7 +105,7 @@ impl HostedSession {
     pub fn load(&mut self, field: FieldId) -> Result<u64, SessionError>
         // A call leaves the session its heap, its lane, the ring to its helper, and the ring by which it comes back.
         ensures heap { SamePlace self.old self.new }
-        // A call of a host's session tells what the session's own call tells, by the words of its own heap.
+        // A call of a host's session does and answers what the session's own call does, by the words of its own heap.
         ensures told { Loads self.old.home self.old.session self.new.session field result }
     {
         self.session.load(&self.shared, field)
@@ -117,7 +115,7 @@ impl HostedSession {
     pub fn store(&mut self, field: FieldId, value: u64) -> Result<(), SessionError>
         // A call leaves the session its heap, its lane, the ring to its helper, and the ring by which it comes back.
         ensures heap { SamePlace self.old self.new }
-        // A call of a host's session tells what the session's own call tells, by the words of its own heap.
+        // A call of a host's session does and answers what the session's own call does, by the words of its own heap.
         ensures told { StoresAs self.old.home self.old.session self.new.session field value result }
     {
         self.session.store(&self.shared, field, value)
@@ -127,7 +125,7 @@ impl HostedSession {
     pub fn notify(&mut self, object: ObjectId) -> Result<Option<Lane>, SessionError>
         // A call leaves the session its heap, its lane, the ring to its helper, and the ring by which it comes back.
         ensures heap { SamePlace self.old self.new }
-        // A call of a host's session tells what the session's own call tells, by the words of its own heap.
+        // A call of a host's session does and answers what the session's own call does, by the words of its own heap.
         ensures told { Notifies self.old.home self.old.session self.new.session object result }
     {
         self.session.notify(&self.shared, object)
@@ -137,7 +135,7 @@ impl HostedSession {
     pub fn notify_all(&mut self, object: ObjectId) -> Result<WaitMask, SessionError>
         // A call leaves the session its heap, its lane, the ring to its helper, and the ring by which it comes back.
         ensures heap { SamePlace self.old self.new }
-        // A call of a host's session tells what the session's own call tells, by the words of its own heap.
+        // A call of a host's session does and answers what the session's own call does, by the words of its own heap.
         ensures told { NotifiesAll self.old.home self.old.session self.new.session object result }
     {
         self.session.notify_all(&self.shared, object)
@@ -147,7 +145,7 @@ impl HostedSession {
     pub fn look(&mut self, object: ObjectId) -> Result<(LockWord, Option<FatWord>), SessionError>
         // A call leaves the session its heap, its lane, the ring to its helper, and the ring by which it comes back.
         ensures heap { SamePlace self.old self.new }
-        // A call of a host's session tells what the session's own call tells, by the words of its own heap.
+        // A call of a host's session does and answers what the session's own call does, by the words of its own heap.
         ensures told { Looks self.old.home self.old.session self.new.session object result }
     {
         self.session.look(&self.shared, object)
@@ -158,7 +156,7 @@ impl HostedSession {
     pub fn stable(&mut self) -> u64
         // A call leaves the session its heap, its lane, the ring to its helper, and the ring by which it comes back.
         ensures heap { SamePlace self.old self.new }
-        // A call of a host's session tells what the session's own call tells, by the words of its own heap.
+        // A call of a host's session does and answers what the session's own call does, by the words of its own heap.
         ensures told { ReadsStable self.old.session self.new.session result }
     {
         self.session.stable(&self.shared)
@@ -171,7 +169,7 @@ impl HostedSession {
     ) -> Result<HostedWaiting, (HostedSession, SessionError)>
         // A call leaves the session its heap, its lane, the ring to its helper, and the ring by which it comes back.
         ensures heap { SamePlaceWait self result }
-        // A call of a host's session tells what the session's own call tells, by the words of its own heap.
+        // A call of a host's session does and answers what the session's own call does, by the words of its own heap.
         ensures told { AsksToWait self.home self.session object (inner_wait result) }
     {
         let HostedSession {

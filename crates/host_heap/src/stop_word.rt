@@ -1,5 +1,4 @@
 //! The word of a heap that was let go.
-ghost use Rattle.std.specs.Prelude.{◌≡◌};
 
 use crate::stop::Stopper;
 use std::marker::Model;

@@ -1,5 +1,5 @@
 //! A session that waits, with the words of its heap.
-ghost use Rattle.std.specs.Prelude.{◌≡◌, MatchResult};
+ghost use Rattle.std.specs.Prelude.{◌≡◌};
 
 use crate::returning::Returning;
 use crate::seated::HostedSession;
@@ -47,9 +47,9 @@ impl HostedWaiting {
     pub fn is_stopped(&mut self) -> bool
         // A look for a stop changes nothing else of the session.
         ensures looked { HasLookedWaiting self.old self.new }
-        // A session tells that its heap has stopped exactly where it has seen that word written.
+        // A session answers that its heap has stopped exactly where it has seen that word written.
         ensures seen { result ≡ is_some self.new.stop.seen }
-        // A session that has seen its heap stopped tells so from then on.
+        // A session that has seen its heap stopped answers so from then on.
         ensures again { IsSome self.old.stop.seen → result ≡ true }
     {
         self.stop.is_written()
@@ -59,7 +59,7 @@ impl HostedWaiting {
     pub fn try_resume(self) -> Result<HostedSession, (HostedWaiting, Still)>
         // A call leaves the session its heap, its lane, the ring to its helper, and the ring by which it comes back.
         ensures heap { SamePlaceResume self result }
-        // A call of a host's session tells what the session's own call tells, by the words of its own heap.
+        // A call of a host's session does and answers what the session's own call does, by the words of its own heap.
         ensures told { AsksToResume self.waiting (inner_resume result) }
     {
         let HostedWaiting {

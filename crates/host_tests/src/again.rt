@@ -1,8 +1,8 @@
 //! Lanes whose sessions come and go.
 
-use crate::work::{ROWS, work};
+use crate::work::{new_heap, work};
 use heap_model::ObjectId;
-use host_heap::{HostedHeap, HostedSession, format};
+use host_heap::{HostedHeap, HostedSession};
 use std::alloc::Global;
 
 // A session that has ended, handed out again, if there is one.
@@ -13,7 +13,7 @@ fn again(heap: &mut HostedHeap) -> Option<HostedSession> {
     }
 }
 
-// The lane of such a session, and how many sections of it have ended.
+// The lane of that session, and how many sections of it have ended.
 fn told_again(heap: &mut HostedHeap) -> Option<(u8, u64)> {
     match again(heap) {
         Some(session) => {
@@ -47,8 +47,8 @@ fn come_and_go(heap: &mut HostedHeap, times: u32) -> u32 {
     times
 }
 
-// What is answered of a heap of two lanes: whether a session that hasn't ended is handed out again, or one that ended while it holds
-// the monitor; and the lane and the sections of one that has ended and holds nothing.
+// What is answered of a heap of two lanes: whether a session that hasn't ended is handed out again, whether one is that ended while it
+// holds the monitor, and the lane and the sections of one that has ended and holds nothing.
 type Answered = (bool, bool, Option<(u8, u64)>);
 
 fn end_both(heap: &mut HostedHeap, first: HostedSession, second: HostedSession) -> Answered {
@@ -73,7 +73,7 @@ fn answered(heap: &mut HostedHeap) -> Option<Answered> {
 }
 
 fn two_lanes(alloc: Global) -> Option<Answered> {
-    match format(alloc, 2, &ROWS, 2, 2_000) {
+    match new_heap(alloc, 2, 2_000) {
         Ok(mut heap) => {
             let found = answered(&mut heap);
             drop(heap);
@@ -92,7 +92,7 @@ fn end_often(heap: &mut HostedHeap) -> Option<(u32, Option<(u8, u64)>)> {
 }
 
 fn one_lane(alloc: Global) -> Option<(u32, Option<(u8, u64)>)> {
-    match format(alloc, 2, &ROWS, 1, 2_000) {
+    match new_heap(alloc, 1, 2_000) {
         Ok(mut heap) => {
             let found = end_often(&mut heap);
             drop(heap);

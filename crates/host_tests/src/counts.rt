@@ -1,9 +1,9 @@
 //! How many calls a host makes for a round.
 
-use crate::work::ROWS;
+use crate::work::new_heap;
 use disk_deferred::DeviceCall;
 use heap_model::{FieldId, ObjectId};
-use host_heap::{HostedHeap, HostedSession, format};
+use host_heap::{HostedHeap, HostedSession};
 use std::alloc::Global;
 
 // The most calls that are made.
@@ -101,7 +101,7 @@ fn second_round(heap: &mut HostedHeap) -> Option<(u64, Counts)> {
 
 // The same of a heap of one lane that is made.
 fn counted(alloc: Global) -> Option<(u64, Counts)> {
-    match format(alloc, 2, &ROWS, 1, 4_000) {
+    match new_heap(alloc, 1, 4_000) {
         Ok(mut heap) => {
             let found = second_round(&mut heap);
             drop(heap);
@@ -111,10 +111,10 @@ fn counted(alloc: Global) -> Option<(u64, Counts)> {
     }
 }
 
-// Each lane is a thread's, so a round takes two commits and four syncs. By docs/FORMAT.md: 3,000 records of 16 bytes, the first 1,000 of them
-// at the end of the lane's area and the others at its beginning, 4 writes and 8 of 4,096 bytes at most; two cells in one write, since a
-// round writes the changed fields in their order; and two commits, the first a body of 1,040 bytes and a gate, the second such a body
-// without its sequence and a gate.
+// Each lane is a thread's, so a round takes two commits and four syncs. docs/FORMAT.md gives the rest. 3,000 records
+// of 16 bytes are 4 writes and 8, of 4,096 bytes at most: the first 1,000 stand at the end of the lane's area, and the others at its
+// beginning. Two cells are one write, because a round writes the changed fields in their order. The first commit is a body of 1,040 bytes
+// and a gate, the second a body without its sequence, and a gate.
 #[test]
 fn a_round_makes_few_calls(rt: HostRuntime) {
     let counts = Counts {

@@ -4,7 +4,7 @@ use crate::device::values_of;
 use crate::work::{ROWS, work};
 use disk_deferred::DeviceCall;
 use heap_model::Lane;
-use host_heap::{AcknowledgedError, HostedHeap, HostedSession, format_with, open_with};
+use host_heap::{AcknowledgedError, HostedHeap, HostedSession, format, open};
 use recover::Versions;
 use std::alloc::Global;
 use thread_rings::RingRecords;
@@ -114,7 +114,7 @@ fn image_of(alloc: Global, heap: &HostedHeap) -> Option<Vec<u8>> {
 
 // How many of a heap's lanes are the threads', where it is opened of these bytes for so many.
 fn threads_of(alloc: Global, bytes: &[u8], threads: u8) -> Option<u8> {
-    match open_with(
+    match open(
         alloc,
         bytes,
         Versions::Current,
@@ -141,7 +141,7 @@ fn opened(alloc: Global, told: Option<Told>, bytes: &[u8]) -> Answered {
 }
 
 fn answered(alloc: Global) -> Option<Answered> {
-    match format_with(alloc, 2, &ROWS, 3, 2_000, 2, RingRecords::usual()) {
+    match format(alloc, 2, &ROWS, 3, 2_000, 2, RingRecords::usual()) {
         Ok(mut heap) => {
             let told = work_twice(&mut heap);
             let image = image_of(alloc, &heap);
@@ -179,7 +179,7 @@ const SHARES: [(u8, u8, u8); 9] = [
 ];
 
 fn made_for(alloc: Global, lanes: u8, threads: u8) -> Option<u8> {
-    match format_with(alloc, 2, &ROWS, lanes, 2_000, threads, RingRecords::usual()) {
+    match format(alloc, 2, &ROWS, lanes, 2_000, threads, RingRecords::usual()) {
         Ok(heap) => {
             let found = heap.threads();
             drop(heap);

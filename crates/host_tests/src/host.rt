@@ -54,7 +54,7 @@ impl Host {
         }
     }
 
-    // Makes the call, and stops behind it for once.
+    // Makes the call, and stops after it for once.
     fn make(&mut self, alloc: Global, call: &DeviceCall) {
         if !self.device.make(alloc, call) {
             self.lost = self.lost.wrapping_add(1);

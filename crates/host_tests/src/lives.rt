@@ -2,11 +2,12 @@
 
 use crate::device::values_of;
 use crate::host::{Host, acknowledged, make_all, make_left};
-use crate::work::{ROWS, work};
+use crate::work::{new_heap, work};
 use disk_deferred::HostCalls;
-use host_heap::{Closed, HostedHeap, HostedSession, format, open};
+use host_heap::{Closed, HostedHeap, HostedSession, open};
 use recover::Versions;
 use std::alloc::Global;
+use thread_rings::RingRecords;
 
 // What was answered in a life.
 #[derive(Clone, Copy, PartialEq, Eq)]
@@ -124,7 +125,7 @@ fn live(alloc: Global, heap: HostedHeap, host: &mut Host) -> Life {
 
 // The life of a heap that is made.
 fn made(alloc: Global, host: &mut Host) -> Option<Life> {
-    match format(alloc, 2, &ROWS, 1, 2_000) {
+    match new_heap(alloc, 1, 2_000) {
         Ok(heap) => Some(live(alloc, heap, host)),
         Err(_) => None,
     }
@@ -132,7 +133,13 @@ fn made(alloc: Global, host: &mut Host) -> Option<Life> {
 
 // The life of a heap that is opened on what that left.
 fn opened(alloc: Global, host: &mut Host) -> Option<Life> {
-    match open(alloc, &host.device.written, Versions::Current) {
+    match open(
+        alloc,
+        &host.device.written,
+        Versions::Current,
+        1,
+        RingRecords::usual(),
+    ) {
         Ok((heap, report)) => {
             drop(report);
             Some(live(alloc, heap, host))
@@ -143,7 +150,7 @@ fn opened(alloc: Global, host: &mut Host) -> Option<Life> {
 
 // How many bytes the image of the heap has that is made.
 fn size_of_made(alloc: Global) -> Option<u64> {
-    match format(alloc, 2, &ROWS, 1, 2_000) {
+    match new_heap(alloc, 1, 2_000) {
         Ok(heap) => {
             let size = heap.size();
             drop(heap);

@@ -1,8 +1,8 @@
 //! How many records a round applies, and how many a lane's ring has room for.
 
-use crate::work::{ROWS, work};
+use crate::work::{ROWS, new_heap, work};
 use heap_model::{FieldId, Lane, ObjectId};
-use host_heap::{HostedHeap, HostedSession, format, format_with};
+use host_heap::{HostedHeap, HostedSession, format};
 use std::alloc::Global;
 use thread_rings::RingRecords;
 
@@ -40,7 +40,7 @@ fn work_and_round(heap: &mut HostedHeap) -> Option<Applied> {
 }
 
 fn applied(alloc: Global) -> Option<Applied> {
-    match format(alloc, 2, &ROWS, 1, 2_000) {
+    match new_heap(alloc, 1, 2_000) {
         Ok(mut heap) => {
             let found = work_and_round(&mut heap);
             drop(heap);
@@ -65,7 +65,7 @@ fn work_unhelped(heap: &mut HostedHeap) -> Option<u64> {
 // The same of a heap whose rings have room for so many records, and whose lanes for more. `None` where rings can't have that room.
 fn sections_with(alloc: Global, records: usize) -> Option<u64> {
     let ring = RingRecords::of(records)?;
-    match format_with(alloc, 2, &ROWS, 1, 20_000, 1, ring) {
+    match format(alloc, 2, &ROWS, 1, 20_000, 1, ring) {
         Ok(mut heap) => {
             let made = work_unhelped(&mut heap);
             drop(heap);
@@ -123,7 +123,7 @@ fn shared_round(heap: &mut HostedHeap) -> Option<(Option<u64>, Option<u64>)> {
 }
 
 fn shared(alloc: Global) -> Option<(Option<u64>, Option<u64>)> {
-    match format(alloc, 2, &ROWS, 2, 2_000) {
+    match new_heap(alloc, 2, 2_000) {
         Ok(mut heap) => {
             let found = shared_round(&mut heap);
             drop(heap);

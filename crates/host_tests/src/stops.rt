@@ -1,8 +1,8 @@
 //! What a session learns of a call that its host couldn't make.
 
-use crate::work::{ROWS, work};
+use crate::work::{new_heap, work};
 use disk_deferred::DeviceCall;
-use host_heap::{FailedCall, HostedHeap, HostedSession, format};
+use host_heap::{FailedCall, HostedHeap, HostedSession};
 use std::alloc::Global;
 
 // The most calls that are made.
@@ -39,7 +39,7 @@ fn fail(heap: &mut HostedHeap, one: &mut HostedSession, two: &mut HostedSession)
     (told, one.is_stopped(), two.is_stopped())
 }
 
-// With no call left; with a write; with the sync behind it; and once more.
+// With no call left; with a write; with the sync after it; and once more.
 fn fail_each(heap: &mut HostedHeap, one: &mut HostedSession, two: &mut HostedSession) -> [Told; 4] {
     let none = fail(heap, one, two);
     let _ = work(one, 5) && heap.round(None).is_ok();
@@ -69,7 +69,7 @@ fn fail_all(heap: &mut HostedHeap) -> Option<[Told; 4]> {
 }
 
 fn failed(alloc: Global) -> Option<[Told; 4]> {
-    match format(alloc, 2, &ROWS, 2, 2_000) {
+    match new_heap(alloc, 2, 2_000) {
         Ok(mut heap) => {
             let told = fail_all(&mut heap);
             drop(heap);

@@ -110,7 +110,7 @@ as_found c bytes image (inr (inl first)) = first.1
 as_found c bytes image (inr (inr none)) = elim none [ ]
 
 pub opens_on : OpeningLaw
-opens_on versions wanted bytes x report s c image found of by =
+opens_on versions threads ring bytes x report s c image found of by =
     let left : LeftSince 0 (hosted_device found.found.disk) image =
     subst (λ (e : Deferred). LeftSince 0 (hosted_device e) image) found.begun.disk_is (by.met.earlier by.next by.more image by.left by.leaves) in
     elim ((found.any_moment s of).each 0 image (omega arith) left) [

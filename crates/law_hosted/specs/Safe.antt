@@ -117,8 +117,8 @@ EndsLaw = (h : Home) (x : Parts Deferred) (ended : List Ended) (answer : Result 
     → IsServing hosted_device x (plan h) p → HasRun x.store.known.layout x.store.known.threads (plan h) first old p (hosted_device x.store.disk)
     → HaveMetHelper h x ended answer → (q : Past) × HasRun x.store.known.layout x.store.known.threads (plan h) first old q (hosted_device (disk_of answer))
 
--- The image is the heap of this history with all its sections: it shows the acknowledged cut of this past, so that recovery takes it, and behind that
--- the persistent fields have the history's values, and the transient ones begin anew.
+-- The image is the heap of this history with all its sections. It shows the acknowledged cut of this past, so that recovery accepts it. The
+-- persistent fields have the history's values after that, and the transient ones begin anew.
 pub record IsHeapOf (s : Setting) (l : Layout) (t : ℕ) (history : List (ℕ × Event)) (now : Past) (image : List ℕ) : Type 0 where
   pub left : ShowsCut l t s now.logged now.cut image
   pub stands : StandsForCut l s (log_of s history) (all_ended (actions (log_of s history))) image
@@ -132,6 +132,6 @@ ClosedLaw = (h : Home) (x : Parts Deferred) (d : Deferred) (c : Host) (image : L
 -- While the host makes the calls by which a heap was opened, or upgraded, a crash of its device leaves the bytes that it had, or an image on
 -- recovery's way, which has the same heap. So the heap may be opened again.
 abbrev pub OpeningLaw : Type 0
-OpeningLaw = (versions : Versions) (wanted : ℕ) (bytes : List ℕ) (x : Hosting) (report : Report) (s : Study) (c : Host) (image : List ℕ)
-    → IsFound versions wanted bytes x report → IsStudyOf bytes s → LeavesBy x.helper.store.disk c image
+OpeningLaw = (versions : Versions) (threads ring : ℕ) (bytes : List ℕ) (x : Hosting) (report : Report) (s : Study) (c : Host) (image : List ℕ)
+    → IsFound versions threads ring bytes x report → IsStudyOf bytes s → LeavesBy x.helper.store.disk c image
     → Image (record { bytes = bytes; pending = [] }) image ⊎ IsOnTheWay s image

@@ -1,5 +1,5 @@
 -- What stands once a running heap is closed.
-use Rattle.std.specs.Prelude.{ℕ, ◌≡◌, ◌≤◌, List, [], All}
+use Rattle.std.specs.Prelude.{ℕ, ◌≡◌, ◌≤◌, List, [], All, Result, IfOk}
 use Rattle.heap_model.specs.declared.event.Event.{Event}
 use Rattle.heap_model.specs.declared.record.Record.{Record}
 use Rattle.heap_model.specs.Cuts.{all_ended}
@@ -19,10 +19,12 @@ use Rattle.monitor.specs.Seats.{Helping, Home}
 use Rattle.monitor.specs.Views.{GoesOn}
 use Rattle.monitor.specs.Words.{Words}
 use Rattle.thread_steps.specs.Views.{plan, view}
+use Rattle.trim_helper.specs.Calls.{Closes}
 use Rattle.trim_helper.specs.Counts.{IsCutCount, WasCount}
-use Rattle.trim_helper.specs.Parts.{Parts}
+use Rattle.trim_helper.specs.Parts.{IsServing, Parts}
 use Rattle.trim_helper.specs.Settled.{closed_value}
 use Rattle.trim_helper.specs.Taken.{trimmed_of}
+use Rattle.trim_helper.specs.declared.close_error.CloseError.{CloseError}
 use Rattle.trim_helper.specs.declared.ended.Ended.{Ended}
 
 -- One legal history has what each of these sessions was told as its lane's part, and no other lane has any. The store has
@@ -65,8 +67,8 @@ abbrev pub WereTold : (log : List (ℕ × Record)) (seat : Helping) (acknowledge
 WereTold log seat acknowledged trimmed ended = All (WasTold log seat acknowledged trimmed) ended
 
 -- The heap was closed from this past, on the one device, which then was the other, by a helper with this seat. The history goes on from the
--- one that the helper had seen. Each session was told of what was acknowledged and trimmed by then, by counts of cuts of the history's log;
--- and whatever a crash left since shows a whole closed cut of a beginning of what was applied, with all that was acknowledged.
+-- one that the helper had seen. Each session was told what was acknowledged and trimmed by then, by counts of cuts of the history's log.
+-- Whatever a crash left since shows a whole, closed cut of a beginning of what was applied, with all that was acknowledged.
 pub record IsClosedFrom (h : Home) (l : Layout) (ended : List Ended) (p : Past) (seat : Helping) (since d : Device) : Type 0 where
   pub closed : IsClosed h l ended d
   -- The history of a closing goes on from the one that the helper had seen.
@@ -80,3 +82,11 @@ module _ {D : Type 0} (device : D → Device) where
   -- so this helper's heap was, and this is the disk that is given back
   abbrev pub ClosesFrom : Home → List Ended → Past → Parts D → (disk : D) → Type 0
   ClosesFrom h ended p x disk = IsClosedFrom h x.store.known.layout ended p x.seat (device x.store.disk) (device disk)
+
+  -- so it was, whatever past the helper served
+  abbrev pub ClosesFromEach : Home → List Ended → Parts D → Result D (D × CloseError) → Type 0
+  ClosesFromEach h ended x answer = (p : Past) → IsServing device x (plan h) p → IfOk answer (ClosesFrom h ended p x)
+
+  -- the sessions met the helper, with this outcome, whatever past it served
+  abbrev pub MeetHelper : Home → List Ended → Parts D → Result D (D × CloseError) → Type 0
+  MeetHelper h ended x answer = (p : Past) → IsServing device x (plan h) p → Closes device h ended p x answer

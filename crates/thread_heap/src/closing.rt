@@ -1,14 +1,9 @@
 //! Sessions end, and meet their helper.
-ghost use Rattle.std.specs.Prelude.{◌≡◌, ℕ, All, IfOk};
-ghost use Rattle.monitor.specs.Seats.{Home};
-ghost use Rattle.thread_heap.specs.Closed.{ClosesFrom, IsClosed};
-ghost use Rattle.thread_heap.specs.Joined.{IsHelping, IsJoined};
+ghost use Rattle.std.specs.Prelude.{◌≡◌, All, IfOk};
+ghost use Rattle.thread_heap.specs.Closed.{ClosesFromEach, IsClosed, MeetHelper};
+ghost use Rattle.thread_heap.specs.Joined.{IsHelping, LeavesEnd};
 ghost use Rattle.session.specs.Sessions.{seat_of};
-ghost use Rattle.thread_steps.specs.Views.{plan};
-ghost use Rattle.heap_model.specs.Past.{Past};
-ghost use Rattle.trim_helper.specs.Calls.{Closes};
-ghost use Rattle.trim_helper.specs.Endings.{IsEnded, Rings};
-ghost use Rattle.trim_helper.specs.Parts.{IsServing};
+ghost use Rattle.trim_helper.specs.Endings.{IsEnded};
 
 use block_disk::Disk;
 use monitor::Shared;
@@ -19,7 +14,7 @@ use trim_helper::{CloseError, Ended, Helper, close_down};
 pub fn end(session: Session) -> Ended
     ensures seat { result.seat ≡ seat_of session }
     // What a session leaves is what its helper needs to close.
-    ensures ended { (h : Home) (capacity : ℕ) (rings : Rings) → IsJoined h capacity rings session → IsEnded h capacity rings result }
+    ensures ended { LeavesEnd session result }
 {
     let ended = session.finish();
     let (seat, producer, _capacity, held) = ended.into_parts();
@@ -34,9 +29,10 @@ pub fn end(session: Session) -> Ended
 
 /// Lets the sessions that have ended meet their helper: all that they sent is applied, made durable and acknowledged, and the
 /// device is given back. One legal history has what each session was told as its part, and lock words, fat words, masks and fields, as
-/// the threads left them, spell the state after it. Recovery takes the device, whatever a crash leaves of it, and the device stands for the history's heap. The history goes on from the one that the helper had seen; so each
-/// session's part goes on from what was seen of its lane. A count that a session read as stable, the helper had published as
-/// acknowledged, and there is a whole, closed cut of the one history with so many of the session's sections.
+/// the threads left them, spell the state after it. Recovery accepts whatever a crash leaves of the device, and the device stands for the
+/// history's heap. The history goes on from the one that the helper had seen, so each session's part goes on from what was seen of its
+/// lane. The helper had published each count that a session read as stable as acknowledged, and there is a whole, closed cut of the one
+/// history with so many of the session's sections.
 ///
 /// Refusals, in this order, each with the device, as a stop leaves it:
 /// - `Missing`: the least lane that hasn't just one session in the list. Nothing was done;
@@ -54,10 +50,10 @@ pub fn close<D: Disk>(
     // After a closing one legal history has each session's told events as its part. Recovery accepts whatever a crash
     // leaves of the device, and it stands for the history's heap with all sections.
     ensures ok { IfOk result (λ disk. IsClosed shared helper.store.known.layout ended.items (D.device disk)) }
-    ensures from { (p : Past) → IsServing D.device helper (plan shared) p → IfOk result (ClosesFrom D.device shared ended.items p helper) }
+    ensures from { ClosesFromEach D.device shared ended.items helper result }
     // A closing that its sessions stop leaves the device as it was. Where they don't stop it and the store had failed,
     // it answers `Failed`.
-    ensures closes { (p : Past) → IsServing D.device helper (plan shared) p → Closes D.device shared ended.items p helper result }
+    ensures closes { MeetHelper D.device shared ended.items helper result }
 {
     close_down(shared, ended, helper)
 }

@@ -9,7 +9,9 @@
 mod closing;
 mod laws;
 mod opening;
+mod running_heap;
 
 pub use closing::{close, end};
 pub use laws::{helping_law, joined_law, life_law};
-pub use opening::{RunningHeap, open};
+pub use opening::open;
+pub use running_heap::RunningHeap;

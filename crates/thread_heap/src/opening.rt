@@ -1,30 +1,16 @@
 //! A heap begins to run.
-ghost use Rattle.std.specs.Prelude.{◌≡◌, ◌<◌, ◌≤◌, ◌+◌, ◌^◌, IfErr, IfOk, All, false, true, length};
-ghost use Rattle.thread_heap.specs.Joined.{AreNew, HaveRoom, IsHelping, IsJoined};
-ghost use Rattle.thread_steps.specs.Views.{plan};
-ghost use Rattle.heap_model.specs.Past.{no_past};
+ghost use Rattle.std.specs.Prelude.{◌≡◌, ◌<◌, ◌≤◌, ◌+◌, ◌^◌, IfErr, IfOk};
+ghost use Rattle.thread_heap.specs.Opening.{IsOpened};
 ghost use Rattle.trim_helper.specs.Opening.{FitsSchema};
-ghost use Rattle.trim_helper.specs.Parts.{IsServing};
 
+use crate::running_heap::RunningHeap;
 use block_disk::Disk;
 use guards::Schema;
 use image::Recovered;
-use monitor::Shared;
-use session::{Session, open_sessions};
+use session::open_sessions;
 use std::alloc::{AllocError, Global};
 use thread_rings::RingRecords;
 use trim_helper::{Helper, Opened, open_heap};
-
-/// A heap that is open for threads.
-#[derive(Drop)]
-pub struct RunningHeap<D: Disk> {
-    /// The words that the threads share, with the recovered values.
-    pub shared: Shared,
-    /// The session of each of the threads' lanes, lane i's as the i-th.
-    pub sessions: Vec<Session>,
-    /// The helper, to which the sessions send. It owns the device.
-    pub helper: Helper<D>,
-}
 
 /// Opens a heap of this schema that was recovered: its words, a session for each of the threads' lanes, and the helper, with rings of this
 /// room between them. The first `threads` lanes are the threads'; where the image has one more, that is the helper's own, and its rounds may
@@ -44,26 +30,9 @@ pub fn open<D: Disk>(
     requires some { 1 ≤ threads }
     requires within { threads ≤ recovered.layout.lanes }
     requires most { recovered.layout.lanes ≤ threads + 1 }
-    ensures plan { IfOk result (λ o. o.shared.plan ≡ record { schema = schema; first = recovered.heap; last = last; lanes = threads }) }
-    // Each new session is joined to the helper's ring of its lane.
-    ensures joined { IfOk result (λ o. All (IsJoined o.shared recovered.layout.capacity o.helper.rings) o.sessions.items) }
-    // Each ring of a new heap has the room that was asked for.
-    ensures rings { IfOk result (λ o. HaveRoom ring o.helper.rings) }
-    // The sessions of a new heap are new, and come lane by lane.
-    ensures fresh { IfOk result (λ o. AreNew 0 o.sessions.items) }
-    // A new heap has one session for each of the threads' lanes.
-    ensures count { IfOk result (λ o. length o.sessions.items ≡ threads) }
-    // The store of a new heap has so many lanes for its threads.
-    ensures threads { IfOk result (λ o. o.helper.store.known.threads ≡ threads) }
-    // The helper of a new heap is the heap's.
-    ensures helping { IfOk result (λ o. IsHelping D.device o.shared o.helper) }
-    ensures past { IfOk result (λ o. IsServing D.device o.helper (plan o.shared) no_past) }
-    // The store of a new heap hasn't failed.
-    ensures running { IfOk result (λ o. o.helper.store.known.has_failed ≡ false) }
-    // The helper of a new heap is settled.
-    ensures settled { IfOk result (λ o. o.helper.is_settled ≡ true) }
-    ensures layout { IfOk result (λ o. o.helper.store.known.layout ≡ recovered.layout) }
-    ensures disk { IfOk result (λ o. o.helper.store.disk ≡ recovered.disk) }
+    // A new heap runs with what was recovered. It has a new session for each of the threads' lanes, joined to its
+    // helper by a ring of the room that was asked for. Nothing was told to it, and all is settled.
+    ensures opened { IfOk result (IsOpened D.device schema recovered threads last ring) }
     // After want of memory the device is given back as it was.
     ensures refused { IfErr result (λ back. back.0 ≡ recovered.disk) }
 {

@@ -1,8 +1,8 @@
 //! What closing answers of sessions that haven't all ended.
 
-ghost use Rattle.std.specs.Prelude.{◌≡◌, ℕ, List, ◌∷◌, [], All, IfSome};
+ghost use Rattle.std.specs.Prelude.{◌≡◌, ℕ, ◌∷◌, [], All, IfSome};
 ghost use Rattle.block_disk.specs.Memory.{device_of};
-ghost use Rattle.thread_heap.specs.Joined.{IsHelping, IsJoined};
+ghost use Rattle.thread_heap.specs.Joined.{IsHelping, IsJoined, IsJoinedWith};
 ghost use Rattle.session.specs.Sessions.{IsSessionOf};
 ghost use Rattle.trim_helper.specs.Endings.{IsEnded, Rings};
 
@@ -59,7 +59,7 @@ fn close_listed(alloc: Global, heap: RunningHeap<MemDisk>, list: Option<Vec<Ende
 /// Closes the heap with this session alone.
 pub fn close_one(alloc: Global, heap: RunningHeap<MemDisk>, only: Session) -> Closing
     requires helper { IsHelping device_of heap.shared heap.helper }
-    requires only { IsJoined heap.shared heap.helper.store.known.layout.capacity heap.helper.rings only }
+    requires only { IsJoinedWith heap.shared heap.helper only }
 {
     close_listed(alloc, heap, one_of(alloc, end(only)))
 }
@@ -83,8 +83,8 @@ fn close_holding(
     second: Session,
 ) -> Closing
     requires helper { IsHelping device_of heap.shared heap.helper }
-    requires first { IsJoined heap.shared heap.helper.store.known.layout.capacity heap.helper.rings first }
-    requires second { IsJoined heap.shared heap.helper.store.known.layout.capacity heap.helper.rings second }
+    requires first { IsJoinedWith heap.shared heap.helper first }
+    requires second { IsJoinedWith heap.shared heap.helper second }
 {
     let held = end_holding(&heap.shared, first);
     close_listed(alloc, heap, both_of(alloc, held, end(second)))
@@ -108,8 +108,8 @@ fn close_waiting(
     second: Session,
 ) -> (bool, Closing)
     requires helper { IsHelping device_of heap.shared heap.helper }
-    requires first { IsJoined heap.shared heap.helper.store.known.layout.capacity heap.helper.rings first }
-    requires second { IsJoined heap.shared heap.helper.store.known.layout.capacity heap.helper.rings second }
+    requires first { IsJoinedWith heap.shared heap.helper first }
+    requires second { IsJoinedWith heap.shared heap.helper second }
 {
     let waiting = begin_wait(&heap.shared, first);
     let closing = close_one(alloc, heap, second);
@@ -118,8 +118,8 @@ fn close_waiting(
 
 // A heap of two lanes that begins to run.
 fn opened(alloc: Global) -> Option<TwoLanes>
-    ensures first { IfSome result (λ o. IsJoined o.0.shared o.0.helper.store.known.layout.capacity o.0.helper.rings o.1) }
-    ensures second { IfSome result (λ o. IsJoined o.0.shared o.0.helper.store.known.layout.capacity o.0.helper.rings o.2) }
+    ensures first { IfSome result (λ o. IsJoinedWith o.0.shared o.0.helper o.1) }
+    ensures second { IfSome result (λ o. IsJoinedWith o.0.shared o.0.helper o.2) }
     ensures helping { IfSome result (λ o. IsHelping device_of o.0.shared o.0.helper) }
 {
     let schema = declare(alloc)?;

@@ -1,10 +1,9 @@
 //! Rounds and closings, of a device that fails and of one that does not.
 
-ghost use Rattle.std.specs.Prelude.{◌≤◌, ℕ};
+ghost use Rattle.std.specs.Prelude.{◌≤◌};
 ghost use Rattle.block_disk.specs.Memory.{device_of};
-ghost use Rattle.thread_heap.specs.Joined.{IsHelping, IsJoined};
+ghost use Rattle.thread_heap.specs.Joined.{IsHelping, IsJoinedWith, StaysJoined};
 ghost use Rattle.session.specs.Sessions.{IsSessionOf};
-ghost use Rattle.trim_helper.specs.Endings.{Rings};
 
 use crate::endings::{Closing, close_one};
 use crate::heap::{new_disk, open_one};
@@ -37,7 +36,7 @@ struct Seen {
 fn told(shared: &Shared, session: &mut Session) -> u64
     requires seat { IsSessionOf shared.now session.old }
     ensures seat { IsSessionOf shared.now session.new }
-    ensures joined { (capacity : ℕ) (rings : Rings) → IsJoined shared.now capacity rings session.old → IsJoined shared.now capacity rings session.new }
+    ensures joined { StaysJoined shared.now session.old session.new }
 {
     joined_law();
     session.stable(shared)
@@ -51,9 +50,9 @@ fn work<R: Wait>(
     helper: &mut Helper<MemDisk>,
 ) -> Seen
     requires helper { IsHelping device_of shared.now helper.old }
-    requires session { IsJoined shared.now helper.old.store.known.layout.capacity helper.old.rings session.old }
+    requires session { IsJoinedWith shared.now helper.old session.old }
     ensures helper { IsHelping device_of shared.now helper.new }
-    ensures session { IsJoined shared.now helper.new.store.known.layout.capacity helper.new.rings session.new }
+    ensures session { IsJoinedWith shared.now helper.new session.new }
 {
     let _ = add_one(rt, shared, session);
     let first = serve(shared, helper).err();
@@ -76,7 +75,7 @@ fn play<R: Wait>(
     session: Session,
 ) -> (Seen, Closing)
     requires helper { IsHelping device_of heap.shared heap.helper }
-    requires session { IsJoined heap.shared heap.helper.store.known.layout.capacity heap.helper.rings session }
+    requires session { IsJoinedWith heap.shared heap.helper session }
 {
     let (mut heap, mut session) = (heap, session);
     let seen = work(rt, &heap.shared, &mut session, &mut heap.helper);
@@ -95,7 +94,7 @@ fn seen_at<R: Wait>(rt: &R, alloc: Global, call: u64) -> Option<(Seen, Closing)>
     }
 }
 
-// Whether the first round is told of a fault, all calls behind it of a failed device, and no section of being acknowledged.
+// Whether the first round is told of a fault, all later calls of a failed device, and no section of being acknowledged.
 fn is_told(seen: &Seen, closing: Option<CloseError>) -> bool {
     let first = seen.first == Some(StoreError::Fault);
     let second = seen.second == Some(StoreError::Failed);
@@ -150,10 +149,10 @@ fn are_rounds_made<R: Wait>(rt: &R, alloc: Global, call: u64) -> Option<bool>
 }
 
 // A round makes 14 calls, two reads of a slot's head among them. Whatever was sent is kept where the last one fails, which is the
-// sync behind the gate that makes the control count which acknowledges it.
+// sync after the gate that makes the control count which acknowledges it.
 const KEPT: [u64; 14] = [0, 0, 0, 0, 0, 0, 0, 0, 0, 0, 0, 0, 0, 1];
 
-// The first of the calls behind the making of the image whose fault isn't told so, or leaves something else.
+// The first of the calls after the making of the image whose fault isn't told so, or leaves something else.
 fn first_other<R: Wait>(rt: &R, alloc: Global) -> Option<usize> {
     for place in 0..14 {
         if kept_at(rt, alloc, place as u64 + CALLS_OF_FORMAT + 1) != Some(KEPT[place]) {
@@ -166,6 +165,6 @@ fn first_other<R: Wait>(rt: &R, alloc: Global) -> Option<usize> {
 #[test]
 fn a_device_fails_at_each_call_of_a_round(rt: HostRuntime) {
     assert!(rt; first_other(&rt, rt.alloc()).is_none());
-    // The call behind them isn't made by a round, nor by a second one, which finds nothing new.
+    // The call after them isn't made by a round, nor by a second one, which finds nothing new.
     assert!(rt; are_rounds_made(&rt, rt.alloc(), CALLS_OF_FORMAT + 15) == Some(true));
 }

@@ -2,7 +2,7 @@
 
 ghost use Rattle.std.specs.Prelude.{◌≤◌, ◌+◌, IfSome, All};
 ghost use Rattle.block_disk.specs.Memory.{device_of};
-ghost use Rattle.thread_heap.specs.Joined.{IsHelping, IsJoined};
+ghost use Rattle.thread_heap.specs.Joined.{IsHelping, IsJoinedWith};
 
 use block_disk::{Disk, MemDisk};
 use durable::Store;
@@ -15,7 +15,7 @@ use thread_rings::RingRecords;
 // A bound on release numbers that no test comes near.
 const LAST: u64 = 1_000_000;
 
-/// The disk on which such a heap begins.
+/// The disk on which this heap begins.
 pub fn new_disk(alloc: Global) -> Option<MemDisk> {
     MemDisk::new(alloc, 80_384).ok()
 }
@@ -72,7 +72,7 @@ fn begin<D: Disk + Drop>(
     requires some { 1 ≤ threads }
     requires within { threads ≤ lanes }
     requires most { lanes ≤ threads + 1 }
-    ensures joined { IfSome result (λ o. All (IsJoined o.shared o.helper.store.known.layout.capacity o.helper.rings) o.sessions.items) }
+    ensures joined { IfSome result (λ o. All (IsJoinedWith o.shared o.helper) o.sessions.items) }
     ensures helping { IfSome result (λ o. IsHelping D.device o.shared o.helper) }
 {
     let made = match Store::format(alloc, disk, &schema, lanes, capacity) {
@@ -107,10 +107,10 @@ pub fn disk_of<D: Disk + Drop>(heap: RunningHeap<D>) -> D {
 
 // Takes the session of the last lane of which it is there.
 fn take_last<D: Disk + Drop>(heap: &mut RunningHeap<D>) -> Option<Session>
-    requires joined { All (IsJoined heap.old.shared heap.old.helper.store.known.layout.capacity heap.old.helper.rings) heap.old.sessions.items }
-    ensures session { IfSome result (IsJoined heap.new.shared heap.new.helper.store.known.layout.capacity heap.new.helper.rings) }
-    ensures joined { All (IsJoined heap.new.shared heap.new.helper.store.known.layout.capacity heap.new.helper.rings) heap.new.sessions.items }
-    ensures others { (x : Session) → IsJoined heap.old.shared heap.old.helper.store.known.layout.capacity heap.old.helper.rings x → IsJoined heap.new.shared heap.new.helper.store.known.layout.capacity heap.new.helper.rings x }
+    requires joined { All (IsJoinedWith heap.old.shared heap.old.helper) heap.old.sessions.items }
+    ensures session { IfSome result (IsJoinedWith heap.new.shared heap.new.helper) }
+    ensures joined { All (IsJoinedWith heap.new.shared heap.new.helper) heap.new.sessions.items }
+    ensures others { (x : Session) → IsJoinedWith heap.old.shared heap.old.helper x → IsJoinedWith heap.new.shared heap.new.helper x }
     ensures helping { IsHelping D.device heap.old.shared heap.old.helper → IsHelping D.device heap.new.shared heap.new.helper }
 {
     heap.sessions.pop()
@@ -118,9 +118,9 @@ fn take_last<D: Disk + Drop>(heap: &mut RunningHeap<D>) -> Option<Session>
 
 // A heap of one lane, whose session is apart.
 fn only_lane<D: Disk + Drop>(heap: RunningHeap<D>) -> Option<(RunningHeap<D>, Session)>
-    requires joined { All (IsJoined heap.shared heap.helper.store.known.layout.capacity heap.helper.rings) heap.sessions.items }
+    requires joined { All (IsJoinedWith heap.shared heap.helper) heap.sessions.items }
     requires helping { IsHelping D.device heap.shared heap.helper }
-    ensures joined { IfSome result (λ o. IsJoined o.0.shared o.0.helper.store.known.layout.capacity o.0.helper.rings o.1) }
+    ensures joined { IfSome result (λ o. IsJoinedWith o.0.shared o.0.helper o.1) }
     ensures helping { IfSome result (λ o. IsHelping D.device o.0.shared o.0.helper) }
 {
     let mut heap = heap;
@@ -130,7 +130,7 @@ fn only_lane<D: Disk + Drop>(heap: RunningHeap<D>) -> Option<(RunningHeap<D>, Se
 
 /// A heap with one lane, which begins to run on this disk, and its session.
 pub fn open_one<D: Disk + Drop>(alloc: Global, disk: D) -> Option<(RunningHeap<D>, Session)>
-    ensures joined { IfSome result (λ o. IsJoined o.0.shared o.0.helper.store.known.layout.capacity o.0.helper.rings o.1) }
+    ensures joined { IfSome result (λ o. IsJoinedWith o.0.shared o.0.helper o.1) }
     ensures helping { IfSome result (λ o. IsHelping D.device o.0.shared o.0.helper) }
 {
     let schema = declare(alloc)?;
@@ -145,9 +145,9 @@ pub type TwoLanes = (RunningHeap<MemDisk>, Session, Session);
 
 // Takes both sessions of a heap of two threads, of which they are there.
 fn take_both<D: Disk + Drop>(heap: &mut RunningHeap<D>) -> Option<(Session, Session)>
-    requires joined { All (IsJoined heap.old.shared heap.old.helper.store.known.layout.capacity heap.old.helper.rings) heap.old.sessions.items }
-    ensures first { IfSome result (λ r. IsJoined heap.new.shared heap.new.helper.store.known.layout.capacity heap.new.helper.rings r.0) }
-    ensures second { IfSome result (λ r. IsJoined heap.new.shared heap.new.helper.store.known.layout.capacity heap.new.helper.rings r.1) }
+    requires joined { All (IsJoinedWith heap.old.shared heap.old.helper) heap.old.sessions.items }
+    ensures first { IfSome result (λ r. IsJoinedWith heap.new.shared heap.new.helper r.0) }
+    ensures second { IfSome result (λ r. IsJoinedWith heap.new.shared heap.new.helper r.1) }
     ensures helping { IsHelping D.device heap.old.shared heap.old.helper → IsHelping D.device heap.new.shared heap.new.helper }
 {
     let second = take_last(heap);
@@ -157,10 +157,10 @@ fn take_both<D: Disk + Drop>(heap: &mut RunningHeap<D>) -> Option<(Session, Sess
 
 // Its sessions are apart.
 fn both_lanes<D: Disk + Drop>(heap: RunningHeap<D>) -> Option<(RunningHeap<D>, Session, Session)>
-    requires joined { All (IsJoined heap.shared heap.helper.store.known.layout.capacity heap.helper.rings) heap.sessions.items }
+    requires joined { All (IsJoinedWith heap.shared heap.helper) heap.sessions.items }
     requires helping { IsHelping D.device heap.shared heap.helper }
-    ensures first { IfSome result (λ o. IsJoined o.0.shared o.0.helper.store.known.layout.capacity o.0.helper.rings o.1) }
-    ensures second { IfSome result (λ o. IsJoined o.0.shared o.0.helper.store.known.layout.capacity o.0.helper.rings o.2) }
+    ensures first { IfSome result (λ o. IsJoinedWith o.0.shared o.0.helper o.1) }
+    ensures second { IfSome result (λ o. IsJoinedWith o.0.shared o.0.helper o.2) }
     ensures helping { IfSome result (λ o. IsHelping D.device o.0.shared o.0.helper) }
 {
     let mut heap = heap;
@@ -173,8 +173,8 @@ fn both_lanes<D: Disk + Drop>(heap: RunningHeap<D>) -> Option<(RunningHeap<D>, S
 
 /// A heap of this schema, which begins to run on a disk of its own.
 pub fn open_two(alloc: Global, schema: Schema) -> Option<TwoLanes>
-    ensures first { IfSome result (λ o. IsJoined o.0.shared o.0.helper.store.known.layout.capacity o.0.helper.rings o.1) }
-    ensures second { IfSome result (λ o. IsJoined o.0.shared o.0.helper.store.known.layout.capacity o.0.helper.rings o.2) }
+    ensures first { IfSome result (λ o. IsJoinedWith o.0.shared o.0.helper o.1) }
+    ensures second { IfSome result (λ o. IsJoinedWith o.0.shared o.0.helper o.2) }
     ensures helping { IfSome result (λ o. IsHelping device_of o.0.shared o.0.helper) }
 {
     let Some(disk) = new_disk(alloc) else {
@@ -193,8 +193,8 @@ pub fn open_helped<D: Disk + Drop>(
     alloc: Global,
     disk: D,
 ) -> Option<(RunningHeap<D>, Session, Session)>
-    ensures first { IfSome result (λ o. IsJoined o.0.shared o.0.helper.store.known.layout.capacity o.0.helper.rings o.1) }
-    ensures second { IfSome result (λ o. IsJoined o.0.shared o.0.helper.store.known.layout.capacity o.0.helper.rings o.2) }
+    ensures first { IfSome result (λ o. IsJoinedWith o.0.shared o.0.helper o.1) }
+    ensures second { IfSome result (λ o. IsJoinedWith o.0.shared o.0.helper o.2) }
     ensures helping { IfSome result (λ o. IsHelping D.device o.0.shared o.0.helper) }
 {
     let Some(schema) = declare(alloc) else {

@@ -1,6 +1,5 @@
 //! A heap of two threads whose image has a third lane, the helper's own: a round takes two syncs, and the next one brings its values home.
 
-ghost use Rattle.std.specs.Prelude.{◌≡◌};
 ghost use Rattle.block_disk.specs.Memory.{device_of};
 ghost use Rattle.thread_heap.specs.Joined.{IsHelping};
 ghost use Rattle.session.specs.Sessions.{IsSessionOf};
@@ -17,7 +16,7 @@ use std::alloc::Global;
 use thread_heap::RunningHeap;
 use trim_helper::Helper;
 
-// The size of its image, and where the home cells of the threads' own fields lie, behind that of the field for all.
+// The size of its image, and where the home cells of the threads' own fields lie, after that of the field for all.
 const SIZE: u64 = 98_232;
 
 const CELLS_AT: [u64; 2] = [2_216, 2_224];
@@ -52,7 +51,7 @@ fn take_turn(shared: &Shared, first: &mut Session, second: &mut Session, turn: u
     }
 }
 
-// So many turns with a round behind each. Answers whether all were Ok.
+// So many turns with a round after each. Answers whether all were Ok.
 fn take_turns(
     shared: &Shared,
     first: &mut Session,
@@ -107,7 +106,7 @@ fn play(
     (disk_of(heap), are_two && is_ok)
 }
 
-// The disk of a heap that begins to run, behind so many turns that were Ok.
+// The disk of a heap that begins to run, after so many turns that were Ok.
 fn played(alloc: Global, turns: u32) -> Option<CountedDisk> {
     let disk = CountedDisk::of(MemDisk::new(alloc, SIZE).ok()?);
     let (disk, is_ok) = match open_helped(alloc, disk) {
@@ -132,7 +131,7 @@ fn cells_of(disk: &MemDisk) -> Option<[u64; 2]> {
     Some([cell_at(disk, CELLS_AT[0])?, cell_at(disk, CELLS_AT[1])?])
 }
 
-// How many writes and syncs there are of the disk behind so many turns, and what the home cells of the threads' own fields hold.
+// How many writes and syncs there are of the disk after so many turns, and what the home cells of the threads' own fields hold.
 fn found(alloc: Global, turns: u32) -> Option<((u64, u64), [u64; 2])> {
     match played(alloc, turns) {
         Some(disk) => {
@@ -204,7 +203,7 @@ fn stops_after(alloc: Global, turns: u32) -> Option<u64> {
     }
 }
 
-// Whether each crash in the second round keeps the first one's section, and one behind it keeps both.
+// Whether each crash in the second round keeps the first one's section, and one after it keeps both.
 fn keeps(alloc: Global) -> Option<[bool; 2]> {
     let before = stops_after(alloc, 1)?;
     match played(alloc, 2) {

@@ -56,7 +56,7 @@ fn recovers_at<E: Expected>(
     }
 }
 
-/// Whether it gives that of what a crash leaves at each stop of the disk behind so many, and of what one leaves now.
+/// Whether it gives that of what a crash leaves at each stop of the disk after so many, and of what one leaves now.
 pub fn recover_each<E: Expected>(
     alloc: Global,
     disk: &MemDisk,

@@ -104,7 +104,7 @@ enum Run {
     BesideOpen,
 }
 
-// So many turns, with a round of the helper behind each.
+// So many turns, with a round of the helper after each.
 fn take_turns(
     shared: &Shared,
     pool: &Pool,
@@ -134,7 +134,7 @@ fn take_turns(
     drop(second);
 }
 
-// The disk of the heap behind these turns.
+// The disk of the heap after these turns.
 fn play(
     heap: RunningHeap<MemDisk>,
     first: Session,

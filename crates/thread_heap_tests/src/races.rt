@@ -1,6 +1,5 @@
 //! Workers in threads of their own beside their helper, and a crash at each call of the device.
 
-ghost use Rattle.std.specs.Prelude.{◌≡◌};
 ghost use Rattle.block_disk.specs.Memory.{device_of};
 ghost use Rattle.thread_heap.specs.Joined.{IsHelping};
 ghost use Rattle.session.specs.Sessions.{IsSessionOf};
@@ -116,7 +115,7 @@ fn raced<R: Threads + Wait + Sync>(rt: &R, alloc: Global) -> Option<((Notes, Not
     }
 }
 
-// Whether a crash at each call of the disk behind so many leaves whole sections of what the workers noted, and one now leaves all.
+// Whether a crash at each call of the disk after so many leaves whole sections of what the workers noted, and one now leaves all.
 fn hold(alloc: Global, disk: &MemDisk, before: u64, first: Notes, second: Notes) -> [bool; 2] {
     let mut did = Did {
         first,
@@ -129,7 +128,7 @@ fn hold(alloc: Global, disk: &MemDisk, before: u64, first: Notes, second: Notes)
     [whole, all]
 }
 
-// The same behind the making of the image.
+// The same after the making of the image.
 fn hold_all<R: Threads + Wait + Sync>(rt: &R, alloc: Global) -> Option<[bool; 2]> {
     let (before, _) = told_after(rt, alloc, 0)?;
     match raced(rt, alloc) {

@@ -1,6 +1,5 @@
 //! How many writes and syncs a round takes.
 
-ghost use Rattle.std.specs.Prelude.{◌≡◌};
 ghost use Rattle.block_disk.specs.Memory.{device_of};
 ghost use Rattle.thread_heap.specs.Joined.{IsHelping};
 ghost use Rattle.session.specs.Sessions.{IsSessionOf};
@@ -16,7 +15,7 @@ use std::sync::Wait;
 use thread_heap::RunningHeap;
 use trim_helper::Helper;
 
-// So many sections of one store with a round behind each, and then so many rounds with nothing new. Answers whether all were Ok.
+// So many sections of one store with a round after each, and then so many rounds with nothing new. Answers whether all were Ok.
 fn add_and_serve<R: Wait>(
     rt: &R,
     shared: &Shared,

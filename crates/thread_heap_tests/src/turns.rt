@@ -1,6 +1,5 @@
 //! Workers that take turns, and a crash at each call of the device of each round.
 
-ghost use Rattle.std.specs.Prelude.{◌≡◌};
 ghost use Rattle.block_disk.specs.Memory.{device_of};
 ghost use Rattle.thread_heap.specs.Joined.{IsHelping};
 ghost use Rattle.session.specs.Sessions.{IsSessionOf};
@@ -39,7 +38,7 @@ fn take_turn<R: Wait>(
     }
 }
 
-// So many turns with a round behind each: what was done, with what each session was told of as acknowledged.
+// So many turns with a round after each: what was done, with what each session was told of as acknowledged.
 fn take_turns<R: Wait>(
     rt: &R,
     shared: &Shared,
@@ -156,7 +155,7 @@ fn acknowledged<R: Wait>(rt: &R, alloc: Global, turns: usize) -> Option<(bool, [
     Some((before < stops, least))
 }
 
-// Of eight turns the second worker leaves out two.
+// The second worker leaves out two of eight turns.
 #[test]
 fn each_round_acknowledges_its_sections(rt: HostRuntime) {
     assert!(rt; acknowledged(&rt, rt.alloc(), 8) == Some((true, [8, 6])));

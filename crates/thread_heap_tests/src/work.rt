@@ -1,9 +1,7 @@
 //! What helpers and sessions do again and again.
 
-ghost use Rattle.std.specs.Prelude.{◌≡◌, ℕ};
-ghost use Rattle.thread_heap.specs.Joined.{IsHelping, IsJoined};
+ghost use Rattle.thread_heap.specs.Joined.{IsHelping, StayJoined, StaysJoined};
 ghost use Rattle.session.specs.Sessions.{IsSessionOf, SameRing};
-ghost use Rattle.trim_helper.specs.Endings.{Rings};
 
 use block_disk::Disk;
 use durable::StoreError;
@@ -24,7 +22,7 @@ pub const TOTAL: FieldId = FieldId(0);
 pub fn serve<D: Disk>(shared: &Shared, helper: &mut Helper<D>) -> Result<u64, StoreError>
     requires helping { IsHelping D.device shared.now helper.old }
     ensures helping { IsHelping D.device shared.now helper.new }
-    ensures joined { (x : Session) → IsJoined shared.now helper.old.store.known.layout.capacity helper.old.rings x → IsJoined shared.now helper.new.store.known.layout.capacity helper.new.rings x }
+    ensures joined { StayJoined shared.now helper.old helper.new }
 {
     helping_law::<D>();
     joined_law();
@@ -47,7 +45,7 @@ pub fn value_for_all(shared: &Shared, session: &mut Session) -> u64
 pub fn add_one<R: Wait>(rt: &R, shared: &Shared, session: &mut Session) -> bool
     requires seat { IsSessionOf shared.now session.old }
     ensures seat { IsSessionOf shared.now session.new }
-    ensures joined { (capacity : ℕ) (rings : Rings) → IsJoined shared.now capacity rings session.old → IsJoined shared.now capacity rings session.new }
+    ensures joined { StaysJoined shared.now session.old session.new }
 {
     joined_law();
     let entered = session.enter(rt, shared, ALL).is_ok();

@@ -21,7 +21,7 @@ E = record { row = Inner.the_row; laws = inner.the_row_laws; al = record { row =
 abbrev pub FromLoose : Slot 0
 FromLoose = plain (λ _. Loose.the_row Inner.the_row Heap.the_row ghosts)
 
--- what is behind a handle that is open
+-- what a handle has that is open
 pub opened : (o : Held) → IsSome o → (x : E.row.Denot) × (o ≡ Some x)
 opened (Some x) is = (x, refl)
 opened None is = absurd (subst (λ (b : Bool). T (not b)) is tt)

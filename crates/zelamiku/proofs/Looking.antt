@@ -4,7 +4,7 @@ use Rattle.std.proofs.lemmas.Bool.{cases_lt, lt-ltb, le-ltb}
 use Rattle.std.proofs.lemmas.Option.{slice_get_past, slice_get_read}
 use Rattle.std.specs.Option.{is_some, option_copied}
 
--- the value behind the reference that it gives, or none past the end
+-- the value of the reference that it gives, or none past the end
 pub copied_is : {T : Type 0} (xs : List T) (i : ℕ) (o : Option (Bor T)) → is_some o ≡ nat_lt i (length xs) → IfSome o (λ x. x.now ≡ get_or xs i x.now) → option_copied o ≡ slice_get xs i
 copied_is xs i None test read = elim (cases_lt i (length xs)) [
   | inl low ↦ absurd (let no = lt-ltb i (length xs) low in cc)

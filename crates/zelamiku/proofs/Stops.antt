@@ -1,10 +1,10 @@
 -- What a session answers by what it has seen of a stop.
-use Rattle.std.proofs.Common.{◌≡◌, ℕ, Bool, true, false, Option, Some, None, refl, ◌∙◌, subst}
+use Rattle.std.proofs.Common.{◌≡◌, ℕ, Bool, true, false, Option, Some, None, refl, subst}
 use Rattle.std.specs.Option.{is_some}
 use Rattle.host_heap.specs.Failing.{failed_call}
 use Rattle.host_heap.specs.Hosting.{Hosting}
 use Rattle.host_heap.specs.declared.error.FailedCall.{FailedCall}
-use Rattle.zelamiku.specs.Behind.{heap_behind}
+use Rattle.zelamiku.specs.Handles.{heap_held}
 use Rattle.zelamiku.specs.Own.{Held}
 use Rattle.zelamiku.specs.StopDoors.{AfterFailure, FailsCallAt, LeavesWord, UnlessSeen}
 use Rattle.zelamiku.specs.declared.state.Open.TheVariants as kind
@@ -20,5 +20,5 @@ unseen_stop None there call after status is told = told
 unseen_stop (Some written) there call after status is told = absurd cc
 
 -- of the call that is the first of those that are left
-pub failed_at : (x : Hosting) (o : Option FailedCall) (after : Held) (status : ℕ) → o ≡ failed_call x.calls.left → AfterFailure o (heap_behind x) (LeavesWord x) after status → FailsCallAt (kind.Heap x) after status
-failed_at x o after status is told = subst (λ (p : Option FailedCall). AfterFailure p (heap_behind x) (LeavesWord x) after status) is told
+pub failed_at : (x : Hosting) (o : Option FailedCall) (after : Held) (status : ℕ) → o ≡ failed_call x.calls.left → AfterFailure o (heap_held x) (LeavesWord x) after status → FailsCallAt (kind.Heap x) after status
+failed_at x o after status is told = subst (λ (p : Option FailedCall). AfterFailure p (heap_held x) (LeavesWord x) after status) is told

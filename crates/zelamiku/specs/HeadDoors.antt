@@ -1,5 +1,5 @@
 -- What C is told of the first bytes of a device: whose image they begin, or whether there may have been one (this project's own).
-use Rattle.std.specs.Prelude.{ℕ, ◌≡◌, ◌<◌, ◌≤◌, ◌+◌, ◌*◌, ◌^◌, List, length}
+use Rattle.std.specs.Prelude.{ℕ, ◌≡◌, ◌<◌, ◌≤◌, ◌+◌, ◌*◌, List, length}
 use Rattle.image_parts.specs.Head.{HasNoControl, IsNamed, fields_in}
 use Rattle.image_parts.specs.Header.{HasHeader, IsFormatted}
 use Rattle.image_parts.specs.Layout.{size_of}
@@ -23,7 +23,7 @@ begun_head zeros_from = record { size = 0; zeros_from = zeros_from; objects = 0;
 abbrev pub head_of : Layout → Head
 head_of l = record { size = size_of l; zeros_from = 0; objects = l.objects; fields = l.fields; lanes = l.lanes; capacity = l.capacity; is_damaged = 0 }
 
--- A making in place that was cut off before its first control may leave these bytes, and zeros behind the rows and cells of so many fields.
+-- A making in place that was cut off before its first control may leave these bytes, and zeros after the rows and cells of so many fields.
 pub record IsBegun (begun : List ℕ) : Type 0 where
   pub named : IsNamed begun
   pub shut : IsFormatted begun → ⊥

@@ -1,18 +1,16 @@
--- What C's calls of a heap do to what is behind its handle, and what they answer, by cases on what is there (this project's own).
-use Rattle.std.specs.Prelude.{ℕ, ◌≡◌, ◌<◌, ◌≤◌, ◌↔◌, List, [], ◌∷◌, ◌++◌, ◌+◌, ◌==◌, not, true, false, if◌then◌else◌, Option, Some, None, Result, Ok, Err, IfOk, IsErrOf, OnOk, drop, length, map, min, take}
-use Rattle.block_disk.specs.Device.{HasFailed}
+-- What C's calls of a heap do to what its handle has, and what they answer, by the kind of what is there (this project's own).
+use Rattle.std.specs.Prelude.{ℕ, ◌≡◌, ◌<◌, ◌≤◌, ◌↔◌, List, [], ◌∷◌, ◌++◌, ◌+◌, ◌==◌, not, if◌then◌else◌, Option, Some, None, Result, Ok, Err, IfOk, IsErrOf, MatchResult, OnOk, drop, length, map, min, take}
 use Rattle.disk_deferred.specs.Deferred.{stop_of}
 use Rattle.disk_deferred.specs.Host.{Fetches, HasLooked, HaveMet, Host}
 use Rattle.disk_deferred.specs.declared.call.DeviceCall.{DeviceCall}
 use Rattle.disk_deferred.specs.declared.call.DeviceCall.TheVariants.{Write, Sync}
 use Rattle.disk_deferred.specs.declared.call.TheConstants.{MOST_BYTES}
-use Rattle.disk_deferred.specs.declared.disk.TheConstants.{SYNCS}
 use Rattle.host_heap.specs.Again.{HandsAgain, HasNoneIdle}
 use Rattle.host_heap.specs.Closing.{IsNotClosed}
 use Rattle.host_heap.specs.Hosting.{Hosting, IsClosedWith, SameHeap, hosted_device}
 use Rattle.host_heap.specs.Lanes.{IsAwaitedBy, IsJoinedHere}
 use Rattle.host_heap.specs.Meeting.{AreAllMade, FetchesAll, SameButMet}
-use Rattle.host_heap.specs.Opening.{HasRings, IsMade, RefusesMaking}
+use Rattle.host_heap.specs.Opening.{IsMade, RefusesMaking}
 use Rattle.host_heap.specs.Rounds.{HasRound}
 use Rattle.host_heap.specs.Sessions.{Seated}
 use Rattle.host_heap.specs.declared.closing.Closed.{Closed}
@@ -22,34 +20,24 @@ use Rattle.host_heap.specs.declared.error.AcknowledgedError.{AcknowledgedError}
 use Rattle.host_heap.specs.declared.error.AcknowledgedError.TheVariants.{BadLane, CallsLeft}
 use Rattle.host_heap.specs.declared.error.HostError.{HostError}
 use Rattle.host_heap.specs.declared.error.RoundError.{RoundError}
-use Rattle.host_heap.specs.declared.error.RoundError.TheVariants as rounds
 use Rattle.host_heap.specs.declared.lane_end.LaneEnd.{LaneEnd}
-use Rattle.host_heap.specs.declared.room.TheConstants.{ROUND_SYNCS}
 use Rattle.law_hosted.specs.Safe.{KeepsFrom, KeepsNow}
 use Rattle.image_parts.specs.Layout.{size_of}
 use Rattle.image_parts.specs.declared.guard_row.GuardRow.{GuardRow}
-use Rattle.image_parts.specs.declared.layout.Layout.{Layout}
 use Rattle.recover.specs.declared.report.Report.{Report}
 use Rattle.session.specs.Sessions.{view_of}
 use Rattle.thread_steps.specs.Views.{plan}
 use Rattle.heap_model.specs.Past.{Past}
-use Rattle.heap_model.specs.declared.store_error.StoreError.TheVariants.{Fault}
 use Rattle.trim_helper.specs.Parts.{IsServing}
 use Rattle.zelamiku.specs.Own.{Held}
-use Rattle.zelamiku.specs.Behind.{Answers, behind, nothing_behind, heap_behind, closed_behind, session_behind, stopped_behind}
+use Rattle.zelamiku.specs.Handles.{Answers, OfDevice, OfHeap, nothing_held, heap_held, closed_held, session_held}
 use Rattle.zelamiku.specs.HeapStatuses.{acknowledged_status, host_status, not_closed_status, round_status}
 use Rattle.zelamiku.specs.declared.heap_calls.TheConstants.{ALL}
 use Rattle.zelamiku.specs.declared.state.Open.{Open}
-use Rattle.zelamiku.specs.declared.state.Open.TheVariants as kind
-use Rattle.zelamiku.specs.declared.status.TheConstants.{OK, OPEN, WRONG_KIND, NO_MEMORY, NONE_LEFT, BAD_HEADER, STOPPED, CLOSED}
+use Rattle.zelamiku.specs.declared.status.TheConstants.{OK, OPEN, NO_MEMORY, NONE_LEFT, BAD_HEADER}
 use Rattle.zelamiku.specs.declared.words.Call.{Call}
 use Rattle.zelamiku.specs.declared.words.Field.{Field}
 use Rattle.zelamiku.specs.declared.words.Found.{Found}
-
--- A call that puts something new behind a handle: where something is there already it stays.
-abbrev pub PutsNew : (p : (after : Held) → (status : ℕ) → Type 0) → (before after : Held) (status : ℕ) → Type 0
-PutsNew p None after status = p after status
-PutsNew p (Some there) after status = (after ≡ Some there) × (status ≡ OPEN)
 
 -- C sees an answer as its number and `OK`, or as the status of the refusal.
 abbrev pub IsSeen : {E : Type 0} (status_of : E → ℕ) → Result ℕ E → (number status : ℕ) → Type 0
@@ -73,17 +61,31 @@ pub data RefusesFormat (objects : ℕ) (fields : List Field) (lanes capacity sta
   NoRoom : lanes ≤ 255 → status ≡ NO_MEMORY → RefusesFormat objects fields lanes capacity status
   NotMade : (e : HostError) → lanes ≤ 255 → RefusesMaking objects (rows_of fields) lanes capacity e → status ≡ host_status e → RefusesFormat objects fields lanes capacity status
 
--- `zelamiku_format`, where nothing was behind the handle: a heap of these objects and fields, for so many threads, with rings of this room, and
+-- a heap as C asks for it, or the status that says why there is none
+abbrev pub MakesHeap : (objects : ℕ) (fields : List Field) (lanes capacity threads ring : ℕ) → Result Hosting ℕ → Type 0
+MakesHeap objects fields lanes capacity threads ring answer =
+    MatchResult answer (IsMade objects (rows_of fields) lanes capacity (wanted_of threads) ring) (RefusesFormat objects fields lanes capacity)
+
+-- `zelamiku_format`, where the handle had nothing: a heap of these objects and fields, for so many threads, with rings of this room, and
 -- the size of its image; or none, of size 0
 pub data FormatsAt (threads ring objects : ℕ) (fields : List Field) (lanes capacity size : ℕ) (after : Held) (status : ℕ) : Type 0 where
-  IsFormatted : (x : Hosting) → IsMade objects (rows_of fields) lanes capacity (wanted_of threads) x → HasRings ring x → size ≡ size_of x.helper.store.known.layout → after ≡ heap_behind x → status ≡ OK
+  IsFormatted : (x : Hosting) → IsMade objects (rows_of fields) lanes capacity (wanted_of threads) ring x → size ≡ size_of x.helper.store.known.layout → after ≡ heap_held x → status ≡ OK
       → FormatsAt threads ring objects fields lanes capacity size after status
-  NotFormatted : RefusesFormat objects fields lanes capacity status → size ≡ 0 → after ≡ nothing_behind → FormatsAt threads ring objects fields lanes capacity size after status
+  NotFormatted : RefusesFormat objects fields lanes capacity status → size ≡ 0 → after ≡ nothing_held → FormatsAt threads ring objects fields lanes capacity size after status
 
--- what C is told of a heap with this layout, of how many of its lanes threads have, and of what recovery reports
-abbrev pub found_of : Layout → (threads : ℕ) → Report → Found
-found_of l threads report =
-    record { size = size_of l; objects = l.objects; fields = l.fields; lanes = l.lanes; capacity = l.capacity; threads = threads; dropped = length report.dropped.items; undone = report.undone }
+-- what C is told of a heap and of what recovery reports: its layout, how many of its lanes threads have, and two counts
+abbrev pub found_of : Hosting → Report → Found
+found_of x report =
+    record {
+      size = size_of x.helper.store.known.layout;
+      objects = x.helper.store.known.layout.objects;
+      fields = x.helper.store.known.layout.fields;
+      lanes = x.helper.store.known.layout.lanes;
+      capacity = x.helper.store.known.layout.capacity;
+      threads = x.helper.store.known.threads;
+      dropped = length report.dropped.items;
+      undone = report.undone;
+    }
 
 abbrev pub nothing_found : Found
 nothing_found = record { size = 0; objects = 0; fields = 0; lanes = 0; capacity = 0; threads = 0; dropped = 0; undone = 0 }
@@ -106,19 +108,16 @@ pub record IsNext (x y : Hosting) (s : Seated) : Type 0 where
 
 -- a heap hands out that session; or once all were, one that has ended and holds no monitor; or none is left, or there is no memory
 pub data HandsOne (x : Hosting) (handed after : Held) (status : ℕ) : Type 0 where
-  IsHanded : (y : Hosting) (s : Seated) → IsNext x y s → handed ≡ session_behind s → after ≡ heap_behind y → status ≡ OK → HandsOne x handed after status
-  IsHandedAgain : (y : Hosting) (s : Seated) → x.unused ≡ [] → HandsAgain x y s → handed ≡ session_behind s → after ≡ heap_behind y → status ≡ OK → HandsOne x handed after status
-  NoneIsLeft : (y : Hosting) → x.unused ≡ [] → HasNoneIdle x y → after ≡ heap_behind y → status ≡ NONE_LEFT → HandsOne x handed after status
-  NoRoomForOne : after ≡ heap_behind x → status ≡ NO_MEMORY → HandsOne x handed after status
+  IsHanded : (y : Hosting) (s : Seated) → IsNext x y s → handed ≡ session_held s → after ≡ heap_held y → status ≡ OK → HandsOne x handed after status
+  IsHandedAgain : (y : Hosting) (s : Seated) → x.unused ≡ [] → HandsAgain x y s → handed ≡ session_held s → after ≡ heap_held y → status ≡ OK → HandsOne x handed after status
+  NoneIsLeft : (y : Hosting) → x.unused ≡ [] → HasNoneIdle x y → after ≡ heap_held y → status ≡ NONE_LEFT → HandsOne x handed after status
+  NoRoomForOne : after ≡ heap_held x → status ≡ NO_MEMORY → HandsOne x handed after status
 
--- `zelamiku_session`, of what is behind the heap's handle
+-- `zelamiku_session`, by what the heap's handle has
 abbrev pub HandsOutAt : (handed : Held) → Open → (after : Held) → (status : ℕ) → Type 0
-HandsOutAt handed (kind.Heap x) after status = HandsOne x handed after status
-HandsOutAt handed (kind.Closed x) after status = (status ≡ CLOSED) × (after ≡ closed_behind x)
-HandsOutAt handed (kind.Stopped word) after status = (status ≡ STOPPED) × (after ≡ stopped_behind word)
-HandsOutAt handed other after status = (status ≡ WRONG_KIND) × (after ≡ behind other)
+HandsOutAt handed = OfHeap (λ x after status. HandsOne x handed after status)
 
--- and where something was behind the session's handle
+-- and by what the session's handle had
 abbrev pub HandsOut : (was handed before after : Held) (status : ℕ) → Type 0
 HandsOut None handed before after status = Answers (HandsOutAt handed) before after status
 HandsOut (Some there) handed before after status = (after ≡ before) × (status ≡ OPEN)
@@ -134,7 +133,7 @@ told_of None = record { kind = 0; at = 0; size = 0 }
 told_of (Some (Write at content)) = record { kind = 1; at = at; size = length content.items }
 told_of (Some Sync) = record { kind = 2; at = 0; size = 0 }
 
--- the buffer then: the bytes to be written, as many as there is room for, and behind them what was there
+-- the buffer then: the bytes to be written, as many as there is room for, and after them what was there
 abbrev pub filled_of : Option DeviceCall → (buffer : List ℕ) → List ℕ
 filled_of None buffer = buffer
 filled_of (Some (Write at content)) buffer = take (length buffer) content.items ++ drop (length content.items) buffer
@@ -149,10 +148,9 @@ pub record TellsFirst (left : List DeviceCall) (call : Call) (buffer filled : Li
 
 -- `zelamiku_next_call`
 abbrev pub TellsNextAt : (call : Call) (buffer filled : List ℕ) → Open → (after : Held) → (status : ℕ) → Type 0
-TellsNextAt call buffer filled (kind.Heap x) after status = (y : Hosting) × SameHeap x y × Fetches x.calls y.calls × TellsFirst y.calls.left call buffer filled status × (after ≡ heap_behind y)
-TellsNextAt call buffer filled (kind.Closed x) after status = (y : Closed) × (y.disk ≡ x.disk) × Fetches x.calls y.calls × TellsFirst y.calls.left call buffer filled status × (after ≡ closed_behind y)
-TellsNextAt call buffer filled (kind.Stopped word) after status = (status ≡ STOPPED) × (after ≡ stopped_behind word)
-TellsNextAt call buffer filled other after status = (status ≡ WRONG_KIND) × (after ≡ behind other)
+TellsNextAt call buffer filled = OfDevice
+    (λ x after status. (y : Hosting) × SameHeap x y × Fetches x.calls y.calls × TellsFirst y.calls.left call buffer filled status × (after ≡ heap_held y))
+    (λ x after status. (y : Closed) × (y.disk ≡ x.disk) × Fetches x.calls y.calls × TellsFirst y.calls.left call buffer filled status × (after ≡ closed_held y))
 
 -- of the calls that are left, these, the first is made, if there is one
 abbrev pub MakesFirst : (left : List DeviceCall) → (x y : Host) (status : ℕ) → Type 0
@@ -161,10 +159,9 @@ MakesFirst (call ∷ later) x y status = (status ≡ OK) × (y.left ≡ later) �
 
 -- `zelamiku_call_done`
 abbrev pub MakesCallAt : Open → (after : Held) → (status : ℕ) → Type 0
-MakesCallAt (kind.Heap x) after status = (y : Hosting) × SameHeap x y × MakesFirst x.calls.left x.calls y.calls status × (after ≡ heap_behind y)
-MakesCallAt (kind.Closed x) after status = (y : Closed) × (y.disk ≡ x.disk) × MakesFirst x.calls.left x.calls y.calls status × (after ≡ closed_behind y)
-MakesCallAt (kind.Stopped word) after status = (status ≡ STOPPED) × (after ≡ stopped_behind word)
-MakesCallAt other after status = (status ≡ WRONG_KIND) × (after ≡ behind other)
+MakesCallAt = OfDevice
+    (λ x after status. (y : Hosting) × SameHeap x y × MakesFirst x.calls.left x.calls y.calls status × (after ≡ heap_held y))
+    (λ x after status. (y : Closed) × (y.disk ≡ x.disk) × MakesFirst x.calls.left x.calls y.calls status × (after ≡ closed_held y))
 
 -- how many records C lets a round apply, or that there is no bound, by `ALL`
 abbrev pub bound_of : (most : ℕ) → Option ℕ
@@ -172,11 +169,8 @@ bound_of most = if most == ALL then None else Some most
 
 -- `zelamiku_round`
 abbrev pub RoundsAt : (most applied : ℕ) → Open → (after : Held) → (status : ℕ) → Type 0
-RoundsAt most applied (kind.Heap x) after status =
-    (y : Hosting) × (answer : Result ℕ RoundError) × HasRound (bound_of most) x y answer × IsSeen round_status answer applied status × (after ≡ heap_behind y)
-RoundsAt most applied (kind.Closed x) after status = (status ≡ CLOSED) × (after ≡ closed_behind x)
-RoundsAt most applied (kind.Stopped word) after status = (status ≡ STOPPED) × (after ≡ stopped_behind word)
-RoundsAt most applied other after status = (status ≡ WRONG_KIND) × (after ≡ behind other)
+RoundsAt most applied = OfHeap (λ x after status.
+    (y : Hosting) × (answer : Result ℕ RoundError) × HasRound (bound_of most) x y answer × IsSeen round_status answer applied status × (after ≡ heap_held y))
 
 -- How many sections of the lane are acknowledged, where each call was made, or why that isn't told. Recovery takes whatever a crash of the
 -- host's device leaves then, or after whatever calls since, and keeps so many sections.
@@ -202,27 +196,21 @@ pub record HasAcknowledged (x y : Hosting) (lane : ℕ) (answer : Result ℕ Ack
 
 -- `zelamiku_acknowledged`
 abbrev pub AcknowledgesAt : (lane sections : ℕ) → Open → (after : Held) → (status : ℕ) → Type 0
-AcknowledgesAt lane sections (kind.Heap x) after status =
-    (y : Hosting) × (answer : Result ℕ AcknowledgedError) × HasAcknowledged x y lane answer × IsSeen acknowledged_status answer sections status × (after ≡ heap_behind y)
-AcknowledgesAt lane sections (kind.Closed x) after status = (status ≡ CLOSED) × (after ≡ closed_behind x)
-AcknowledgesAt lane sections (kind.Stopped word) after status = (status ≡ STOPPED) × (after ≡ stopped_behind word)
-AcknowledgesAt lane sections other after status = (status ≡ WRONG_KIND) × (after ≡ behind other)
+AcknowledgesAt lane sections = OfHeap (λ x after status.
+    (y : Hosting) × (answer : Result ℕ AcknowledgedError) × HasAcknowledged x y lane answer × IsSeen acknowledged_status answer sections status × (after ≡ heap_held y))
 
--- what is behind the handle of a heap that wasn't closed: the heap, which goes on, or what is left of it
-abbrev pub left_behind : NotClosed → Held
-left_behind (unclosed.Running y) = heap_behind y
-left_behind (unclosed.CallsLeft y) = heap_behind y
-left_behind (unclosed.InUse y) = heap_behind y
-left_behind (unclosed.Stopped y e) = closed_behind y
+-- what the handle of a heap has that wasn't closed: the heap, which goes on, or what is left of it
+abbrev pub left_held : NotClosed → Held
+left_held (unclosed.Running y) = heap_held y
+left_held (unclosed.CallsLeft y) = heap_held y
+left_held (unclosed.InUse y) = heap_held y
+left_held (unclosed.Stopped y e) = closed_held y
 
 -- the heap is closed, as one history of what its sessions were told; or it isn't, for this reason
 pub data ClosesOne (x : Hosting) (after : Held) (status : ℕ) : Type 0 where
-  IsNowClosed : (y : Closed) → IsClosedWith x.home x.helper y.disk → HasLooked x.calls y.calls → after ≡ closed_behind y → status ≡ OK → ClosesOne x after status
-  IsNotYetClosed : (why : NotClosed) → IsNotClosed x why → after ≡ left_behind why → status ≡ not_closed_status why → ClosesOne x after status
+  IsNowClosed : (y : Closed) → IsClosedWith x.home x.helper y.disk → HasLooked x.calls y.calls → after ≡ closed_held y → status ≡ OK → ClosesOne x after status
+  IsNotYetClosed : (why : NotClosed) → IsNotClosed x why → after ≡ left_held why → status ≡ not_closed_status why → ClosesOne x after status
 
 -- `zelamiku_close`
 abbrev pub ClosesAt : Open → (after : Held) → (status : ℕ) → Type 0
-ClosesAt (kind.Heap x) after status = ClosesOne x after status
-ClosesAt (kind.Closed x) after status = (status ≡ CLOSED) × (after ≡ closed_behind x)
-ClosesAt (kind.Stopped word) after status = (status ≡ STOPPED) × (after ≡ stopped_behind word)
-ClosesAt other after status = (status ≡ WRONG_KIND) × (after ≡ behind other)
+ClosesAt = OfHeap (λ x after status. ClosesOne x after status)

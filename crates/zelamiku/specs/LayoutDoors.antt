@@ -6,12 +6,11 @@ use Rattle.law_hosted.specs.Copies.{copy_of}
 use Rattle.image_parts.specs.Guards.{SpellsGuard, mark_of}
 use Rattle.image_parts.specs.Layout.{guard_at}
 use Rattle.image_parts.specs.declared.guard_row.GuardRow.{GuardRow}
-use Rattle.zelamiku.specs.Behind.{behind, closed_behind, heap_behind, stopped_behind}
+use Rattle.zelamiku.specs.Handles.{OfHeap, heap_held}
 use Rattle.zelamiku.specs.HeadDoors.{head_of}
 use Rattle.zelamiku.specs.Own.{Held}
 use Rattle.zelamiku.specs.declared.state.Open.{Open}
-use Rattle.zelamiku.specs.declared.state.Open.TheVariants as kind
-use Rattle.zelamiku.specs.declared.status.TheConstants.{CLOSED, OK, STOPPED, WRONG_KIND}
+use Rattle.zelamiku.specs.declared.status.TheConstants.{OK}
 use Rattle.zelamiku.specs.declared.words.Field.{Field}
 use Rattle.zelamiku.specs.declared.words.Head.{Head}
 
@@ -23,9 +22,13 @@ field_of r = record { owner = r.owner.0; guard = r.guard.0; first = r.first; tra
 abbrev pub no_field : Field
 no_field = record { owner = 0; guard = 0; first = 0; transient = 0 }
 
--- a field is told as the image's guard row of it spells it, of so many fields, and as none behind them
+-- the field is told that the guard row at this place of the image spells
+abbrev pub TellsRow : (image : List ℕ) (at : ℕ) (told : Field) → Type 0
+TellsRow image at told = (r : GuardRow) → SpellsGuard (part at 16 image) r → told ≡ field_of r
+
+-- a field is told as its guard row in the image spells it; past so many fields none is
 abbrev pub TellsField : (image : List ℕ) (count f : ℕ) (told : Field) → Type 0
-TellsField image count f told = (f < count → (r : GuardRow) → SpellsGuard (part (guard_at f) 16 image) r → told ≡ field_of r) × (count ≤ f → told ≡ no_field)
+TellsField image count f told = (f < count → TellsRow image (guard_at f) told) × (count ≤ f → told ≡ no_field)
 
 -- each is
 abbrev pub TellsFields : (image : List ℕ) (count : ℕ) (told : List Field) → Type 0
@@ -33,8 +36,5 @@ TellsFields image count told = (f : ℕ) (d : Field) → f < length told → Tel
 
 -- `zelamiku_fields`: of a heap that runs its layout is told, and as many of its fields as there is room for, and it stays as it was
 abbrev pub TellsLayoutAt : (head : Head) (fields : List Field) → Open → (after : Held) → (status : ℕ) → Type 0
-TellsLayoutAt head fields (kind.Heap x) after status =
-    (head ≡ head_of x.helper.store.known.layout) × TellsFields (copy_of x.helper.store.disk) x.helper.store.known.layout.fields fields × (status ≡ OK) × (after ≡ heap_behind x)
-TellsLayoutAt head fields (kind.Closed x) after status = (status ≡ CLOSED) × (after ≡ closed_behind x)
-TellsLayoutAt head fields (kind.Stopped word) after status = (status ≡ STOPPED) × (after ≡ stopped_behind word)
-TellsLayoutAt head fields other after status = (status ≡ WRONG_KIND) × (after ≡ behind other)
+TellsLayoutAt head fields = OfHeap (λ x after status. (head ≡ head_of x.helper.store.known.layout)
+    × TellsFields (copy_of x.helper.store.disk) x.helper.store.known.layout.fields fields × (status ≡ OK) × (after ≡ heap_held x))

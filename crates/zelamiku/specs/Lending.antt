@@ -6,10 +6,10 @@ use Rattle.zelamiku.specs.contracts.state.Inner.{the_row as inner_row}
 use Rattle.zelamiku.specs.declared.handle.Handle.{Handle}
 use Rattle.zelamiku.specs.declared.state.Inner.{Inner}
 
--- the handle with this behind it
+-- the handle, with this in it
 abbrev pub with_state : Handle → Inner → Handle
 with_state h there = record h { state = Some there }
 
--- once the borrow ends, what was left there last is behind the handle
+-- once the borrow ends, the handle has what was left there last
 abbrev pub LendsState : MutBor Handle → MutBor Inner → Fml
 LendsState h r = Lends handle_row inner_row h r (with_state h.now)

@@ -1,7 +1,7 @@
--- What a handle owns, and what is behind it.
+-- What a handle owns, and what it has.
 pub mod Own
 pub mod Lending
-pub mod Behind
+pub mod Handles
 pub mod Ended
 -- What the calls of a session answer.
 pub mod SessionDoors
@@ -13,6 +13,7 @@ pub mod HeapStatuses
 pub mod HeapDoors
 pub mod ReportDoors
 pub mod OpeningDoors
+pub mod HandleDoors
 pub mod HeadDoors
 pub mod LayoutDoors
 pub mod CopyDoors

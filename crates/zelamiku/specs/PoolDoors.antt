@@ -1,4 +1,4 @@
--- The calls of a pool, as C makes them: the calls of `host_heap` on what is behind a session's handle (this project's own).
+-- The calls of a pool, as C makes them: the calls of `host_heap` on what a session's handle has (this project's own).
 use Rattle.std.specs.Prelude.{ℕ, ◌≡◌, ◌+◌, ◌<◌, ◌≤◌, List, ◌++◌, length, map, slice_get, Result, Ok, Err}
 use Rattle.std.specs.List.{range_with_len, slice_index_or}
 use Rattle.std.specs.Result.{result_unwrap_or}
@@ -37,7 +37,7 @@ pub data TakesAt (head slots slot : ℕ) (s t : Seated) (status : ℕ) : Type 0 
       → slot ≡ result_unwrap_or answer NO_SLOT → status ≡ pool_status answer → TakesAt head slots slot s t status
   TakesOfNone : ¬ FitsHeap head slots → t ≡ s → slot ≡ NO_SLOT → status ≡ UNKNOWN_FIELD → TakesAt head slots slot s t status
 
--- A slot of the pool is given back, or that is refused: also where the pool has no such slot.
+-- A slot of the pool is given back, or that is refused: also where the pool has no slot of this number.
 pub data GivesAt (head slots slot : ℕ) (s t : Seated) (status : ℕ) : Type 0 where
   Gives : (answer : Result (Unit {0}) (PoolError SessionError)) → FitsHeap head slots → slot < slots
       → GivesSlot s.home s.session t.session (pool_at head slots) slot answer → status ≡ pool_status answer → GivesAt head slots slot s t status
@@ -52,12 +52,12 @@ pool_field object slots cell = record { owner = object; guard = object; first = 
 abbrev pub AreFieldsBelow : (object slots count : ℕ) → List Field → Type 0
 AreFieldsBelow object slots count fields = (cell : ℕ) (d : Field) → cell < count → slice_index_or fields cell d ≡ pool_field object slots cell
 
--- these are the fields of a pool of so many slots: the head's, and those of the slots behind it
+-- these are the fields of a pool of so many slots: the head's, and after it those of the slots
 pub record ArePoolFields (object slots : ℕ) (fields : List Field) : Type 0 where
   pub count : length fields ≡ slots + 1
   pub each : AreFieldsBelow object slots (slots + 1) fields
 
--- The fields of a pool are laid out: as many slots as there are fields behind the first. Or there is no slot, or more than a pool has.
+-- The fields of a pool are laid out: as many slots as there are fields after the first. Or there is no slot, or more than a pool has.
 pub data LaysOutAt (object : ℕ) (before after : List Field) (status : ℕ) : Type 0 where
   LaysOut : (slots : ℕ) → 0 < slots → slots ≤ MOST_SLOTS → length before ≡ slots + 1 → ArePoolFields object slots after → status ≡ OK → LaysOutAt object before after status
   LaysOutNone : length before < 2 → after ≡ before → status ≡ EMPTY → LaysOutAt object before after status

@@ -1,6 +1,6 @@
--- The calls of a session, as C makes them: the calls of `host_heap` on what is behind a handle (this project's own). Each is told by
--- what is behind the handle before it and after it, and by the status that C gets.
-use Rattle.std.specs.Prelude.{ℕ, ◌≡◌, List, [], ◌∷◌, ◌++◌, Option, Some, None, Result, Ok, Err, IfOk}
+-- The calls of a session, as C makes them: the calls of `host_heap` on what a handle has (this project's own). Each relates
+-- what the handle has before and after, and the status that C gets.
+use Rattle.std.specs.Prelude.{ℕ, ◌≡◌, [], ◌∷◌, ◌++◌, Option, Some, None, Result, Ok, Err, IfOk}
 use Rattle.std.specs.FinSet as set
 use Rattle.std.specs.Int.{bit_at}
 use Rattle.std.specs.Ordering.{nat_cmp}
@@ -22,7 +22,7 @@ use Rattle.session.specs.Calls.{AsksToResume, AsksToWait, Enters, Exits, Loads, 
 use Rattle.session.specs.declared.error.SessionError.{SessionError}
 use Rattle.session.specs.declared.error.Still.{Still}
 use Rattle.session.specs.declared.session.Session.{Session}
-use Rattle.zelamiku.specs.Behind.{behind, Answers, ended_behind, session_behind, waiting_behind}
+use Rattle.zelamiku.specs.Handles.{holding, Answers, ended_held, session_held, waiting_held}
 use Rattle.zelamiku.specs.Own.{Held}
 use Rattle.zelamiku.specs.SessionStatuses.{refusal_status, status_of, still_status}
 use Rattle.zelamiku.specs.StopDoors.{UnlessStopped, UnlessStoppedWaiting}
@@ -34,9 +34,9 @@ use Rattle.zelamiku.specs.declared.words.Sight as words
 
 -- no session is there that could make a call: the status says so, and what is there stays
 abbrev pub HasNoSession : Open → Held → ℕ → Type 0
-HasNoSession (kind.Waiting w) after status = (status ≡ WAITING) × (after ≡ waiting_behind w)
-HasNoSession (kind.Ended back) after status = (status ≡ NOTHING) × (after ≡ ended_behind back)
-HasNoSession other after status = (status ≡ WRONG_KIND) × (after ≡ behind other)
+HasNoSession (kind.Waiting w) after status = (status ≡ WAITING) × (after ≡ waiting_held w)
+HasNoSession (kind.Ended back) after status = (status ≡ NOTHING) × (after ≡ ended_held back)
+HasNoSession other after status = (status ≡ WRONG_KIND) × (after ≡ holding other)
 
 -- a call that a session makes
 abbrev pub OfSession : (Seated → Held → ℕ → Type 0) → Open → Held → ℕ → Type 0
@@ -45,7 +45,7 @@ OfSession p other after status = HasNoSession other after status
 
 -- the session is there again, of the same heap, with its lane, its ring and the way by which it comes back
 abbrev pub Stays : (Seated → Seated → ℕ → Type 0) → Seated → Held → ℕ → Type 0
-Stays p s after status = (t : Seated) × (after ≡ session_behind t) × SamePlace s t × p s t status
+Stays p s after status = (t : Seated) × (after ≡ session_held t) × SamePlace s t × p s t status
 
 -- A call of a session through its handle: `p` is the call itself, of the session before it and after it.
 abbrev pub AnswersAs : (p : Seated → Seated → (status : ℕ) → Type 0) → (before after : Held) (status : ℕ) → Type 0
@@ -141,8 +141,8 @@ pub record TellsLaneAt (lane sections : ℕ) (s t : Seated) (status : ℕ) : Typ
 
 -- What a wait gave is there: a session that waits, or the session that was refused.
 abbrev pub IsThereAfterWait : Result SeatedWaiting (Seated × SessionError) → Held → ℕ → Type 0
-IsThereAfterWait (Ok w) after status = (after ≡ waiting_behind w) × (status ≡ OK)
-IsThereAfterWait (Err e) after status = (after ≡ session_behind e.0) × (status ≡ refusal_status e.1)
+IsThereAfterWait (Ok w) after status = (after ≡ waiting_held w) × (status ≡ OK)
+IsThereAfterWait (Err e) after status = (after ≡ session_held e.0) × (status ≡ refusal_status e.1)
 
 -- a wait that a session asks for
 abbrev pub WaitsFrom : (object : ℕ) → Seated → Held → ℕ → Type 0
@@ -155,8 +155,8 @@ WaitsAt object = OfSession (UnlessStopped (WaitsFrom object))
 
 -- What a resume gave is there: the session, or one that waits on.
 abbrev pub IsThereAfterResume : Result Seated (SeatedWaiting × Still) → Held → ℕ → Type 0
-IsThereAfterResume (Ok s) after status = (after ≡ session_behind s) × (status ≡ OK)
-IsThereAfterResume (Err e) after status = (after ≡ waiting_behind e.0) × (status ≡ still_status e.1)
+IsThereAfterResume (Ok s) after status = (after ≡ session_held s) × (status ≡ OK)
+IsThereAfterResume (Err e) after status = (after ≡ waiting_held e.0) × (status ≡ still_status e.1)
 
 -- a resume of what waits
 abbrev pub ResumesFrom : SeatedWaiting → Held → ℕ → Type 0
@@ -166,12 +166,12 @@ ResumesFrom w after status = (answer : Result Seated (SeatedWaiting × Still))
 -- and through its handle
 abbrev pub Resumes : Open → Held → ℕ → Type 0
 Resumes (kind.Waiting w) after status = UnlessStoppedWaiting ResumesFrom w after status
-Resumes (kind.Ended back) after status = (status ≡ NOTHING) × (after ≡ ended_behind back)
-Resumes other after status = (status ≡ WRONG_KIND) × (after ≡ behind other)
+Resumes (kind.Ended back) after status = (status ≡ NOTHING) × (after ≡ ended_held back)
+Resumes other after status = (status ≡ WRONG_KIND) × (after ≡ holding other)
 
 -- A session that is ended has come back to its heap: it is the last that went into the ring by which it comes back. The handle keeps that ring's end.
 abbrev pub EndsFrom : Seated → Held → ℕ → Type 0
-EndsFrom s after status = (status ≡ OK) × (after ≡ ended_behind (sent s.back ++ s.session ∷ []))
+EndsFrom s after status = (status ≡ OK) × (after ≡ ended_held (sent s.back ++ s.session ∷ []))
 
 -- and through its handle
 abbrev pub Ends : Open → Held → ℕ → Type 0

@@ -7,10 +7,9 @@ use Rattle.host_heap.specs.Stopping.{Stopping}
 use Rattle.host_heap.specs.declared.error.FailedCall.{FailedCall}
 use Rattle.host_heap.specs.declared.error.FailedCall.TheVariants.{Write, Sync}
 use Rattle.zelamiku.specs.Own.{Held}
-use Rattle.zelamiku.specs.Behind.{behind, closed_behind, heap_behind, session_behind, stopped_behind, waiting_behind}
+use Rattle.zelamiku.specs.Handles.{closed_held, heap_held, session_held, stopped_held, waiting_held}
 use Rattle.zelamiku.specs.declared.state.Open.{Open}
-use Rattle.zelamiku.specs.declared.state.Open.TheVariants as kind
-use Rattle.zelamiku.specs.declared.status.TheConstants.{NONE_LEFT, OK, STOPPED, WRONG_KIND}
+use Rattle.zelamiku.specs.declared.status.TheConstants.{NONE_LEFT, OK, STOPPED}
 
 -- Where it has seen that it has, the status says so, and what was there stays; else it makes the call.
 abbrev pub UnlessSeen : (seen : Option Bool) (there : Held) (call : Held → ℕ → Type 0) (after : Held) (status : ℕ) → Type 0
@@ -19,15 +18,15 @@ UnlessSeen (Some written) there call after status = (status ≡ STOPPED) × (aft
 
 -- a call that a session makes unless it sees that its heap has stopped
 abbrev pub UnlessStopped : (Seated → Held → ℕ → Type 0) → Seated → Held → ℕ → Type 0
-UnlessStopped p s after status = (u : Seated) × HasLookedAt s u × UnlessSeen u.stop.seen (session_behind u) (p u) after status
+UnlessStopped p s after status = (u : Seated) × HasLookedAt s u × UnlessSeen u.stop.seen (session_held u) (p u) after status
 
 -- and one that waits
 abbrev pub UnlessStoppedWaiting : (SeatedWaiting → Held → ℕ → Type 0) → SeatedWaiting → Held → ℕ → Type 0
 UnlessStoppedWaiting p w after status = (v : SeatedWaiting) × HasLookedWaiting w v
-    × UnlessSeen v.stop.seen (waiting_behind v) (p v) after status
+    × UnlessSeen v.stop.seen (waiting_held v) (p v) after status
 
--- What is there once a call couldn't be made: behind a write what was there, since it may be made again; behind a sync what is left of a
--- heap that has stopped, as no call may follow.
+-- What the handle has once a call couldn't be made. After a write it has what it had, because the write may be made again. After a sync it has
+-- what is left of a heap that has stopped, because no call may follow.
 abbrev pub AfterFailure : Option FailedCall → (there : Held) (stopped : Held → Type 0) (after : Held) (status : ℕ) → Type 0
 AfterFailure None there stopped after status = (status ≡ NONE_LEFT) × (after ≡ there)
 AfterFailure (Some Write) there stopped after status = (status ≡ OK) × (after ≡ there)
@@ -38,15 +37,14 @@ pub record LeavesWord (x : Hosting) (after : Held) : Type 0 where
   pub stop : Stopping
   pub word : stop.word ≡ x.stop.word
   pub written : IsSome stop.seen
-  pub left : after ≡ stopped_behind (Some stop)
+  pub left : after ≡ stopped_held (Some stop)
 
 -- of one that was closed nothing is, as it has no session
 abbrev pub LeavesNothing : (after : Held) → Type 0
-LeavesNothing after = after ≡ stopped_behind None
+LeavesNothing after = after ≡ stopped_held None
 
 -- `zelamiku_call_failed`
 abbrev pub FailsCallAt : Open → (after : Held) → (status : ℕ) → Type 0
-FailsCallAt (kind.Heap x) after status = AfterFailure (failed_call x.calls.left) (heap_behind x) (LeavesWord x) after status
-FailsCallAt (kind.Closed x) after status = AfterFailure (failed_call x.calls.left) (closed_behind x) LeavesNothing after status
-FailsCallAt (kind.Stopped word) after status = (status ≡ STOPPED) × (after ≡ stopped_behind word)
-FailsCallAt other after status = (status ≡ WRONG_KIND) × (after ≡ behind other)
+FailsCallAt = OfDevice
+    (λ x after status. AfterFailure (failed_call x.calls.left) (heap_held x) (LeavesWord x) after status)
+    (λ x after status. AfterFailure (failed_call x.calls.left) (closed_held x) LeavesNothing after status)

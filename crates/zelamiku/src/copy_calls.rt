@@ -1,6 +1,6 @@
-//! A copy of a heap's image, on what is behind a handle.
+//! A copy of a heap's image, on what a handle has.
 ghost use Rattle.std.specs.Prelude.{◌≡◌, ◌≢◌, Some};
-ghost use Rattle.zelamiku.specs.Behind.{Answers, behind};
+ghost use Rattle.zelamiku.specs.Handles.{Answers, holding};
 ghost use Rattle.zelamiku.specs.CopyDoors.{CopiesAt};
 ghost use Rattle.zelamiku.specs.declared.status.TheConstants.{OK};
 
@@ -17,7 +17,7 @@ pub fn copy(state: &Inner, at: u64, bytes: &mut [u8]) -> (u64, u32)
 }
 
 fn copy_of(found: &Open, at: u64, bytes: &mut [u8]) -> (u64, u32)
-    ensures told { CopiesAt at bytes.old bytes.new result.0 found.now (behind found.now) result.1 }
+    ensures told { CopiesAt at bytes.old bytes.new result.0 found.now (holding found.now) result.1 }
     ensures refused { result.1 ≢ OK → result.0 ≡ 0 }
     ensures kept { result.1 ≢ OK → bytes.new ≡ bytes.old }
 {

@@ -1,6 +1,6 @@
 //! What C calls to copy a heap's image.
 ghost use Rattle.std.specs.Prelude.{◌≡◌, ◌≢◌};
-ghost use Rattle.zelamiku.specs.Behind.{Answers};
+ghost use Rattle.zelamiku.specs.HandleDoors.{AnswersBy};
 ghost use Rattle.zelamiku.specs.CopyDoors.{CopiesAt};
 ghost use Rattle.zelamiku.specs.declared.status.TheConstants.{OK};
 
@@ -17,7 +17,7 @@ pub extern "C" fn zelamiku_copy(
 ) -> u32
     // A copy gets the bytes of the heap's image from a place on, as many as there are and the buffer has room for, and
     // tells how many. The heap stays as it was.
-    ensures told { Answers (CopiesAt at bytes.old bytes.new copied.new) place.old.handle.state place.new.handle.state result }
+    ensures told { AnswersBy (CopiesAt at bytes.old bytes.new copied.new) place.old place.new result }
     // Where nothing is copied it is told that 0 bytes were.
     ensures refused { result ≢ OK → copied.new ≡ 0 }
     // Where nothing is copied the buffer stays as it was.

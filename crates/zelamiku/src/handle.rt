@@ -9,14 +9,14 @@ use crate::state::Inner;
 use std::alloc::Global;
 use std::marker::Model;
 
-/// Stands for what is behind a handle's pointer.
+/// Stands for what a handle's pointer leads to.
 #[repr(C)]
 #[derive(Drop)]
 pub struct Opaque {
     nothing: u8,
 }
 
-/// Where C keeps what is behind a handle: the pointer of its box, or null.
+/// Where C keeps what a handle has: the pointer of its box, or null.
 #[repr(C)]
 #[derive(Drop)]
 pub struct Handle {
@@ -47,12 +47,12 @@ impl Handle {
         }
     }
 
-    /// What is behind it, out of it. The box is given back by this allocator.
+    /// Takes out what the handle has. The box is given back by this allocator.
     pub fn take(&mut self, alloc: Global) -> Loose<Inner, Global>
         requires { IsSome self.old.state }
-        // What is behind a handle is taken out whole.
+        // What a handle has is taken out whole.
         ensures taken { self.old.state ≡ Some result.value }
-        // What was taken out is behind the handle no more.
+        // After it was taken out the handle is empty.
         ensures none { self.new.state ≡ None }
     {
         let at = self.at as *mut Inner;
@@ -60,12 +60,12 @@ impl Handle {
         Loose { at, alloc }
     }
 
-    /// What is behind it, to be worked on where it is.
+    /// What the handle has, to be worked on where it is.
     pub fn as_mut(&mut self) -> &mut Inner
         requires { IsSome self.old.state }
-        // What is left there once the borrow ends is behind the handle, and the handle is as it was else.
+        // Once the borrow ends the handle has what was left there. All else of the handle is as it was.
         ensures* writes_back { sem 𝓛 (LendsState self.entry result) }
-        // What is lent is what is behind the handle.
+        // What is lent is what the handle has.
         ensures value { self.old.state ≡ Some result.now }
     {
         unsafe { &mut *(self.at as *mut Inner) }

@@ -29,7 +29,7 @@ pub fn told_of(begun: &[u8]) -> (Head, u32)
     }
 }
 
-// Of bytes that don't begin with a name and an open gate.
+// What bytes say that don't begin with a name and an open gate.
 fn unformatted(begun: &[u8]) -> Head
     requires room { 2160 ≤ length begun.now }
     requires shut { IsFormatted begun.now → ⊥ }
@@ -61,7 +61,7 @@ fn damaged() -> Head
     }
 }
 
-// Of a heap with so many fields, which was being made.
+// What is said of a heap with so many fields that was being made.
 fn making(fields: u32) -> Head
     requires { fields ≤ 16384 }
     ensures { result ≡ begun_head (2160 + 24 * fields) }

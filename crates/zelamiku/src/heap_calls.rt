@@ -1,9 +1,9 @@
 //! The calls of a heap, on the heap of a handle.
-ghost use Rattle.std.specs.Prelude.{◌≡◌, ◌≢◌, Some, None, IfErr, IfOk, if◌then◌else◌};
+ghost use Rattle.std.specs.Prelude.{◌≡◌, ◌≢◌, Some, None, IfOk, if◌then◌else◌};
 ghost use Rattle.std.specs.Option.{option_copied};
-ghost use Rattle.host_heap.specs.Opening.{HasRings, IsFound, IsMade, RefusesOpening};
-ghost use Rattle.zelamiku.specs.Behind.{Answers, behind, heap_behind, session_behind};
-ghost use Rattle.zelamiku.specs.HeapDoors.{AcknowledgesAt, ClosesAt, HandsOne, HandsOutAt, HasAcknowledged, MakesCallAt, RefusesFormat, RoundsAt, TellsNextAt, filled_of, found_of, nothing_found, rows_of, told_of, wanted_of};
+ghost use Rattle.host_heap.specs.Opening.{Opens};
+ghost use Rattle.zelamiku.specs.Handles.{Answers, holding, heap_held, session_held};
+ghost use Rattle.zelamiku.specs.HeapDoors.{AcknowledgesAt, ClosesAt, HandsOne, HandsOutAt, HasAcknowledged, MakesCallAt, MakesHeap, RoundsAt, TellsNextAt, filled_of, found_of, nothing_found, rows_of, told_of, wanted_of};
 ghost use Rattle.zelamiku.specs.HeapDoors as doors;
 ghost use Rattle.zelamiku.specs.declared.status.TheConstants.{NONE_LEFT, OK};
 
@@ -33,9 +33,7 @@ pub fn format(
     threads: u32,
     ring: RingRecords,
 ) -> Result<HostedHeap, u32>
-    ensures ok { IfOk result (IsMade objects (rows_of fields.now) lanes capacity (wanted_of threads)) }
-    ensures rings { IfOk result (HasRings ring) }
-    ensures refused { IfErr result (RefusesFormat objects fields.now lanes capacity) }
+    ensures { MakesHeap objects fields.now lanes capacity threads ring result }
 {
     let Ok(lanes) = u8::try_from(lanes) else {
         return Err(status::BAD_HEADER);
@@ -43,7 +41,7 @@ pub fn format(
     let Ok(rows) = rows_of(alloc, fields) else {
         return Err(status::NO_MEMORY);
     };
-    match host_heap::format_with(
+    match host_heap::format(
         alloc,
         objects,
         &rows,
@@ -65,11 +63,9 @@ pub fn open(
     threads: u32,
     ring: RingRecords,
 ) -> Result<(HostedHeap, Report), HostError>
-    ensures ok { IfOk result (λ found. IsFound versions (wanted_of threads) image.now found.0 found.1) }
-    ensures rings { IfOk result (λ found. HasRings ring found.0) }
-    ensures refused { IfErr result (RefusesOpening versions image.now) }
+    ensures { Opens versions (wanted_of threads) ring image.now result }
 {
-    host_heap::open_with(alloc, image, versions, wanted_of(threads), ring)
+    host_heap::open(alloc, image, versions, wanted_of(threads), ring)
 }
 
 // How many threads C has, as the heap counts them.
@@ -102,7 +98,7 @@ fn row_of(field: Field) -> GuardRow
 
 /// What C is told of a heap of which recovery reports this.
 pub(crate) fn found_in(heap: &HostedHeap, report: &Report) -> Found
-    ensures { result ≡ found_of heap.now.helper.store.known.layout heap.now.helper.store.known.threads report.now }
+    ensures { result ≡ found_of heap.now report.now }
 {
     let layout = heap.layout();
     Found {
@@ -117,7 +113,7 @@ pub(crate) fn found_in(heap: &HostedHeap, report: &Report) -> Found
     }
 }
 
-/// Hands out a session, behind the handle `place`.
+/// Hands out a session, into the handle `place`.
 pub fn session(alloc: Global, state: &mut Inner, place: &mut Slot) -> u32
     ensures told { Answers (HandsOutAt place.new.handle.state) (Some state.old) (Some state.new) result }
     ensures refused { result ≢ OK → place.new.handle.state ≡ place.old.handle.state }
@@ -132,7 +128,7 @@ pub fn session(alloc: Global, state: &mut Inner, place: &mut Slot) -> u32
 
 // The box comes first: a session that found no room would never come back, and its heap couldn't be closed.
 fn hand_out(alloc: Global, heap: &mut HostedHeap, place: &mut Slot) -> u32
-    ensures handed { HandsOne heap.old place.new.handle.state (heap_behind heap.new) result }
+    ensures handed { HandsOne heap.old place.new.handle.state (heap_held heap.new) result }
     ensures refused { result ≢ OK → place.new.handle.state ≡ place.old.handle.state }
 {
     let Ok(room) = Inner::boxed(alloc, Open::Nothing) else {
@@ -148,9 +144,9 @@ fn hand_out(alloc: Global, heap: &mut HostedHeap, place: &mut Slot) -> u32
     }
 }
 
-// Puts a session into its box, and that behind the handle.
+// Puts a session into its box, and the box into the handle.
 fn put_session(alloc: Global, place: &mut Slot, room: Box<Inner>, session: HostedSession) -> u32
-    ensures handed { place.new.handle.state ≡ session_behind session }
+    ensures handed { place.new.handle.state ≡ session_held session }
     ensures ok { result ≡ OK }
 {
     let mut room = room;
@@ -294,7 +290,7 @@ pub fn close(state: &mut Inner) -> u32
 }
 
 fn closed_of(content: Open) -> (Open, u32)
-    ensures { ClosesAt content (behind result.0) result.1 }
+    ensures { ClosesAt content (holding result.0) result.1 }
 {
     match content {
         Open::Heap(heap) => match heap.close() {

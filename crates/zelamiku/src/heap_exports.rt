@@ -1,8 +1,8 @@
 //! What C calls of a heap. Each export is one call of `heap_calls` on the heap of the handle.
 ghost use Rattle.std.specs.Prelude.{◌≡◌, ◌≢◌, None};
-ghost use Rattle.zelamiku.specs.Behind.{Answers};
-ghost use Rattle.zelamiku.specs.Ended.{still_behind};
-ghost use Rattle.zelamiku.specs.HeapDoors.{AcknowledgesAt, ClosesAt, HandsOut, MakesCallAt, RoundsAt, TellsNextAt, told_of};
+ghost use Rattle.zelamiku.specs.Ended.{still_held};
+ghost use Rattle.zelamiku.specs.HandleDoors.{AnswersBy, HandsOutBy};
+ghost use Rattle.zelamiku.specs.HeapDoors.{AcknowledgesAt, ClosesAt, MakesCallAt, RoundsAt, TellsNextAt, told_of};
 ghost use Rattle.zelamiku.specs.declared.status.TheConstants.{OK};
 
 use crate::slot::{Slot, is_taken, let_go};
@@ -15,10 +15,10 @@ use std::alloc::Global;
 pub extern "C" fn zelamiku_session(alloc: Global, place: &mut Slot, session: &mut Slot) -> u32
     // Sessions are handed out lane by lane, and nothing was told to them. Once each lane's was handed out, a session
     // that has ended and holds no monitor is handed out again. `NONE_LEFT` is answered only where there is none of
-    // either. A handle with something behind it is answered `OPEN` and keeps it.
-    ensures told { HandsOut (still_behind session.old.handle.state) session.new.handle.state place.old.handle.state place.new.handle.state result }
+    // either. A session's handle that is in use is answered `OPEN` and keeps what it has.
+    ensures told { HandsOutBy session.old session.new place.old place.new result }
     // Where no session is handed out the session's handle is as it was.
-    ensures refused { result ≢ OK → session.new.handle.state ≡ still_behind session.old.handle.state }
+    ensures refused { result ≢ OK → session.new.handle.state ≡ still_held session.old.handle.state }
 {
     if is_taken(alloc, session) {
         return status::OPEN;
@@ -34,7 +34,7 @@ pub extern "C" fn zelamiku_session(alloc: Global, place: &mut Slot, session: &mu
 pub extern "C" fn zelamiku_next_call(place: &mut Slot, call: &mut Call, bytes: &mut [u8]) -> u32
     // What the host is told is the first of the calls that are left: its kind, its place, how many bytes, and as many
     // of them as there is room for. Calls are fetched just where none is left.
-    ensures told { Answers (TellsNextAt call.new bytes.old bytes.new) place.old.handle.state place.new.handle.state result }
+    ensures told { AnswersBy (TellsNextAt call.new bytes.old bytes.new) place.old place.new result }
     // Where no call is told, it is told that there is none.
     ensures refused { result ≢ OK → call.new ≡ told_of None }
     // Where no call is told the buffer stays as it was.
@@ -54,7 +54,7 @@ pub extern "C" fn zelamiku_next_call(place: &mut Slot, call: &mut Call, bytes: &
 pub extern "C" fn zelamiku_call_done(place: &mut Slot) -> u32
     // A call that is done is the first of those that are left, and goes over to those that were made. Where none is
     // left, that is told.
-    ensures { Answers MakesCallAt place.old.handle.state place.new.handle.state result }
+    ensures { AnswersBy MakesCallAt place.old place.new result }
 {
     if !place.is_open() {
         return status::NOTHING;
@@ -68,7 +68,7 @@ pub extern "C" fn zelamiku_round(place: &mut Slot, most: u64, applied: &mut u64)
     // A round does what the heap's round does, by the bound that C gives, and 2^64 - 1 is no bound. It tells how many
     // records it applied or why it stopped. `CALLS_LEFT` is answered exactly where there may be no room for its calls,
     // and nothing was done.
-    ensures told { Answers (RoundsAt most applied.new) place.old.handle.state place.new.handle.state result }
+    ensures told { AnswersBy (RoundsAt most applied.new) place.old place.new result }
     // A round that isn't good tells 0 records.
     ensures refused { result ≢ OK → applied.new ≡ 0 }
 {
@@ -86,7 +86,7 @@ pub extern "C" fn zelamiku_round(place: &mut Slot, most: u64, applied: &mut u64)
 pub extern "C" fn zelamiku_acknowledged(place: &mut Slot, lane: u32, sections: &mut u64) -> u32
     // A closed heap is answered `CLOSED`, one that has stopped `STOPPED`, another kind of handle `WRONG_KIND`, and an
     // empty one `NOTHING`. What is there stays.
-    ensures told { Answers (AcknowledgesAt lane sections.new) place.old.handle.state place.new.handle.state result }
+    ensures told { AnswersBy (AcknowledgesAt lane sections.new) place.old place.new result }
     // Where nothing is told as acknowledged the count is 0.
     ensures refused { result ≢ OK → sections.new ≡ 0 }
 {
@@ -104,7 +104,7 @@ pub extern "C" fn zelamiku_acknowledged(place: &mut Slot, lane: u32, sections: &
 pub extern "C" fn zelamiku_close(place: &mut Slot) -> u32
     // A closed heap's sessions have ended, one a lane, holding no monitor, and its disk stands for the heap of their
     // one history. A heap that isn't closed goes on, or has stopped for the reason that is told.
-    ensures { Answers ClosesAt place.old.handle.state place.new.handle.state result }
+    ensures { AnswersBy ClosesAt place.old place.new result }
 {
     if !place.is_open() {
         return status::NOTHING;
@@ -112,10 +112,10 @@ pub extern "C" fn zelamiku_close(place: &mut Slot) -> u32
     heap_calls::close(place.handle.as_mut())
 }
 
-/// Lets go of what is behind a handle. The handle has nothing behind it then.
+/// Lets go of what a handle has. The handle is empty then.
 #[unsafe(no_mangle)]
 pub extern "C" fn zelamiku_free(alloc: Global, place: &mut Slot)
-    // A handle that is freed has nothing behind it.
+    // A handle that is freed is empty.
     ensures { place.new.handle.state ≡ None }
 {
     let_go(alloc, place);

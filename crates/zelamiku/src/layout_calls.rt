@@ -1,14 +1,13 @@
-//! What an open heap has, on what is behind a handle.
+//! What an open heap has, on what a handle has.
 ghost use Rattle.std.specs.Prelude.{◌≡◌, ◌≢◌, Some};
-ghost use Rattle.block_disk.specs.Bytes.{part};
 ghost use Rattle.law_hosted.specs.Copies.{copy_of};
-ghost use Rattle.image_parts.specs.Guards.{FitsGuard, SpellsGuard, guard_bytes, mark_of};
+ghost use Rattle.image_parts.specs.Guards.{FitsGuard, guard_bytes, mark_of};
 ghost use Rattle.image_parts.specs.declared.guard_row.GuardRow.{GuardRow as Row};
-ghost use Rattle.zelamiku.specs.Behind.{Answers, behind};
+ghost use Rattle.zelamiku.specs.Handles.{Answers, holding};
 ghost use Rattle.zelamiku.specs.HeadDoors.{no_head};
 ghost use Rattle.zelamiku.specs.HeadDoors as heads;
 ghost use Rattle.zelamiku.specs.LayoutDoors as layouts;
-ghost use Rattle.zelamiku.specs.LayoutDoors.{TellsField, TellsFields, TellsLayoutAt, field_of};
+ghost use Rattle.zelamiku.specs.LayoutDoors.{TellsField, TellsFields, TellsLayoutAt, TellsRow, field_of};
 ghost use Rattle.zelamiku.specs.declared.status.TheConstants.{OK};
 
 use crate::head_calls::nothing;
@@ -37,7 +36,7 @@ pub fn tell(state: &Inner, fields: &mut [Field]) -> (Head, u32)
 }
 
 fn tell_of(found: &Open, fields: &mut [Field]) -> (Head, u32)
-    ensures told { TellsLayoutAt result.0 fields.new found.now (behind found.now) result.1 }
+    ensures told { TellsLayoutAt result.0 fields.new found.now (holding found.now) result.1 }
     ensures refused { result.1 ≢ OK → result.0 ≡ no_head }
     ensures kept { result.1 ≢ OK → fields.new ≡ fields.old }
 {
@@ -86,7 +85,7 @@ fn told_at(heap: &HostedHeap, layout: Layout, field: usize) -> Field
 
 // The field whose row is at this place of the image.
 fn field_at(heap: &HostedHeap, at: u64) -> Field
-    ensures { (r : Row) → SpellsGuard (part at 16 (copy_of heap.now.helper.store.disk)) r → result ≡ field_of r }
+    ensures { TellsRow (copy_of heap.now.helper.store.disk) at result }
 {
     let mut row = [0; 16];
     let _ = heap.copy_from(at, &mut row);

@@ -1,7 +1,7 @@
 //! The heap for C, and for what calls as C does: a static library, with `zelamiku.h`.
 //!
-//! A host keeps a handle for a heap, and one for each session. A call works on the heap or session where it lies, behind its handle. An
-//! empty handle is answered `NOTHING`. No call takes two heaps, and none waits.
+//! A host keeps a handle for a heap, and one for each session. A call works on the heap or session where it lies. An empty
+//! handle is answered `NOTHING`. No call takes two heaps, and none waits.
 #![tactic(auto)]
 
 mod copy_calls;

@@ -2,10 +2,7 @@
 ghost use Rattle.std.specs.Prelude.{◌≡◌, MatchOption};
 ghost use Rattle.thread_rings.specs.Rings.{IsRingSize};
 ghost use Rattle.recover.specs.declared.versions.Versions.TheVariants.{Current, Both};
-ghost use Rattle.zelamiku.specs.Ended.{still_behind};
-ghost use Rattle.zelamiku.specs.HeapDoors.{FormatsAt};
-ghost use Rattle.zelamiku.specs.OpeningDoors.{PutsHeap, PutsNew};
-ghost use Rattle.zelamiku.specs.ReportDoors.{OpensAt, TellsNothing};
+ghost use Rattle.zelamiku.specs.HandleDoors.{Makes, MakesNew, Opens, OpensNew};
 
 use crate::slot::{Slot, is_taken, put_new};
 use crate::state::Open;
@@ -31,9 +28,9 @@ pub extern "C" fn zelamiku_format(
     // A heap is made of exactly the objects and fields that C declares, each with its owner, its guard and its first
     // value, and the image's size is told. Where there are more lanes than C has threads, and at least two, the last one
     // is the helper's. Each lane's ring has just the room that C asks for. More than 255 lanes are refused before all else
-    // but `RING` and `OPEN`. A handle with something behind it is answered `OPEN` and keeps it. Where no heap is made the
+    // but `RING` and `OPEN`. A handle that is in use is answered `OPEN` and keeps what it has. Where no heap is made the
     // size is 0.
-    ensures { PutsHeap ring (FormatsAt threads ring objects fields.now lanes capacity size.new) (size.new ≡ 0) place.old.handle.state place.new.handle.state result }
+    ensures { Makes objects fields.now lanes capacity threads ring size.new place.old place.new result }
 {
     *size = 0;
     match ring_of(ring) {
@@ -56,7 +53,7 @@ fn format_at(
     ring: RingRecords,
     size: &mut u64,
 ) -> u32
-    ensures { PutsNew (FormatsAt threads ring objects fields.now lanes capacity size.new) (size.new ≡ 0) (still_behind place.old.handle.state) place.new.handle.state result }
+    ensures { MakesNew objects fields.now lanes capacity threads ring size.new place.old place.new result }
 {
     *size = 0;
     if is_taken(alloc, place) {
@@ -87,12 +84,12 @@ pub extern "C" fn zelamiku_open(
     dropped: &mut [Dropped],
 ) -> u32
     // A heap is opened with what recovery finds in the bytes, and each lane's ring has just the room that C asks for.
-    // Where the image has more lanes than C has threads, and at least two, the last one is the helper's. Its layout is
-    // told, how many lanes threads have, how many sections of each lane were kept and how many fields took an old value
-    // back, and each dropped section with its number and why, as far as there is room. Of a refusal for a record its lane
-    // and place are told. A handle with something behind it is answered `OPEN` and keeps it. Where no heap is opened
-    // nothing else is told.
-    ensures { PutsHeap ring (OpensAt threads ring Current image.now told.new dropped.new) (TellsNothing told.new dropped.new) place.old.handle.state place.new.handle.state result }
+    // Where the image has more lanes than C has threads, and at least two, the last one is the helper's. C is told the
+    // heap's layout and how many lanes threads have. It is told how many sections of each lane were kept, and how many
+    // fields took an old value back. It is told each dropped section with its number and why, as far as there is room.
+    // A refusal for a record names its lane and place. A handle that is in use is answered `OPEN` and keeps what it has.
+    // Where no heap is opened nothing else is told.
+    ensures { Opens Current image.now threads ring told.new dropped.new place.old place.new result }
 {
     open_ringed(
         alloc,
@@ -118,7 +115,7 @@ pub extern "C" fn zelamiku_upgrade(
     dropped: &mut [Dropped],
 ) -> u32
     // An upgrade opens a heap as an opening does, from an image of either version.
-    ensures { PutsHeap ring (OpensAt threads ring Both image.now told.new dropped.new) (TellsNothing told.new dropped.new) place.old.handle.state place.new.handle.state result }
+    ensures { Opens Both image.now threads ring told.new dropped.new place.old place.new result }
 {
     open_ringed(
         alloc,
@@ -143,7 +140,7 @@ fn open_ringed(
     told: &mut Told,
     dropped: &mut [Dropped],
 ) -> u32
-    ensures { PutsHeap ring (OpensAt threads ring versions image.now told.new dropped.new) (TellsNothing told.new dropped.new) place.old.handle.state place.new.handle.state result }
+    ensures { Opens versions image.now threads ring told.new dropped.new place.old place.new result }
 {
     match ring_of(ring) {
         Some(room) => open_at(alloc, place, versions, image, threads, room, told, dropped),
@@ -166,7 +163,7 @@ fn open_at(
     told: &mut Told,
     dropped: &mut [Dropped],
 ) -> u32
-    ensures { PutsNew (OpensAt threads ring versions image.now told.new dropped.new) (TellsNothing told.new dropped.new) (still_behind place.old.handle.state) place.new.handle.state result }
+    ensures { OpensNew versions image.now threads ring told.new dropped.new place.old place.new result }
 {
     *told = report_calls::nothing();
     report_calls::tell_dropped(&[], dropped);

@@ -2,10 +2,9 @@
 ghost use Rattle.std.specs.Prelude.{◌≡◌, ◌≢◌, ◌<◌, ◌≤◌, ◌+◌, Some, length};
 ghost use Rattle.std.specs.Result.{result_unwrap_or};
 ghost use Rattle.pool.specs.declared.pool.TheConstants.{MOST_SLOTS};
-ghost use Rattle.zelamiku.specs.Behind.{behind};
+ghost use Rattle.zelamiku.specs.Handles.{holding};
 ghost use Rattle.zelamiku.specs.PoolDoors.{AreFreeAnywhere, ArePoolFields, GivesAt, LaysOutAt, TakesAt, pool_field, pool_refusal, pool_status};
 ghost use Rattle.zelamiku.specs.SessionDoors.{AnswersAs, OfSession, Stays};
-ghost use Rattle.zelamiku.specs.declared.state.Open.TheVariants as kind;
 ghost use Rattle.zelamiku.specs.declared.status.TheConstants.{OK};
 
 use crate::session_calls::no_session;
@@ -32,7 +31,7 @@ pub fn take(state: &mut Inner, head: u32, slots: u32) -> (u32, u32)
 }
 
 fn taken_of(found: Open, head: u32, slots: u32) -> (Open, u32, u32)
-    ensures told { OfSession (Stays (TakesAt head slots result.1)) found (behind result.0) result.2 }
+    ensures told { OfSession (Stays (TakesAt head slots result.1)) found (holding result.0) result.2 }
     ensures refused { result.2 ≢ OK → result.1 ≡ NO_SLOT }
 {
     match found {
@@ -45,7 +44,7 @@ fn taken_of(found: Open, head: u32, slots: u32) -> (Open, u32, u32)
 }
 
 fn take_by(session: HostedSession, head: u32, slots: u32) -> (Open, u32, u32)
-    ensures told { Stays (TakesAt head slots result.1) session (behind result.0) result.2 }
+    ensures told { Stays (TakesAt head slots result.1) session (holding result.0) result.2 }
     ensures refused { result.2 ≢ OK → result.1 ≡ NO_SLOT }
 {
     let Some(pool) = Pool::in_fields(FieldId(head), slots) else {
@@ -78,7 +77,7 @@ pub fn give(state: &mut Inner, head: u32, slots: u32, slot: u32) -> u32
 }
 
 fn given_of(found: Open, head: u32, slots: u32, slot: u32) -> (Open, u32)
-    ensures { OfSession (Stays (GivesAt head slots slot)) found (behind result.0) result.1 }
+    ensures { OfSession (Stays (GivesAt head slots slot)) found (holding result.0) result.1 }
 {
     match found {
         Open::Session(session) => give_by(session, head, slots, slot),
@@ -90,7 +89,7 @@ fn given_of(found: Open, head: u32, slots: u32, slot: u32) -> (Open, u32)
 }
 
 fn give_by(session: HostedSession, head: u32, slots: u32, slot: u32) -> (Open, u32)
-    ensures { Stays (GivesAt head slots slot) session (behind result.0) result.1 }
+    ensures { Stays (GivesAt head slots slot) session (holding result.0) result.1 }
 {
     let Some(pool) = Pool::in_fields(FieldId(head), slots) else {
         return (Open::Session(session), status::UNKNOWN_FIELD);

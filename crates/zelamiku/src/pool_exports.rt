@@ -1,5 +1,6 @@
 //! What C calls of a pool: of the fields in which it is kept, and on the session of a handle.
 ghost use Rattle.std.specs.Prelude.{◌≡◌, ◌≢◌};
+ghost use Rattle.zelamiku.specs.HandleDoors.{ByHandle};
 ghost use Rattle.zelamiku.specs.PoolDoors.{AreFreeAnywhere, GivesAt, LaysOutAt, TakesAt};
 ghost use Rattle.zelamiku.specs.SessionDoors.{AnswersAs};
 ghost use Rattle.zelamiku.specs.declared.pool_calls.TheConstants.{NO_SLOT};
@@ -26,7 +27,7 @@ pub extern "C" fn zelamiku_pool_fields(object: u32, fields: &mut [Field]) -> u32
 pub extern "C" fn zelamiku_pool_take(place: &mut Slot, head: u32, slots: u32, slot: &mut u32) -> u32
     // A pool's slot is taken as by a session, of the pool of that head and of so many slots. A pool for which no heap
     // has room is refused first.
-    ensures told { AnswersAs (TakesAt head slots slot.new) place.old.handle.state place.new.handle.state result }
+    ensures told { ByHandle (AnswersAs (TakesAt head slots slot.new)) place.old place.new result }
     // Where no slot is taken `NO_SLOT` is told.
     ensures refused { result ≢ OK → slot.new ≡ NO_SLOT }
 {
@@ -44,7 +45,7 @@ pub extern "C" fn zelamiku_pool_take(place: &mut Slot, head: u32, slots: u32, sl
 pub extern "C" fn zelamiku_pool_give(place: &mut Slot, head: u32, slots: u32, slot: u32) -> u32
     // A pool's slot is given as by a session. A pool for which no heap has room, and a slot that the pool hasn't, are
     // refused first.
-    ensures told { AnswersAs (GivesAt head slots slot) place.old.handle.state place.new.handle.state result }
+    ensures told { ByHandle (AnswersAs (GivesAt head slots slot)) place.old place.new result }
 {
     if !place.is_open() {
         return status::NOTHING;

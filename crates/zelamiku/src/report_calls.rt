@@ -40,7 +40,7 @@ fn blamed(lane: u32, place: u64) -> Told
 
 /// What is told of a heap that was opened.
 pub fn of_heap(heap: &HostedHeap, report: &Report) -> Told
-    ensures { result ≡ told_of heap.now.helper.store.known.layout heap.now.helper.store.known.threads report.now }
+    ensures { result ≡ told_of heap.now report.now }
 {
     Told {
         found: heap_calls::found_in(heap, report),
@@ -109,7 +109,7 @@ fn of_section(lane: Lane, section: u64, why: Why) -> Dropped
 
 // By no other section.
 fn dropped_for(lane: u32, section: u64, why: u32) -> Dropped
-    ensures { result ≡ record { section = section; after_section = 0; lane = lane; why = why; after_lane = NOBODY } }
+    ensures { result ≡ doors.dropped_for lane section why }
 {
     Dropped {
         section,

@@ -5,7 +5,7 @@ ghost use Rattle.std.specs.Option.{option_map_or};
 ghost use Rattle.std.specs.Result.{result_unwrap_or};
 ghost use Rattle.lock_word.specs.Spelling.{fat_sight, sight_of};
 ghost use Rattle.lock_word.specs.WaitMask.{bit_of};
-ghost use Rattle.zelamiku.specs.Behind.{Answers, behind};
+ghost use Rattle.zelamiku.specs.Handles.{Answers, holding};
 ghost use Rattle.zelamiku.specs.SessionDoors.{AnswersAs, AnswersUnlessStopped, Ends, EntersAt, ExitsAt, HasNoSession, LoadsAt, LooksAt, NotifiesAllAt, NotifiesAt, ReadsStableAt, Resumes, StoresAt, TellsLaneAt, WaitsAt, free_sight, lane_told, sight_told};
 ghost use Rattle.zelamiku.specs.SessionStatuses.{status_of};
 ghost use Rattle.zelamiku.specs.declared.status.TheConstants.{OK};
@@ -19,7 +19,7 @@ use session::SessionError;
 
 // What a call of a session is answered where there is none.
 pub(crate) fn no_session(found: &Open) -> u32
-    ensures { HasNoSession found.now (behind found.now) result }
+    ensures { HasNoSession found.now (holding found.now) result }
 {
     match found {
         Open::Waiting(_) => status::WAITING,
@@ -244,7 +244,7 @@ pub fn begin_wait(state: &mut Inner, object: u32) -> u32
 }
 
 fn waiting_of(found: Open, object: u32) -> (Open, u32)
-    ensures { WaitsAt object found (behind result.0) result.1 }
+    ensures { WaitsAt object found (holding result.0) result.1 }
 {
     match found {
         Open::Session(session) => stop_calls::wait(session, object),
@@ -266,7 +266,7 @@ pub fn try_resume(state: &mut Inner) -> u32
 }
 
 fn resumed_of(found: Open) -> (Open, u32)
-    ensures { Resumes found (behind result.0) result.1 }
+    ensures { Resumes found (holding result.0) result.1 }
 {
     match found {
         Open::Waiting(waiting) => stop_calls::resume(waiting),
@@ -286,7 +286,7 @@ pub fn end(state: &mut Inner) -> u32
 }
 
 fn ended_of(found: Open) -> (Open, u32)
-    ensures { Ends found (behind result.0) result.1 }
+    ensures { Ends found (holding result.0) result.1 }
 {
     match found {
         Open::Session(session) => (Open::Ended(session.end()), status::OK),

@@ -1,14 +1,14 @@
 //! A place for a handle.
-ghost use Rattle.std.specs.Prelude.{◌≡◌, ◌↔◌, None, Some, Option, IsTrue, IsSome, OnErr, OnOk};
-ghost use Rattle.zelamiku.specs.Behind.{behind};
-ghost use Rattle.zelamiku.specs.Ended.{still_behind};
+ghost use Rattle.std.specs.Prelude.{◌≡◌, ◌↔◌, None, Some, IsTrue, IsSome, OnErr, OnOk};
+ghost use Rattle.zelamiku.specs.Handles.{holding};
+ghost use Rattle.zelamiku.specs.Ended.{still_held};
 
 use crate::handle::Handle;
 use crate::loose::Loose;
 use crate::state::{Inner, Open};
 use std::alloc::{AllocError, Global};
 
-/// A handle, as C keeps it: the pointer, and whether something is behind it.
+/// A handle, as C keeps it: the pointer, and whether the handle is in use.
 #[repr(C)]
 pub struct Slot {
     pub(crate) handle: Handle,
@@ -17,18 +17,18 @@ pub struct Slot {
 }
 
 impl Slot {
-    /// Whether something is behind it.
+    /// Whether it is in use.
     pub fn is_open(&self) -> bool
-        // A handle is open exactly where something is behind it.
+        // A handle is in use exactly where it isn't empty.
         ensures { IsTrue result ↔ IsSome self.now.handle.state }
     {
         self.is_open
     }
 }
 
-/// Lets go of what is behind the handle.
+/// Lets go of what the handle has.
 pub fn let_go(alloc: Global, place: &mut Slot)
-    // A handle that is let go of has nothing behind it.
+    // A handle that is let go of is empty.
     ensures { place.new.handle.state ≡ None }
 {
     if !place.is_open {
@@ -39,9 +39,9 @@ pub fn let_go(alloc: Global, place: &mut Slot)
     drop(there.into_box());
 }
 
-/// Whether something is behind the handle, where something is to be opened. What is left there of a session that has ended is let go.
+/// Whether the handle is in use, where something is to be opened there. What is left of a session that has ended is let go.
 pub fn is_taken(alloc: Global, place: &mut Slot) -> bool
-    ensures still { place.new.handle.state ≡ still_behind place.old.handle.state }
+    ensures still { place.new.handle.state ≡ still_held place.old.handle.state }
     ensures told { IsTrue result ↔ IsSome place.new.handle.state }
 {
     if !place.is_open() {
@@ -61,9 +61,9 @@ fn sendable<T: Send>(value: T) -> T
     value
 }
 
-/// Puts it behind the handle. What was there is let go.
+/// Puts it into the handle. What the handle had is let go.
 pub fn put(alloc: Global, place: &mut Slot, state: Box<Inner>)
-    // What is behind a handle is what was put there.
+    // What a handle has is what was put there.
     ensures { place.new.handle.state ≡ Some state.value }
 {
     let_go(alloc, place);
@@ -71,9 +71,9 @@ pub fn put(alloc: Global, place: &mut Slot, state: Box<Inner>)
     place.is_open = true;
 }
 
-/// Puts something new behind the handle, where there is memory for its box.
+/// Puts something new into the handle, where there is memory for its box.
 pub fn put_new(alloc: Global, place: &mut Slot, content: Open) -> Result<(), AllocError>
-    ensures ok { OnOk result (place.new.handle.state ≡ behind content) }
+    ensures ok { OnOk result (place.new.handle.state ≡ holding content) }
     ensures err { OnErr result (place.new.handle.state ≡ place.old.handle.state) }
 {
     let state = Inner::boxed(alloc, content)?;

@@ -1,4 +1,4 @@
-//! What a handle has: a heap, a session, or one of what is left of them.
+//! What a handle has: a heap, a session, or what is left of one.
 ghost use Rattle.std.specs.Prelude.{◌≡◌, IfOk};
 ghost use Rattle.zelamiku.specs.Ended.{is_ended};
 ghost use Rattle.zelamiku.specs.declared.state.Open.TheVariants as kind;
@@ -6,7 +6,7 @@ ghost use Rattle.zelamiku.specs.declared.state.Open.TheVariants as kind;
 use host_heap::{Closed, HostedHeap, HostedSession, HostedWaiting, Returned, StopWord};
 use std::alloc::{AllocError, Global};
 
-/// What is behind a handle: one kind of handle serves all.
+/// What a handle has: one kind of handle serves all.
 #[derive(Drop)]
 pub enum Open {
     /// Nothing any more.
@@ -26,13 +26,13 @@ pub enum Open {
     Ended(Returned),
 }
 
-/// What is behind a handle, in its box.
+/// What a handle has, in its box.
 #[derive(Drop)]
 pub struct Inner {
     pub open: Open,
 }
 
-// Each call that moves what is behind a handle does it by these: to move or to drop such a value in place is dear to the prover.
+// Each call that moves what a handle has does it by these: to move or to drop the value in place is dear to the prover.
 impl Inner {
     /// This in a box of its own, where there is memory.
     pub fn boxed(alloc: Global, content: Open) -> Result<Box<Inner>, AllocError>

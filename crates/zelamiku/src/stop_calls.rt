@@ -1,6 +1,6 @@
 //! A call of the device that the host couldn't make, and what a session answers once its heap has stopped since.
-ghost use Rattle.std.specs.Prelude.{◌≡◌, Some};
-ghost use Rattle.zelamiku.specs.Behind.{Answers, behind, session_behind};
+ghost use Rattle.std.specs.Prelude.{Some};
+ghost use Rattle.zelamiku.specs.Handles.{Answers, holding, session_held};
 ghost use Rattle.zelamiku.specs.SessionDoors.{EntersAt, ResumesFrom, Stays, WaitsFrom};
 ghost use Rattle.zelamiku.specs.StopDoors.{FailsCallAt, UnlessStopped, UnlessStoppedWaiting};
 ghost use Rattle.zelamiku.specs.declared.state.Open.TheVariants as kind;
@@ -21,7 +21,7 @@ pub fn call_failed(state: &mut Inner) -> u32
 }
 
 fn after_failure(found: Open) -> (Open, u32)
-    ensures { FailsCallAt found (behind result.0) result.1 }
+    ensures { FailsCallAt found (holding result.0) result.1 }
 {
     match found {
         Open::Heap(heap) => heap_after_failure(heap),
@@ -32,7 +32,7 @@ fn after_failure(found: Open) -> (Open, u32)
 }
 
 fn heap_after_failure(heap: HostedHeap) -> (Open, u32)
-    ensures { FailsCallAt (kind.Heap heap) (behind result.0) result.1 }
+    ensures { FailsCallAt (kind.Heap heap) (holding result.0) result.1 }
 {
     let mut heap = heap;
     match heap.call_failed() {
@@ -46,7 +46,7 @@ fn heap_after_failure(heap: HostedHeap) -> (Open, u32)
 }
 
 fn closed_after_failure(closed: Closed) -> (Open, u32)
-    ensures { FailsCallAt (kind.Closed closed) (behind result.0) result.1 }
+    ensures { FailsCallAt (kind.Closed closed) (holding result.0) result.1 }
 {
     match closed.call_failed() {
         None => (Open::Closed(closed), status::NONE_LEFT),
@@ -60,7 +60,7 @@ fn closed_after_failure(closed: Closed) -> (Open, u32)
 
 /// An enter, unless the session sees that its heap has stopped.
 pub fn enter(session: &mut HostedSession, object: u32) -> u32
-    ensures { UnlessStopped (Stays (EntersAt object)) session.old (session_behind session.new) result }
+    ensures { UnlessStopped (Stays (EntersAt object)) session.old (session_held session.new) result }
 {
     if session.is_stopped() {
         return status::STOPPED;
@@ -70,7 +70,7 @@ pub fn enter(session: &mut HostedSession, object: u32) -> u32
 
 /// A wait, unless the session sees that its heap has stopped.
 pub fn wait(session: HostedSession, object: u32) -> (Open, u32)
-    ensures { UnlessStopped (WaitsFrom object) session (behind result.0) result.1 }
+    ensures { UnlessStopped (WaitsFrom object) session (holding result.0) result.1 }
 {
     let mut session = session;
     if session.is_stopped() {
@@ -84,7 +84,7 @@ pub fn wait(session: HostedSession, object: u32) -> (Open, u32)
 
 /// A resume, unless what waits sees that its heap has stopped.
 pub fn resume(waiting: HostedWaiting) -> (Open, u32)
-    ensures { UnlessStoppedWaiting ResumesFrom waiting (behind result.0) result.1 }
+    ensures { UnlessStoppedWaiting ResumesFrom waiting (holding result.0) result.1 }
 {
     let mut waiting = waiting;
     if waiting.is_stopped() {

@@ -1,5 +1,5 @@
 //! What C calls where a call of the device couldn't be made.
-ghost use Rattle.zelamiku.specs.Behind.{Answers};
+ghost use Rattle.zelamiku.specs.HandleDoors.{AnswersBy};
 ghost use Rattle.zelamiku.specs.StopDoors.{FailsCallAt};
 
 use crate::slot::Slot;
@@ -8,9 +8,9 @@ use crate::{status, stop_calls};
 /// The host couldn't make the call of the device that it was told.
 #[unsafe(no_mangle)]
 pub extern "C" fn zelamiku_call_failed(place: &mut Slot) -> u32
-    // After a failed write what is behind the handle stays, to be told again. After a failed sync the word of the
+    // After a failed write what the handle has stays, to be told again. After a failed sync the word of the
     // heap's sessions is written, and each later call of the heap answers `STOPPED`.
-    ensures { Answers FailsCallAt place.old.handle.state place.new.handle.state result }
+    ensures { AnswersBy FailsCallAt place.old place.new result }
 {
     if !place.is_open() {
         return status::NOTHING;

@@ -40,7 +40,7 @@ pub struct Told {
     pub kept: [u64; LANES],
     /// The record for which the image is refused: its place in its lane.
     pub place: u64,
-    /// Its lane, or 64 where there is no such record.
+    /// Its lane, or 64 where no record is blamed.
     pub lane: u32,
 }
 

@@ -67,14 +67,6 @@ returns-clause-kept c = λ h k rings all.
       lanes_at_set taken place end d (same ∙ ap (λ (l : LaneEnd). lane_at l) (sym (get_or-set_same lanes place left d low))) below ∙ lanes_at_set lanes place left d refl low,
     )
 
-pub returns-clause-count : goal.returns-clause-count
-returns-clause-count c =
-    let lanes = c.args.lanes.now.items in
-    let d : LaneEnd = end_at lanes c.args.place c.requires.place in
-    let left : LaneEnd = record (get_or lanes c.args.place d) { came = None } in
-    length-set c.take_at-came.new.lanes.items c.args.place c.seat-session.result.1
-    ∙ ap (λ (ls : List LaneEnd). length ls) (c.take_at-came.ensures.left d) ∙ length-set lanes c.args.place left
-
 pub returns-clause-new : goal.returns-clause-new
 returns-clause-new c =
     let lanes = c.args.lanes.now.items in

@@ -80,5 +80,13 @@ sessions-preserved c =
           (subst (λ (es : List LaneEnd). ArePaired (unused ++ one ∷ []) es) (sym added.3) (paired_more unused c.sessions.lanes.items one end was.2 was.8 added.7)),
     )
 
-pub returns-clause-lanes : goal.returns-clause-lanes
-returns-clause-lanes c = λ k rings all. let each = c.sessions.invariant.5 k rings all in (each.1, each.2)
+pub returns-clause-seated : goal.returns-clause-seated
+returns-clause-seated c =
+    let was = c.sessions.invariant in
+    record {
+      homes = was.4;
+      ends_at = was.6;
+      paired = was.8;
+      count = was.2;
+      joined = λ k rings all. let each = was.5 k rings all in (each.1, each.2);
+    }

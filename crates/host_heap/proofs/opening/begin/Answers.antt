@@ -1,4 +1,4 @@
-use Rattle.std.proofs.Common.{ℕ, ◌≡◌, ◌≤◌, ◌+◌, All, List, length, ap, refl, sym, ◌∙◌, subst, arith}
+use Rattle.std.proofs.Common.{ℕ, ◌≡◌, ◌≤◌, ◌+◌, All, length, ap, refl, sym, ◌∙◌, subst, arith}
 use Rattle.std.proofs.lemmas.List.{drop_all}
 use Rattle.std.proofs.lemmas.List.Elements.{All-weaker}
 use Rattle.disk_deferred.specs.Deferred.{Deferred}
@@ -9,15 +9,13 @@ use Rattle.monitor.specs.Seats.{Home}
 use Rattle.monitor.specs.declared.view.Plan.{Plan}
 use Rattle.thread_heap.specs.Joined.{IsHelping, IsJoined}
 use Rattle.session.specs.Sessions.{IsSessionOf}
-use Rattle.std.specs.Arc.{arc_value}
 use Rattle.std.specs.List.{range_with_len}
 use Rattle.thread_steps.specs.Views.{plan}
 use Rattle.heap_model.specs.Past.{no_past}
 use Rattle.trim_helper.specs.Parts.{IsServing}
 use Rattle.host_heap.specs.Hosting.{hosted_device}
-use Rattle.host_heap.specs.Lanes.{AreNewHere}
+use Rattle.host_heap.specs.Lanes.{AreNewHere, IsJoinedHere, IsLaneEnd}
 use Rattle.host_heap.specs.Opening.{threads_of}
-use Rattle.host_heap.specs.Stopping.{Stopping}
 use Rattle.host_heap.proofs.opening.begin.Goals as goal
 
 -- an image has a lane, so a thread has one
@@ -30,58 +28,57 @@ open-requires-clause-within c = subst (λ (l : Layout). c.threads_among-threads.
 pub open-requires-clause-most : goal.open-requires-clause-most
 open-requires-clause-most c = subst (λ (l : Layout). l.lanes ≤ c.threads_among-threads.result + 1) c.layout-layout.ensures.layout c.threads_among-threads.ensures.most
 
-pub begin_all-requires : goal.begin_all-requires
-begin_all-requires c =
+pub seat_all-requires-clause-of : goal.seat_all-requires-clause-of
+seat_all-requires-clause-of c =
     let x = c.in-Ok.heap in
-    record {
-      of = subst (λ (h : Home). All (IsSessionOf h) x.sessions.items) (sym c.in-Ok-new.ensures.ok)
-          (All-weaker (IsJoined x.shared c.args.recovered.layout.capacity x.helper.rings) (IsSessionOf x.shared) (λ s joined. joined.of) x.sessions.items c.in-Ok.ensures.joined);
-      fresh = c.in-Ok.ensures.fresh;
-    }
+    All-weaker (IsJoined x.shared c.args.recovered.layout.capacity x.helper.rings) (IsSessionOf x.shared) (λ s joined. joined.of) x.sessions.items c.in-Ok.ensures.opened.joined
+
+pub seat_all-requires-clause-fresh : goal.seat_all-requires-clause-fresh
+seat_all-requires-clause-fresh c = c.in-Ok.ensures.opened.fresh
 
 pub invariant_of-result : goal.invariant_of-result
 invariant_of-result c =
     let x = c.in-Ok.heap in
-    let same = sym c.in-Ok-new.ensures.ok in
-    let unused = c.in-Ok-begin_all.unused.items in
-    let ends = c.in-Ok-begin_all.ensures.lanes x.helper.store.known.layout.capacity x.helper.rings
-    (subst (λ (h : Home). All (IsJoined h x.helper.store.known.layout.capacity x.helper.rings) x.sessions.items) same
-    (subst (λ (l : Layout). All (IsJoined x.shared l.capacity x.helper.rings) x.sessions.items) (sym c.in-Ok.ensures.layout) c.in-Ok.ensures.joined)) in
+    let k = x.helper.store.known.layout.capacity in
+    let rings = x.helper.rings in
+    let same = sym c.in-Ok-seat_all.ensures.home in
+    let seated = c.in-Ok-seat_all.ensures.seated in
+    let each = seated.joined k rings (subst (λ (l : Layout). All (IsJoined x.shared l.capacity rings) x.sessions.items) (sym c.in-Ok.ensures.opened.layout) c.in-Ok.ensures.opened.joined) in
     record {
-      helping = subst (λ (h : Home). IsHelping hosted_device h x.helper) same c.in-Ok.ensures.helping;
-      host = subst (λ (d : Deferred). IsHostOf d c.args.calls) (sym c.in-Ok.ensures.disk) c.requires.host;
-      layout_is = c.layout-layout.ensures.layout ∙ sym c.in-Ok.ensures.layout;
+      helping = subst (λ (h : Home). IsHelping hosted_device h x.helper) same c.in-Ok.ensures.opened.helping;
+      host = subst (λ (d : Deferred). IsHostOf d c.args.calls) (sym c.in-Ok.ensures.opened.disk) c.requires.host;
+      layout_is = c.layout-layout.ensures.layout ∙ sym c.in-Ok.ensures.opened.layout;
       within = c.layout-layout.ensures.recovered.image.header.limits;
-      unused_are = subst (λ (s : Stopping). AreNewHere (arc_value c.in-Ok-new.shared) s.word unused) (sym c.in-Ok-begin_all.ensures.stop) c.in-Ok-begin_all.ensures.homes;
-      count = (let same = c.in-Ok-begin_all.ensures.count in omega (arith, same));
-      lanes_are = ends.0;
-      order = c.in-Ok-begin_all.ensures.ends ∙ c.in-Ok-begin_all.ensures.in_order ∙ ap (λ (n : ℕ). range_with_len 0 n) c.in-Ok.ensures.count
-          ∙ ap (λ (k : Plan). range_with_len 0 k.lanes) (sym (ap (λ (h : Home). h.plan) c.in-Ok-new.ensures.ok ∙ c.in-Ok.ensures.plan));
-      joined = ends.1;
-      paired = c.in-Ok-begin_all.ensures.paired;
+      unused_are = subst (λ (h : Home). AreNewHere h c.in-Ok-seat_all.stop.word c.in-Ok-seat_all.unused.items) same seated.homes;
+      count = (let count = seated.count in omega (arith, count));
+      lanes_are = subst (λ (h : Home). All (IsLaneEnd h k rings) c.in-Ok-seat_all.lanes.items) same each.0;
+      order = seated.ends_at ∙ c.in-Ok-seat_all.ensures.in_order ∙ ap (λ (n : ℕ). range_with_len 0 n) c.in-Ok.ensures.opened.count
+          ∙ ap (λ (k : Plan). range_with_len 0 k.lanes) (sym (ap (λ (h : Home). h.plan) c.in-Ok-seat_all.ensures.home ∙ c.in-Ok.ensures.opened.plan_is));
+      joined = subst (λ (h : Home). All (IsJoinedHere h k rings) c.in-Ok-seat_all.unused.items) same each.1;
+      paired = seated.paired;
     }
 
-pub returns-in-Ok-begin_all : goal.returns-in-Ok-begin_all
-returns-in-Ok-begin_all c =
+pub returns-in-Ok-seat_all : goal.returns-in-Ok-seat_all
+returns-in-Ok-seat_all c =
     let x = c.in-Ok.heap in
-    let same = c.in-Ok-new.ensures.ok in
+    let same = c.in-Ok-seat_all.ensures.home in
     let threads : c.threads_among-threads.result ≡ threads_of c.args.recovered.layout.lanes c.args.wanted = c.threads_among-threads.ensures.threads ∙ ap (λ (l : Layout). threads_of l.lanes c.args.wanted) c.layout-layout.ensures.layout in
     record {
       begun = record {
-        plan_is = ap (λ (h : Home). h.plan) same ∙ c.in-Ok.ensures.plan ∙ (λ i. record { schema = c.args.schema; first = c.args.recovered.heap; last = LAST_NUMBER; lanes = threads i });
-        threads_are = c.in-Ok.ensures.threads ∙ threads;
-        layout_is = c.in-Ok.ensures.layout;
-        disk_is = c.in-Ok.ensures.disk;
-        host = subst (λ (d : Deferred). IsHostOf d c.args.calls) (sym c.in-Ok.ensures.disk) c.requires.host;
-        running = c.in-Ok.ensures.running;
-        settled = c.in-Ok.ensures.settled;
-        untold = subst (λ (h : Home). IsServing hosted_device x.helper (plan h) no_past) (sym same) c.in-Ok.ensures.past;
+        plan_is = ap (λ (h : Home). h.plan) same ∙ c.in-Ok.ensures.opened.plan_is ∙ (λ i. record { schema = c.args.schema; first = c.args.recovered.heap; last = LAST_NUMBER; lanes = threads i });
+        threads_are = c.in-Ok.ensures.opened.lanes ∙ threads;
+        layout_is = c.in-Ok.ensures.opened.layout;
+        disk_is = c.in-Ok.ensures.opened.disk;
+        host = subst (λ (d : Deferred). IsHostOf d c.args.calls) (sym c.in-Ok.ensures.opened.disk) c.requires.host;
+        running = c.in-Ok.ensures.opened.running;
+        settled = c.in-Ok.ensures.opened.settled;
+        untold = subst (λ (h : Home). IsServing hosted_device x.helper (plan h) no_past) (sym same) c.in-Ok.ensures.opened.past;
         unmade = c.requires.calls.0;
         none_left = c.requires.calls.1;
-        unused = c.in-Ok-begin_all.ensures.in_order ∙ ap (λ (n : ℕ). range_with_len 0 n) (c.in-Ok.ensures.count ∙ threads);
-        unstopped = ap (λ (s : Stopping). s.seen) c.in-Ok-begin_all.ensures.stop ∙ c.in-Ok-new-2.ensures;
-        none_out = drop_all (length c.in-Ok-begin_all.unused.items) c.in-Ok-begin_all.lanes.items (let same = c.in-Ok-begin_all.ensures.count in omega (arith, same));
+        unused = c.in-Ok-seat_all.ensures.in_order ∙ ap (λ (n : ℕ). range_with_len 0 n) (c.in-Ok.ensures.opened.count ∙ threads);
+        unstopped = c.in-Ok-seat_all.ensures.unstopped;
+        none_out = drop_all (length c.in-Ok-seat_all.unused.items) c.in-Ok-seat_all.lanes.items (let count = c.in-Ok-seat_all.ensures.seated.count in omega (arith, count));
       };
-      rings = c.in-Ok.ensures.rings;
+      rings = c.in-Ok.ensures.opened.rings;
       calls = refl;
     }

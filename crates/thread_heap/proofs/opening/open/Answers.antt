@@ -38,48 +38,37 @@ new-helper-requires-clause-sees g c =
 pub new-helper-requires-clause-silent : goal.new-helper-requires-clause-silent
 new-helper-requires-clause-silent g c = ap (λ (v : View). v.notes) c.in-Ok.ensures.silent
 
-pub returns-clause-joined : goal.returns-clause-joined
-returns-clause-joined g c =
+pub returns-clause-opened : goal.returns-clause-opened
+returns-clause-opened g c =
     let made = c.in-Ok-open_sessions.made in
     let h = c.in-Ok.opened.shared in
-    subst (λ rings. All (IsJoined h c.args.recovered.layout.capacity rings) made.0.items) (sym c.new-helper.ensures.parts.1)
-    (subst (λ (l : Layout). All (IsJoined h l.capacity made.1.items) made.0.items) c.layout-layout.ensures.layout
-    (all_joined h (rooms c.args.ring c.layout-layout.result.capacity) c.args.threads c.in-Ok.opened.seats.items made.0.items made.1.items c.in-Ok.ensures.views c.in-Ok-open_sessions.ensures.opened c.in-Ok-open_sessions.ensures.heap))
-
-pub returns-clause-fresh : goal.returns-clause-fresh
-returns-clause-fresh g c =
-    let made = c.in-Ok-open_sessions.made in
-    all_new c.in-Ok.opened.shared (rooms c.args.ring c.layout-layout.result.capacity) c.args.threads c.in-Ok.opened.seats.items made.0.items made.1.items c.in-Ok.ensures.views c.in-Ok-open_sessions.ensures.opened
-
-pub returns-clause-count : goal.returns-clause-count
-returns-clause-count g c =
-    let made = c.in-Ok-open_sessions.made in
-    session_count c.in-Ok.opened.shared (rooms c.args.ring c.layout-layout.result.capacity) c.args.threads c.in-Ok.opened.seats.items made.0.items made.1.items c.in-Ok.ensures.views c.in-Ok-open_sessions.ensures.opened
-
-pub returns-clause-helping : goal.returns-clause-helping
-returns-clause-helping g c =
-    let made = c.in-Ok-open_sessions.made in
-    let h = c.in-Ok.opened.shared in
+    let was = c.in-Ok.ensures in
     let parts = c.new-helper.ensures.parts in
-    let lanes : h.plan.lanes ≡ c.args.threads = ap (λ (k : Plan). k.lanes) c.in-Ok.ensures.plan in
-    let count = ring_count h (rooms c.args.ring c.layout-layout.result.capacity) c.args.threads c.in-Ok.opened.seats.items made.0.items made.1.items c.in-Ok.ensures.views c.in-Ok-open_sessions.ensures.opened in
+    let opened = c.in-Ok-open_sessions.ensures.opened in
+    let room = rooms c.args.ring c.layout-layout.result.capacity in
+    let seats = c.in-Ok.opened.seats.items in
+    let lanes : h.plan.lanes ≡ c.args.threads = ap (λ (k : Plan). k.lanes) was.plan in
+    let count = ring_count h room c.args.threads seats made.0.items made.1.items was.views opened in
     record {
-      seat = subst (λ s. IsHelper h s) (sym parts.2) c.in-Ok.ensures.helper;
-      lanes = lanes ∙ sym c.in-Ok.ensures.threads ∙ ap (λ s. s.known.threads) (sym parts.0);
-      rings = ap (λ r. length r) parts.1 ∙ count ∙ sym lanes;
-      nobody = ap (λ s. taken_in s) parts.2 ∙ ap (λ v. map part_of v.gathered) c.in-Ok.ensures.silent;
-      past = no_past;
-      serving = c.new-helper.ensures.serves (plan h) c.in-Ok.ensures.past;
+      plan_is = was.plan;
+      joined = subst (λ rings. All (IsJoined h c.args.recovered.layout.capacity rings) made.0.items) (sym parts.1)
+          (subst (λ (l : Layout). All (IsJoined h l.capacity made.1.items) made.0.items) c.layout-layout.ensures.layout
+          (all_joined h room c.args.threads seats made.0.items made.1.items was.views opened c.in-Ok-open_sessions.ensures.heap));
+      rings = subst (λ rings. HaveRoom c.args.ring rings) (sym parts.1) (have_room room h.plan seats made.0.items made.1.items opened);
+      fresh = all_new h room c.args.threads seats made.0.items made.1.items was.views opened;
+      count = session_count h room c.args.threads seats made.0.items made.1.items was.views opened;
+      lanes = ap (λ s. s.known.threads) parts.0 ∙ was.threads;
+      helping = record {
+        seat = subst (λ s. IsHelper h s) (sym parts.2) was.helper;
+        lanes = lanes ∙ sym was.threads ∙ ap (λ s. s.known.threads) (sym parts.0);
+        rings = ap (λ r. length r) parts.1 ∙ count ∙ sym lanes;
+        nobody = ap (λ s. taken_in s) parts.2 ∙ ap (λ v. map part_of v.gathered) was.silent;
+        past = no_past;
+        serving = c.new-helper.ensures.serves (plan h) was.past;
+      };
+      past = c.new-helper.ensures.serves (plan h) was.past;
+      running = ap (λ s. s.known.has_failed) parts.0 ∙ was.running;
+      settled = c.new-helper.ensures.settled;
+      layout = ap (λ s. s.known.layout) parts.0 ∙ was.layout;
+      disk = ap (λ s. s.disk) parts.0 ∙ was.disk;
     }
-
-pub returns-clause-past : goal.returns-clause-past
-returns-clause-past g c = c.new-helper.ensures.serves (plan c.in-Ok.opened.shared) c.in-Ok.ensures.past
-
-pub returns-clause-rings : goal.returns-clause-rings
-returns-clause-rings g c =
-    let made = c.in-Ok-open_sessions.made in
-    subst (λ rings. HaveRoom c.args.ring rings) (sym c.new-helper.ensures.parts.1)
-    (have_room (rooms c.args.ring c.layout-layout.result.capacity) c.in-Ok.opened.shared.plan c.in-Ok.opened.seats.items made.0.items made.1.items c.in-Ok-open_sessions.ensures.opened)
-
-pub returns-clause-threads : goal.returns-clause-threads
-returns-clause-threads g c = ap (λ s. s.known.threads) c.new-helper.ensures.parts.0 ∙ c.in-Ok.ensures.threads

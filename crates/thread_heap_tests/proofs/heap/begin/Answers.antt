@@ -26,4 +26,7 @@ open-requires-clause-most g c =
 pub returns-clause-joined : goal.returns-clause-joined
 returns-clause-joined g c =
     let o = c.in-Ok-open.heap in
-    subst (λ (l : Layout). All (IsJoined o.shared l.capacity o.helper.rings) o.sessions.items) (sym c.in-Ok-open.ensures.layout) c.in-Ok-open.ensures.joined
+    subst (λ (l : Layout). All (IsJoined o.shared l.capacity o.helper.rings) o.sessions.items) (sym c.in-Ok-open.ensures.opened.layout) c.in-Ok-open.ensures.opened.joined
+
+pub returns-clause-helping : goal.returns-clause-helping
+returns-clause-helping g c = c.in-Ok-open.ensures.opened.helping

@@ -1,5 +1,4 @@
 use Rattle.std.proofs.lemmas.Option.{IfSome_then}
-use Rattle.thread_heap.specs.Joined.{IsJoined}
 use Rattle.thread_heap_tests.proofs.Zips.{zip_first, zip_second}
 use Rattle.thread_heap_tests.proofs.heap.take_both.Goals as goal
 

@@ -4,8 +4,8 @@ use Rattle.image_parts.specs.declared.guard_row.GuardRow.{GuardRow}
 use Rattle.zelamiku.specs.HeapDoors.{NotMade, rows_of}
 use Rattle.zelamiku.proofs.heap_calls.format.Goals as goal
 
-pub returns-clause-refused : goal.returns-clause-refused
-returns-clause-refused c =
+pub returns-in-Err : goal.returns-in-Err
+returns-in-Err c =
     let lanes = c.in-Ok.ensures in
     let why = c.in-Err.refusal in
     let low : c.args.lanes ≤ 255 = omega (arith, lanes.0) in
@@ -13,5 +13,5 @@ returns-clause-refused c =
     why
     low
     (subst (λ (n : ℕ). RefusesMaking c.args.objects (rows_of c.args.fields.now) n c.args.capacity why) lanes.1
-    (subst (λ (rows : List GuardRow). RefusesMaking c.args.objects rows c.in-Ok.lanes c.args.capacity why) (c.deref.ensures.value ∙ c.in-Ok-rows_of.ensures) c.in-Err.ensures.refused))
+    (subst (λ (rows : List GuardRow). RefusesMaking c.args.objects rows c.in-Ok.lanes c.args.capacity why) (c.deref.ensures.value ∙ c.in-Ok-rows_of.ensures) c.in-Err.ensures))
     c.of_host.ensures

@@ -2,21 +2,21 @@ use Rattle.std.proofs.Common.{◌≡◌, ℕ, MatchOption, Option, [], refl, ap,
 use Rattle.host_heap.specs.Again.{HandsAgain, HasNoneIdle}
 use Rattle.host_heap.specs.Hosting.{Hosting}
 use Rattle.host_heap.specs.Sessions.{Seated}
-use Rattle.zelamiku.specs.Behind.{heap_behind, session_behind}
+use Rattle.zelamiku.specs.Handles.{heap_held, session_held}
 use Rattle.zelamiku.specs.HeapDoors.{HandsOne, IsHanded, IsHandedAgain, NoneIsLeft, NoRoomForOne}
 use Rattle.zelamiku.specs.Own.{Held}
 use Rattle.zelamiku.specs.declared.status.TheConstants.{NONE_LEFT, NO_MEMORY, OK}
 use Rattle.zelamiku.proofs.heap_calls.hand_out.Goals as goal
 
 -- the heap before, after it handed out no session of its own, and after it looked for one that has ended
-handed_again : (x w y : Hosting) (s : Seated) (handed : Held) (status : ℕ) → w ≡ x → x.unused ≡ [] → HandsAgain w y s → handed ≡ session_behind s → status ≡ OK → HandsOne x handed (heap_behind y) status
+handed_again : (x w y : Hosting) (s : Seated) (handed : Held) (status : ℕ) → w ≡ x → x.unused ≡ [] → HandsAgain w y s → handed ≡ session_held s → status ≡ OK → HandsOne x handed (heap_held y) status
 handed_again x w y s handed status same none again is ok = IsHandedAgain y s none (subst (λ (v : Hosting). HandsAgain v y s) same again) is refl ok
 
-none_left : (x w y : Hosting) (handed : Held) → w ≡ x → x.unused ≡ [] → HasNoneIdle w y → HandsOne x handed (heap_behind y) NONE_LEFT
+none_left : (x w y : Hosting) (handed : Held) → w ≡ x → x.unused ≡ [] → HasNoneIdle w y → HandsOne x handed (heap_held y) NONE_LEFT
 none_left x w y handed same none idle = NoneIsLeft y none (subst (λ (v : Hosting). HasNoneIdle v y) same idle) refl refl
 
-no_room : (x w y : Hosting) (handed : Held) → w ≡ x → y ≡ w → HandsOne x handed (heap_behind y) NO_MEMORY
-no_room x w y handed same again = NoRoomForOne (ap (λ (v : Hosting). heap_behind v) (again ∙ same)) refl
+no_room : (x w y : Hosting) (handed : Held) → w ≡ x → y ≡ w → HandsOne x handed (heap_held y) NO_MEMORY
+no_room x w y handed same again = NoRoomForOne (ap (λ (v : Hosting). heap_held v) (again ∙ same)) refl
 
 pub returns-in-Some-clause-handed : goal.returns-in-Some-clause-handed
 returns-in-Some-clause-handed c =

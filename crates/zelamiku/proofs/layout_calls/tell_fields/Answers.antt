@@ -3,7 +3,6 @@ use Rattle.std.proofs.lemmas.Bool.{cases_lt}
 use Rattle.std.proofs.lemmas.Grind.{get_or-set_at}
 use Rattle.law_hosted.specs.Copies.{copy_of}
 use Rattle.zelamiku.specs.LayoutDoors.{TellsField}
-use Rattle.zelamiku.specs.declared.words.Field.{Field}
 use Rattle.zelamiku.proofs.layout_calls.tell_fields.Goals as goal
 
 pub loop-i-preserved : goal.loop-i-preserved

@@ -15,9 +15,9 @@ returns-in-Ok-put_new c =
     let dropped = c.tell_dropped-in-Ok.new.dropped in
     let each : TellsEach c.in-Ok.report.dropped.items dropped = subst (λ (sections : List Section). TellsEach sections dropped) c.deref.ensures.value c.tell_dropped-in-Ok.ensures in
     let none = nothing_still c.args.place.now.handle.state c.is_taken.new.place.handle.state c.is_taken.ensures.still c.if-is_taken.ensures.told in
-    rw none (IsOpen c.in-Ok.heap c.in-Ok.report c.in-Ok.ensures.ok c.in-Ok.ensures.rings c.of_heap-found.ensures each c.in-Ok-put_new.ensures.ok refl)
+    rw none (IsOpen c.in-Ok.heap c.in-Ok.report c.in-Ok.ensures c.of_heap-found.ensures each c.in-Ok-put_new.ensures.ok refl)
 
 pub returns-in-Err : goal.returns-in-Err
 returns-in-Err c =
     let none = nothing_still c.args.place.now.handle.state c.is_taken.new.place.handle.state c.is_taken.ensures.still c.if-is_taken.ensures.told in
-    rw none (NotOpen c.in-Err.refusal c.in-Err.ensures.refused c.of_refusal.ensures c.tell_dropped.ensures (c.is_taken.ensures.still ∙ none) c.of_host.ensures)
+    rw none (NotOpen c.in-Err.refusal c.in-Err.ensures c.of_refusal.ensures c.tell_dropped.ensures (c.is_taken.ensures.still ∙ none) c.of_host.ensures)

@@ -1,4 +1,4 @@
-use Rattle.std.proofs.Common.{ℕ, ◌≡◌, All, List, [], ◌≤◌, drop, length, refl, sym, ◌∙◌, ap, subst, arith}
+use Rattle.std.proofs.Common.{ℕ, ◌≡◌, All, List, [], ◌≤◌, drop, length, sym, ◌∙◌, ap, subst, arith}
 use Rattle.std.proofs.lemmas.List.Elements.{All-nil}
 use Rattle.std.specs.Arc.{arc_value}
 use Rattle.host_heap.specs.Hosting.{Hosting, handed_out, lanes_of}

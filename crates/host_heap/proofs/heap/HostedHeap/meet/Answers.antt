@@ -1,6 +1,6 @@
-use Rattle.std.proofs.Common.{ap, ◌∙◌, sym, subst}
+use Rattle.std.proofs.Common.{ap, subst}
 use Rattle.std.specs.Arc.{arc_value}
-use Rattle.disk_deferred.specs.Host.{HasLooked, Host}
+use Rattle.disk_deferred.specs.Host.{HasLooked}
 use Rattle.thread_steps.specs.Views.{plan}
 use Rattle.trim_helper.specs.Meets.{SameHelper}
 use Rattle.host_heap.specs.Hosting.{Hosting, hosted_device}

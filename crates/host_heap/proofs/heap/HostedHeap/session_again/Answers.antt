@@ -1,5 +1,5 @@
-use Rattle.std.proofs.Common.{ℕ, ◌≡◌, ◌+◌, ◌-◌, ◌<◌, ◌≤◌, All, IfNone, IfSome, List, [], ◌∷◌, Option, Some, None, drop, get_or, length, set, take, ap, sym, ◌∙◌, subst, arith}
-use Rattle.std.proofs.lemmas.List.{drop-set-add, get_or-drop, length-drop, take-set-le}
+use Rattle.std.proofs.Common.{ℕ, ◌≡◌, ◌+◌, ◌-◌, ◌<◌, ◌≤◌, All, IfNone, IfSome, List, Option, Some, drop, get_or, length, set, take, ap, sym, ◌∙◌, subst, arith}
+use Rattle.std.proofs.lemmas.List.{drop-set-add, get_or-drop, length-drop, length-set, take-set-le}
 use Rattle.std.proofs.lemmas.List.Elements.{All-get_or}
 use Rattle.monitor.specs.Seats.{Home}
 use Rattle.thread_heap.specs.Joined.{IsJoined}
@@ -93,7 +93,7 @@ invariant_of-self-2 c =
     let word = sym (ap (λ (s : Stopping). s.word) c.outfit.ensures.same) in
     let kept = c.find_idle.ensures.kept h k x.rings was.lanes_are in
     let later = c.hand_out_at-session.ensures.kept h k x.rings kept.0 in
-    let long = c.hand_out_at-session.ensures.count ∙ c.find_idle.ensures.count in
+    let long = ap (λ (ls : List LaneEnd). length ls) handed.1 ∙ length-set new place handed.0 ∙ c.find_idle.ensures.count in
     record {
       helping = was.helping;
       host = was.host;

@@ -1,4 +1,4 @@
--- `as_mut` lends what is behind the handle, and the handle follows it.
+-- `as_mut` lends what the handle has, and the handle follows it.
 use Prim.Native.Nat.{ℕ}
 use mathlib.Core.Path.{◌≡◌, refl}
 use mathlib.Core.List.{List, [], ◌∷◌}
@@ -47,7 +47,7 @@ module _ {M : Type 1} {𝓤 : Ura M} (𝓛 : Logic 𝓤) (rb ro : ℕ) (h : H.De
   abbrev boxed : I.Denot → D E
   boxed x = record { ptr = h.at; alloc = h.alloc; value = x }
 
-  -- all of the handle but what is behind it
+  -- all of the handle but what it has
   abbrev Rest : Fml
   Rest = fsep (fsep (token E.al h.alloc (bare (τ E)) (block_ptr b o)) (handle E h.alloc hv)) (cell_at full_share H.mir (word E hv b o ∷ []) rb ro)
 
@@ -74,7 +74,7 @@ as_mut_spec 𝓤 𝓛 𝓜 𝓡 wired =
     rewrite ! 0 (λ (st : Held). ‵ (H.own_val (record h { state = st }) us)) open' refl $ use1 𝓛 (‵ ((B E).own_val (record { ptr = h.at; alloc = h.alloc; value = s }) us)) (id⊢ 𝓤 _) $
     box_out E ! (record { ptr = h.at; alloc = h.alloc; value = s }) us (λ b o hv at_b ws fa. move ! (1 ∷ 2 ∷ []) $ fjoin ! $ move ! (1 ∷ []) $
     rewrite ! 2 (λ (xs : List Val). ‵ (cell_at full_share H.mir xs rb ro)) ws refl $
-    -- [what is behind it; the token and the allocator; the handle's cell; the open borrow, in three entries]
+    -- [what it has; the token and the allocator; the handle's cell; the open borrow, in three entries]
     first ! $ blocks ! $
     sets ! (of_opd ! (load ! (through ! refl (fld ! refl (stop !))) (look_in ! 2 (sub ! 0 refl (whole !))))) refl (tt, tt) $ sets ! (of_opd ! (get ! refl)) refl (tt, tt) $
     sets_last ! (addr ! (through ! refl (stop !))) refl (tt, tt) $

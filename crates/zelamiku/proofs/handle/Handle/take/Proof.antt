@@ -2,7 +2,7 @@
 use mathlib.Core.Path.{◌≡◌, refl, sym, subst}
 use mathlib.Core.List.{List, [], ◌∷◌, ◌++◌}
 use lib.Dec.{lit<}
-use base.Logic.{SProp, ent, sep, emp, id⊢}
+use base.Logic.{SProp, ent, emp, id⊢}
 use base.Fml.{ftrue, flft, fsep}
 use base.Fraction.{full_share}
 use mir.Syntax.{named, w64}
@@ -60,7 +60,7 @@ take_spec 𝓤 𝓛 𝓜 𝓡 wired =
     opens ! tt H rb ro (λ us. move ! (1 ∷ []) $
     rewrite ! 0 (λ (st : Held). ‵ (H.own_val (record h { state = st }) us)) open' refl $ use1 𝓛 (‵ ((B E).own_val v us)) (id⊢ 𝓤 _) $
     box_out E ! v us (λ b o hv at_b ws fa. rewrite ! 3 (λ (xs : List Val). ‵ (cell_at full_share H.mir xs rb ro)) ws refl $
-    -- [what is behind it; the token; the handle's allocator; the handle's cell; the open borrow, in three entries; the other allocator]
+    -- [what it has; the token; the handle's allocator; the handle's cell; the open borrow, in three entries; the other allocator]
     let w : Val = vstruct (vcons (vint w64 0) (vcons hv vnil)) in
     sets ! (of_opd ! (load ! (through ! refl (fld ! refl (stop !))) (look_in ! 3 (sub ! 0 refl (whole !))))) refl (tt, tt) $ sets ! (of_opd ! (get ! refl)) refl (tt, tt) $
     assigns ! (of_opd ! (lit ! tt)) (through ! refl (fld ! refl (stop !))) (store_in ! 3 (sub ! 0 refl (whole !)) (tt, record { fits = lit< tt })) $
