@@ -8,7 +8,7 @@ use Rattle.rtrb.specs.Ring.{known_items}
 use Rattle.thread_steps.specs.Views.{plan}
 use Rattle.disk_deferred.specs.Deferred.{Deferred}
 use Rattle.heap_model.specs.declared.store_error.StoreError.{StoreError}
-use Rattle.trim_helper.specs.Calls.{HasGoneOn, RoundsUpTo}
+use Rattle.trim_helper.specs.Calls.{HasGoneOn, RoundsUpTo, SharesUpTo}
 use Rattle.trim_helper.specs.Heard.{HasSeen}
 use Rattle.trim_helper.specs.Parts.{IsServing, Parts}
 use Rattle.host_heap.specs.Hosting.{Hosting, SameHeap, hosted_device}
@@ -25,6 +25,7 @@ not_begun most x y room none tells same looked = record {
   calls_left = (λ is. tells.0 none, λ low. refl);
   nothing = λ is. same;
   rounds = tt;
+  shares = tt;
   heard = tt;
   kept = record { home = same.home; unused = same.unused; out = same.out; stop = same.stop; layout = ap (λ (h : Parts Deferred). h.store.known.layout) same.helper; threads = ap (λ (h : Parts Deferred). h.store.known.threads) same.helper };
   calls = looked;
@@ -39,6 +40,9 @@ module _ (most : Option ℕ) (x z w : Hosting) (room : Bool) (some : room ≡ tr
       subst (λ (h : Home). RoundsUpTo hosted_device most (plan h) p x.helper w.helper answer) same.home
       (subst (λ (k : Parts Deferred). RoundsUpTo hosted_device most (plan z.home) p k w.helper answer) same.helper
       (serves p (subst (λ (h : Home). IsServing hosted_device z.helper (plan h) p) (sym same.home) (subst (λ (k : Parts Deferred). IsServing hosted_device k (plan x.home) p) (sym same.helper) serving))))
+
+  shared : (answer : Result ℕ StoreError) → SharesUpTo hosted_device most z.helper w.helper answer → SharesUpTo hosted_device most x.helper w.helper answer
+  shared answer shares = subst (λ (k : Parts Deferred). SharesUpTo hosted_device most k w.helper answer) same.helper shares
 
   keeps : KeepsSessions x w
   keeps = record {
@@ -60,8 +64,8 @@ module _ (most : Option ℕ) (x z w : Hosting) (room : Bool) (some : room ≡ tr
   looks : HasLooked x.calls w.calls
   looks = subst (λ (c : Host). HasLooked x.calls c) (sym calls) looked
 
-  pub begun_ok : (n : ℕ) → MakesRoundUpTo most z w (Ok n) → HasRound most x w (Ok n)
-  begun_ok n serves = record { calls_left = (λ is. absurd cc, λ low. has_room low); nothing = λ is. absurd cc; rounds = served (Ok n) serves; heard = hears; kept = keeps; calls = looks }
+  pub begun_ok : (n : ℕ) → MakesRoundUpTo most z w (Ok n) → SharesUpTo hosted_device most z.helper w.helper (Ok n) → HasRound most x w (Ok n)
+  begun_ok n serves shares = record { calls_left = (λ is. absurd cc, λ low. has_room low); nothing = λ is. absurd cc; rounds = served (Ok n) serves; shares = shared (Ok n) shares; heard = hears; kept = keeps; calls = looks }
 
-  pub begun_err : (e : StoreError) → MakesRoundUpTo most z w (Err e) → HasRound most x w (Err (Store e))
-  begun_err e serves = record { calls_left = (λ is. absurd cc, λ low. has_room low); nothing = λ is. absurd cc; rounds = served (Err e) serves; heard = hears; kept = keeps; calls = looks }
+  pub begun_err : (e : StoreError) → MakesRoundUpTo most z w (Err e) → SharesUpTo hosted_device most z.helper w.helper (Err e) → HasRound most x w (Err (Store e))
+  begun_err e serves shares = record { calls_left = (λ is. absurd cc, λ low. has_room low); nothing = λ is. absurd cc; rounds = served (Err e) serves; shares = shared (Err e) shares; heard = hears; kept = keeps; calls = looks }

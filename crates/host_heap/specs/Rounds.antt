@@ -7,7 +7,7 @@ use Rattle.rtrb.specs.Ring.{known_items}
 use Rattle.thread_steps.specs.Views.{plan}
 use Rattle.heap_model.specs.Past.{Past}
 use Rattle.heap_model.specs.declared.store_error.StoreError.{StoreError}
-use Rattle.trim_helper.specs.Calls.{HasGoneOn, Rounds, RoundsUpTo}
+use Rattle.trim_helper.specs.Calls.{HasGoneOn, Rounds, RoundsUpTo, SharesUpTo}
 use Rattle.trim_helper.specs.Heard.{HasSeen}
 use Rattle.trim_helper.specs.Parts.{IsServing}
 use Rattle.host_heap.specs.Hosting.{Hosting, SameHeap, hosted_device}
@@ -57,6 +57,8 @@ pub record HasRound (most : Option ℕ) (x y : Hosting) (answer : Result ℕ Rou
   pub nothing : IsErrOf answer CallsLeft → SameHeap x y
   -- A round that is begun does what the helper's round does, with the same bound on its records.
   pub rounds : IfBegun answer (MakesRoundUpTo most x y)
+  -- A round that reaches its bound shares it equally among the lanes, as the helper's round does.
+  pub shares : IfBegun answer (SharesUpTo hosted_device most x.helper y.helper)
   pub heard : IfBegun answer (λ answered. HearsThreads x y)
   -- A round leaves the rest of the heap as it was.
   pub kept : KeepsSessions x y

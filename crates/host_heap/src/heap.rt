@@ -58,7 +58,8 @@ impl HostedHeap {
     ghost use Rattle.rtrb.specs.Ring.{known_items};
     ghost use Rattle.session.specs.Sessions.{view_of};
     ghost use Rattle.host_heap.specs.Rounds.{HasRound, HearsThreads, KeepsSessions, MakesRoundUpTo};
-    ghost use Rattle.host_heap.specs.Hosting.{SameHeap};
+    ghost use Rattle.host_heap.specs.Hosting.{SameHeap, hosted_device};
+    ghost use Rattle.trim_helper.specs.Calls.{SharesUpTo};
     ghost use Rattle.host_heap.specs.Failing.{HasTold, failed_call};
     ghost use Rattle.host_heap.specs.declared.error.FailedCall.TheVariants as FailedCalls;
     ghost use Rattle.host_heap.specs.declared.error.AcknowledgedError.TheVariants.{BadLane, CallsLeft};
@@ -216,6 +217,7 @@ impl HostedHeap {
     // The round of the helper.
     fn serve(&mut self, most: Option<u64>) -> Result<u64, StoreError>
         ensures serves { MakesRoundUpTo most self.old self.new result }
+        ensures shares { SharesUpTo hosted_device most self.old.helper self.new.helper result }
         ensures heard { HearsThreads self.old self.new }
         ensures kept { KeepsSessions self.old self.new }
         ensures calls { self.new.calls ≡ self.old.calls }

@@ -65,9 +65,9 @@ pub extern "C" fn zelamiku_call_done(place: &mut Slot) -> u32
 /// A round of the helper, of at most `most` records, or of any number by [`ALL`](heap_calls::ALL).
 #[unsafe(no_mangle)]
 pub extern "C" fn zelamiku_round(place: &mut Slot, most: u64, applied: &mut u64) -> u32
-    // A round does what the heap's round does, by the bound that C gives, and 2^64 - 1 is no bound. It tells how many
-    // records it applied or why it stopped. `CALLS_LEFT` is answered exactly where there may be no room for its calls,
-    // and nothing was done.
+    // A round does what the heap's round does, by the bound that C gives, and 2^64 - 1 is no bound. A round that reaches
+    // its bound has shared it equally among the lanes. It tells how many records it applied or why it stopped.
+    // `CALLS_LEFT` is answered exactly where there may be no room for its calls, and nothing was done.
     ensures told { AnswersBy (RoundsAt most applied.new) place.old place.new result }
     // A round that isn't good tells 0 records.
     ensures refused { result ≢ OK → applied.new ≡ 0 }

@@ -4,7 +4,7 @@ use Rattle.monitor.specs.Seats.{Home}
 use Rattle.monitor.specs.Views.{GoesOn}
 use Rattle.std.specs.Arc.{arc_value}
 use Rattle.thread_steps.specs.Views.{plan}
-use Rattle.trim_helper.specs.Calls.{HasGoneOn, RoundsUpTo}
+use Rattle.trim_helper.specs.Calls.{HasGoneOn, RoundsUpTo, SharesUpTo}
 use Rattle.trim_helper.specs.Heard.{HasSeen}
 use Rattle.trim_helper.specs.Parts.{IsServing}
 use Rattle.host_heap.specs.Hosting.{Hosting, hosted_device}
@@ -64,3 +64,7 @@ returns-clause-heard c =
       seen = subst (λ (k : Hosting). k.helper.store.known.has_failed ≡ false → HasSeen k.home y) view seen;
       later = subst (λ (k : Hosting). GoesOn y.seat.view.history k.helper.seat.view.history) view c.bounded_round.ensures.later;
     }
+
+pub returns-clause-shares : goal.returns-clause-shares
+returns-clause-shares c =
+    subst (λ (x : Hosting). SharesUpTo hosted_device c.args.most x.helper c.bounded_round.new.self c.bounded_round.result) c.self.view_is c.bounded_round.ensures.shares
