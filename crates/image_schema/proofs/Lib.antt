@@ -1,5 +1,5 @@
 mod WritingLemmas
-mod FitLemmas
+pub mod FitLemmas
 mod DumpLemmas
 mod DrawLemmas
 mod RoundTrip

@@ -1,12 +1,14 @@
 -- What is written of an image's sections: a graph, by the names of a schema file.
-use Rattle.std.specs.Prelude.{ℕ, ◌≡◌, Option, None, Some, List, []}
+use Rattle.std.specs.Prelude.{ℕ, ◌≡◌, Option, None, Some, Result, List, []}
 use Rattle.std.specs.Io.KnownBytes.{Appends}
+use Rattle.block_disk.specs.Device.{Device}
 use Rattle.guards.specs.Schema.{Declarations}
+use Rattle.inspect.specs.Inspection.{WritesOfImage}
 use Rattle.inspect.specs.WholeGraph.{picture_text}
-use Rattle.inspect.specs.Written.{AppendsPart}
+use Rattle.inspect.specs.Written.{AppendsPart, WritesOr}
 use Rattle.recover.specs.Reading.{RefusesImage}
 use Rattle.recover.specs.Study.{IsStudyOf}
-use Rattle.recover_heap.specs.declared.error.RecoverError.TheVariants.{NoMemory}
+use Rattle.recover_heap.specs.declared.error.RecoverError.TheVariants.{Fault, NoMemory}
 use Rattle.recover.specs.declared.studied.Study.{Study}
 use Rattle.image_schema.specs.OfImage.{FitsImage}
 use Rattle.image_schema.specs.declared.error.DumpError.{DumpError}
@@ -58,3 +60,15 @@ abbrev pub RefusesDrawing : Option Declarations → (last : ℕ) → List ℕ �
 RefusesDrawing given last image old new (dump_error.Study why) = RefusesImage image why × Appends old new []
 RefusesDrawing given last image old new dump_error.OtherSchema = IsOfOther given image × Appends old new []
 RefusesDrawing given last image old new dump_error.Write = DrawsPart given last image old new
+
+-- what each answer says of a study whose graph was to be written
+abbrev pub DrawnStudy : {W T : Type 0} → Option Declarations → (last : ℕ) → Study → (contents : W → Option (List ℕ)) (old new : W)
+    → Result T DumpError → Type 0
+DrawnStudy given last s contents old new result =
+    WritesOr (DrawsStudy given last s) (RefusesDrawnStudy given last s) contents old new result
+
+-- what each answer says of a device's image whose graph was to be written
+abbrev pub Drawn : {M W T : Type 0} → Option Declarations → (last : ℕ) → (device : M → Device) (before after : M)
+    (contents : W → Option (List ℕ)) (old new : W) → Result T DumpError → Type 0
+Drawn given last device before after contents old new result =
+    WritesOfImage (Draws given last) (RefusesDrawing given last) (dump_error.Study Fault) device before after contents old new result

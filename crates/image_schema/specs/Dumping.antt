@@ -1,13 +1,15 @@
 -- What is written of an image's heap: a schema file.
-use Rattle.std.specs.Prelude.{ℕ, ◌≡◌, ◌<◌, ◌^◌, Option, None, Some, List, [], slice_index}
+use Rattle.std.specs.Prelude.{ℕ, ◌≡◌, ◌<◌, ◌^◌, Option, None, Some, Result, List, [], slice_index}
 use Rattle.std.specs.Io.KnownBytes.{Appends}
+use Rattle.block_disk.specs.Device.{Device}
 use Rattle.script_declarations.specs.SchemaFiles.{DeclaresLines}
 use Rattle.script_declarations.specs.SchemaText.{HasNames, beginning_with, schema_text}
 use Rattle.guards.specs.Schema.{Declarations, IsSchema, nothing}
-use Rattle.inspect.specs.Written.{AppendsPart}
+use Rattle.inspect.specs.Inspection.{WritesOfImage}
+use Rattle.inspect.specs.Written.{AppendsPart, WritesOr}
 use Rattle.recover.specs.Reading.{RefusesImage}
 use Rattle.recover.specs.Study.{IsStudyOf}
-use Rattle.recover_heap.specs.declared.error.RecoverError.TheVariants.{NoMemory}
+use Rattle.recover_heap.specs.declared.error.RecoverError.TheVariants.{Fault, NoMemory}
 use Rattle.recover.specs.declared.studied.Study.{Study}
 use Rattle.script_lines.specs.Lines.{lines_of}
 use Rattle.image_schema.specs.OfImage.{FitsImage, named_as}
@@ -63,6 +65,17 @@ abbrev pub RefusesDump : Option Declarations → List ℕ → (old new : Option 
 RefusesDump given image old new (dump_error.Study why) = RefusesImage image why × Appends old new []
 RefusesDump given image old new dump_error.OtherSchema = IsOther given image × Appends old new []
 RefusesDump given image old new dump_error.Write = DumpsPart given image old new
+
+-- what each answer says of a study whose schema file was to be written
+abbrev pub DumpedStudy : {W T : Type 0} → Option Declarations → Study → (contents : W → Option (List ℕ)) (old new : W)
+    → Result T DumpError → Type 0
+DumpedStudy given s contents old new result = WritesOr (DumpsStudy given s) (RefusesStudy given s) contents old new result
+
+-- what each answer says of a device's image whose schema file was to be written
+abbrev pub Dumped : {M W T : Type 0} → Option Declarations → (device : M → Device) (before after : M)
+    (contents : W → Option (List ℕ)) (old new : W) → Result T DumpError → Type 0
+Dumped given device before after contents old new result =
+    WritesOfImage (Dumps given) (RefusesDump given) (dump_error.Study Fault) device before after contents old new result
 
 -- the schema that was given is one of a file
 abbrev pub IsOfFile : Option Declarations → Type 0

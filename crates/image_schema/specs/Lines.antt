@@ -1,7 +1,8 @@
--- The lines of a schema file, by number.
+-- A schema file: its lines, by number, and its parts.
 use Rattle.std.specs.Prelude.{ℕ, List, [], slice_index_or}
 use Rattle.guards.specs.Schema.{Declarations, Field, guard_of, is_transient_of, names_of, owner_of}
-use Rattle.script_declarations.specs.SchemaText.{ended, field_line, name_of, object_line}
+use Rattle.std.specs.List.{flat_map}
+use Rattle.script_declarations.specs.SchemaText.{beginning_with, begun_with, ended, field_line, field_lines, name_of, object_line, object_lines, schema_text}
 
 -- the line of the object of this number
 abbrev pub object_at : Declarations → ℕ → List ℕ
@@ -16,3 +17,15 @@ field_at schema field value = ended (field_line schema.objects (record {
   first = value;
   is_transient = is_transient_of schema field;
 }))
+
+-- the lines of all objects
+abbrev pub objects_of_file : Declarations → List ℕ
+objects_of_file schema = flat_map ended (object_lines schema.objects)
+
+-- the lines of all fields, which begin with these values
+abbrev pub fields_of_file : Declarations → (values : List ℕ) → List ℕ
+fields_of_file schema values = flat_map ended (field_lines schema.objects (begun_with values 0 schema.fields))
+
+-- the schema file of a schema whose fields begin with these values
+abbrev pub file_of : Declarations → (values : List ℕ) → List ℕ
+file_of schema values = schema_text (beginning_with values schema)

@@ -31,12 +31,20 @@ pub record FitsImage (schema : Declarations) (layout : Layout) (rows : List Guar
   pub fields : layout.fields ≡ field_count schema
   pub rows_are : AreRowsOf schema rows
 
+-- it is the schema of an image that was studied
+abbrev pub FitsStudy : Declarations → Study → Type 0
+FitsStudy schema s = FitsImage schema s.layout s.guards.items
+
 -- it is the study of some image
 pub record IsStudied (s : Study) : Type 0 where
   pub image : List ℕ
   pub of : IsStudyOf image s
 
+-- the schema of numbers alone
+abbrev pub numbers_of : Study → Declarations
+numbers_of s = numbered s.layout.objects s.guards.items
+
 -- the schema that was given, or else that of numbers alone
 abbrev pub named_as : Option Declarations → Study → Declarations
 named_as (Some schema) s = schema
-named_as None s = numbered s.layout.objects s.guards.items
+named_as None s = numbers_of s

@@ -1,10 +1,7 @@
 //! The sections of an image as a graph, by the names of a schema file.
-ghost use Rattle.std.specs.Prelude.{◌≡◌, ◌↔◌, IfErr, IsTrue, OnOk};
-ghost use Rattle.block_disk.specs.Device.{HasCause, SameMoments};
-ghost use Rattle.image_schema.specs.Drawing.{Draws, DrawsStudy, FitsGiven, RefusesDrawing, RefusesDrawnStudy};
+ghost use Rattle.std.specs.Prelude.{◌↔◌, IsTrue};
+ghost use Rattle.image_schema.specs.Drawing.{Drawn, DrawnStudy, FitsGiven};
 ghost use Rattle.image_schema.specs.OfImage.{IsStudied};
-ghost use Rattle.image_schema.specs.declared.error.DumpError.TheVariants as kinds;
-ghost use Rattle.recover_heap.specs.declared.error.RecoverError.TheVariants.{Fault};
 
 use crate::error::DumpError;
 use crate::fitting::fits;
@@ -31,14 +28,9 @@ pub fn draw_named<D: Disk, W: Write>(
     last: u32,
     writer: &mut W,
 ) -> Result<(), DumpError>
-    // What is drawn of an image is the graph of a study of exactly these bytes, by the names of the image's own schema.
-    ensures ok { OnOk result (Draws given last (D.device disk.old).now.bytes (W.contents writer.old) (W.contents writer.new)) }
-    // Where the image is refused, or the schema is another image's, nothing is written.
-    ensures refused { IfErr result (RefusesDrawing given last (D.device disk.old).now.bytes (W.contents writer.old) (W.contents writer.new)) }
-    // The device is left as it was.
-    ensures same { SameMoments (D.device disk.old) (D.device disk.new) }
-    // A fault is answered only where the device has failed.
-    ensures cause { HasCause (D.device disk.old).failures (D.device disk.new).failures (kinds.Study Fault) result }
+    // What is drawn of an image is the graph of a study of exactly these bytes, by the names of the image's own schema. Where
+    // the image is refused, or the schema is another image's, nothing is written.
+    ensures { Drawn given last D.device disk.old disk.new W.contents writer.old writer.new result }
 {
     match study(alloc, disk) {
         Ok(study) => {
@@ -62,8 +54,7 @@ fn draw_study<W: Write>(
     writer: &mut W,
 ) -> Result<(), DumpError>
     requires { IsStudied study.now }
-    ensures ok { OnOk result (DrawsStudy given last study.now (W.contents writer.old) (W.contents writer.new)) }
-    ensures refused { IfErr result (RefusesDrawnStudy given last study.now (W.contents writer.old) (W.contents writer.new)) }
+    ensures { DrawnStudy given last study.now W.contents writer.old writer.new result }
 {
     if !fits_given(&given, study) {
         drop(given);

@@ -1,10 +1,6 @@
 //! The schema file that the heap of an image makes.
-ghost use Rattle.std.specs.Prelude.{◌≡◌, IfErr, OnOk};
-ghost use Rattle.block_disk.specs.Device.{HasCause, SameMoments};
-ghost use Rattle.image_schema.specs.Dumping.{Dumps, DumpsStudy, RefusesDump, RefusesStudy};
+ghost use Rattle.image_schema.specs.Dumping.{Dumped, DumpedStudy};
 ghost use Rattle.image_schema.specs.OfImage.{IsStudied};
-ghost use Rattle.image_schema.specs.declared.error.DumpError.TheVariants as kinds;
-ghost use Rattle.recover_heap.specs.declared.error.RecoverError.TheVariants.{Fault};
 
 use crate::error::{DumpError, NamingError};
 use crate::naming::schema_of;
@@ -31,14 +27,8 @@ pub fn dump<D: Disk, W: Write>(
     writer: &mut W,
 ) -> Result<(), DumpError>
     // What is written of an image is the file of the image's own schema, with the heap that a study of exactly these
-    // bytes finds.
-    ensures ok { OnOk result (Dumps given (D.device disk.old).now.bytes (W.contents writer.old) (W.contents writer.new)) }
-    // Where the image is refused, or the schema is another image's, nothing is written.
-    ensures refused { IfErr result (RefusesDump given (D.device disk.old).now.bytes (W.contents writer.old) (W.contents writer.new)) }
-    // The device is left as it was.
-    ensures same { SameMoments (D.device disk.old) (D.device disk.new) }
-    // A fault is answered only where the device has failed.
-    ensures cause { HasCause (D.device disk.old).failures (D.device disk.new).failures (kinds.Study Fault) result }
+    // bytes finds. Where the image is refused, or the schema is another image's, nothing is written.
+    ensures { Dumped given D.device disk.old disk.new W.contents writer.old writer.new result }
 {
     match study(alloc, disk) {
         Ok(study) => {
@@ -61,8 +51,7 @@ fn dump_study<W: Write>(
     writer: &mut W,
 ) -> Result<(), DumpError>
     requires { IsStudied study.now }
-    ensures ok { OnOk result (DumpsStudy given study.now (W.contents writer.old) (W.contents writer.new)) }
-    ensures refused { IfErr result (RefusesStudy given study.now (W.contents writer.old) (W.contents writer.new)) }
+    ensures { DumpedStudy given study.now W.contents writer.old writer.new result }
 {
     let schema = match schema_of(alloc, study, given) {
         Ok(schema) => schema,

@@ -1,11 +1,11 @@
 //! Whether a schema is that of an image.
 ghost use Rattle.std.specs.Prelude.{◌≡◌, ◌<◌, ◌↔◌, IsTrue};
 ghost use Rattle.guards.specs.Schema.{field_count};
-ghost use Rattle.image_schema.specs.OfImage.{AreRowsOf, FitsImage, is_row_of, is_same_mark};
+ghost use Rattle.image_schema.specs.OfImage.{AreRowsOf, FitsImage, FitsStudy, is_row_of, is_same_mark};
 
 use guards::Schema;
 use heap_model::FieldId;
-use image::GuardRow;
+use image::{GuardRow, Layout};
 use recover::Study;
 
 /// Whether the image has the schema's objects and fields, and each field the schema's owner and guard, and is transient where
@@ -13,12 +13,20 @@ use recover::Study;
 pub fn fits(schema: &Schema, study: &Study) -> bool
     // A schema is an image's exactly where the image has its objects and fields, each field with the same owner, guard
     // and kind.
-    ensures { IsTrue result ↔ FitsImage schema.now study.now.layout study.now.guards.items }
+    ensures { IsTrue result ↔ FitsStudy schema.now study.now }
 {
-    if study.layout.objects != schema.objects() || study.layout.fields != schema.fields() {
+    fits_rows(schema, &study.layout, &study.guards)
+}
+
+/// What [`fits`] tells, of an image of which only the layout and the guard rows are known.
+pub fn fits_rows(schema: &Schema, layout: &Layout, rows: &[GuardRow]) -> bool
+    // A schema is an image's by its layout and its guard rows alone.
+    ensures { IsTrue result ↔ FitsImage schema.now layout.now rows.now }
+{
+    if layout.objects != schema.objects() || layout.fields != schema.fields() {
         return false;
     }
-    are_rows_of(schema, &study.guards)
+    are_rows_of(schema, rows)
 }
 
 // Whether each field of the schema has its row.

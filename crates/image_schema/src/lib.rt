@@ -16,7 +16,7 @@ mod writing;
 pub use drawing::draw_named;
 pub use dumping::dump;
 pub use error::{DumpError, NamingError};
-pub use fitting::fits;
+pub use fitting::{fits, fits_rows};
 pub use laws::dump_law;
 pub use naming::schema_of;
 pub use writing::write_schema;

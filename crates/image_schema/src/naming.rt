@@ -1,8 +1,7 @@
 //! The schema of an image, by the names that are given.
 ghost use Rattle.std.specs.Prelude.{◌≡◌, ◌↔◌, IfOk, IsErrOf};
-ghost use Rattle.image_schema.specs.OfImage.{FitsImage, IsStudied, named_as};
+ghost use Rattle.image_schema.specs.OfImage.{FitsStudy, IsStudied, named_as, numbers_of};
 ghost use Rattle.image_schema.specs.declared.error.NamingError.TheVariants.{OtherSchema};
-ghost use Rattle.image_parts.specs.NumberedRows.{numbered};
 
 use crate::error::NamingError;
 use crate::fitting::fits;
@@ -18,9 +17,9 @@ pub fn schema_of(alloc: Global, study: &Study, given: Option<Schema>) -> Result<
     // The schema of an image is the one that is given, or the one of numbers where none is given.
     ensures ok { IfOk result (λ schema. schema ≡ named_as given study.now) }
     // A schema that is answered is the image's.
-    ensures fits { IfOk result (λ schema. FitsImage schema study.now.layout study.now.guards.items) }
+    ensures fits { IfOk result (λ schema. FitsStudy schema study.now) }
     // A schema is refused as another's exactly where it isn't the image's.
-    ensures other { IsErrOf result OtherSchema ↔ (FitsImage (named_as given study.now) study.now.layout study.now.guards.items → ⊥) }
+    ensures other { IsErrOf result OtherSchema ↔ (FitsStudy (named_as given study.now) study.now → ⊥) }
 {
     let Some(schema) = given else {
         return match numbered_of(alloc, study) {
@@ -37,7 +36,7 @@ pub fn schema_of(alloc: Global, study: &Study, given: Option<Schema>) -> Result<
 
 // The schema of the image's rows. They make one, so there is no other refusal than want of memory.
 fn numbered_of(alloc: Global, study: &Study) -> Result<Schema, AllocError>
-    ensures { IfOk result (λ schema. schema ≡ numbered study.now.layout.objects study.now.guards.items) }
+    ensures { IfOk result (λ schema. schema ≡ numbers_of study.now) }
 {
     match declare(alloc, study.layout.objects, &study.guards) {
         Ok(schema) => Ok(schema),

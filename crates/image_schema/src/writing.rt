@@ -1,11 +1,8 @@
 //! Writing the schema file of a schema (docs/SCRIPTS.md, "Lines").
-ghost use Rattle.std.specs.Prelude.{◌≡◌, ◌<◌, length, slice_index, slice_index_or, OnOk, OnErr};
-ghost use Rattle.std.specs.Io.KnownBytes.{Appends};
-ghost use Rattle.std.specs.List.{flat_map};
-ghost use Rattle.script_declarations.specs.SchemaText.{beginning_with, begun_with, ended, object_line, field_line, object_lines, field_lines, schema_text};
+ghost use Rattle.std.specs.Prelude.{◌≡◌, ◌<◌, length};
 ghost use Rattle.guards.specs.Schema.{field_count, object_count};
-ghost use Rattle.image_schema.specs.Lines.{object_at, field_at};
-ghost use Rattle.inspect.specs.Written.{AppendsPart};
+ghost use Rattle.image_schema.specs.Lines.{file_of, objects_of_file, fields_of_file, object_at, field_at};
+ghost use Rattle.inspect.specs.Written.{Writes};
 ghost use Rattle.script_lines.specs.Grammar as grammar;
 
 use guards::Schema;
@@ -21,18 +18,15 @@ pub fn write_schema<W: Write>(
     writer: &mut W,
 ) -> Result<(), WriteError>
     requires { length values.now ≡ field_count schema.now }
-    // The schema file of the schema is written, with these first values.
-    ensures ok { OnOk result (Appends (W.contents writer.old) (W.contents writer.new) (schema_text (beginning_with values.now schema.now))) }
-    // After an error a beginning of the schema file is written.
-    ensures part { OnErr result (AppendsPart (W.contents writer.old) (W.contents writer.new) (schema_text (beginning_with values.now schema.now))) }
+    // The schema file of the schema is written, with these first values; after a fault of the writer a beginning of it.
+    ensures { Writes W.contents writer.old writer.new (file_of schema.now values.now) result }
 {
     put_objects(schema, writer)?;
     put_fields(schema, values, writer)
 }
 
 fn put_objects<W: Write>(schema: &Schema, writer: &mut W) -> Result<(), WriteError>
-    ensures ok { OnOk result (Appends (W.contents writer.old) (W.contents writer.new) (flat_map ended (object_lines schema.now.objects))) }
-    ensures part { OnErr result (AppendsPart (W.contents writer.old) (W.contents writer.new) (flat_map ended (object_lines schema.now.objects))) }
+    ensures { Writes W.contents writer.old writer.new (objects_of_file schema.now) result }
 {
     for object in 0..schema.objects() {
         put_object(schema, ObjectId(object), writer)?;
@@ -42,8 +36,7 @@ fn put_objects<W: Write>(schema: &Schema, writer: &mut W) -> Result<(), WriteErr
 
 fn put_object<W: Write>(schema: &Schema, object: ObjectId, writer: &mut W) -> Result<(), WriteError>
     requires { object.0 < object_count schema.now }
-    ensures ok { OnOk result (Appends (W.contents writer.old) (W.contents writer.new) (object_at schema.now object.0)) }
-    ensures part { OnErr result (AppendsPart (W.contents writer.old) (W.contents writer.new) (object_at schema.now object.0)) }
+    ensures { Writes W.contents writer.old writer.new (object_at schema.now object.0) result }
 {
     put_line(
         writer,
@@ -56,8 +49,7 @@ fn put_object<W: Write>(schema: &Schema, object: ObjectId, writer: &mut W) -> Re
 
 fn put_fields<W: Write>(schema: &Schema, values: &[u64], writer: &mut W) -> Result<(), WriteError>
     requires { length values.now ≡ field_count schema.now }
-    ensures ok { OnOk result (Appends (W.contents writer.old) (W.contents writer.new) (flat_map ended (field_lines schema.now.objects (begun_with values.now 0 schema.now.fields)))) }
-    ensures part { OnErr result (AppendsPart (W.contents writer.old) (W.contents writer.new) (flat_map ended (field_lines schema.now.objects (begun_with values.now 0 schema.now.fields)))) }
+    ensures { Writes W.contents writer.old writer.new (fields_of_file schema.now values.now) result }
 {
     for field in 0..schema.fields() {
         put_field(schema, FieldId(field), values[field as usize], writer)?;
@@ -72,8 +64,7 @@ fn put_field<W: Write>(
     writer: &mut W,
 ) -> Result<(), WriteError>
     requires { field.0 < field_count schema.now }
-    ensures ok { OnOk result (Appends (W.contents writer.old) (W.contents writer.new) (field_at schema.now field.0 value)) }
-    ensures part { OnErr result (AppendsPart (W.contents writer.old) (W.contents writer.new) (field_at schema.now field.0 value)) }
+    ensures { Writes W.contents writer.old writer.new (field_at schema.now field.0 value) result }
 {
     put_line(
         writer,

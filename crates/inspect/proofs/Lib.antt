@@ -1,4 +1,5 @@
 pub mod PartLemmas
+pub mod WritesLemmas
 pub mod ToldLemmas
 pub mod LaneLemmas
 pub mod ReleaseLemmas

@@ -1,4 +1,4 @@
--- Texts that are written one behind the other: what a fault leaves is a beginning of the whole.
+-- Texts that are written one after the other: what a fault leaves is a beginning of the whole.
 use Rattle.std.proofs.Common.{Result, Ok, Err, OnErr, ℕ, suc, ◌≡◌, ◌+◌, ◌<◌, Option, List, [], ◌∷◌, ◌++◌, length, get_or, take, drop, sym, ap, ◌∙◌, subst, arith, length-append, take-append-drop, append-nil}
 use Rattle.std.specs.List.{flat_map, concat}
 use Rattle.std.specs.Io.KnownBytes.{Appends}

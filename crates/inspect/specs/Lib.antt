@@ -10,4 +10,5 @@ pub mod Drawn
 pub mod GraphText
 pub mod StudyText
 pub mod WholeGraph
+pub mod Pictured
 pub mod Inspection

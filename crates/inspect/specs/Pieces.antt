@@ -6,15 +6,15 @@ use Rattle.heap_model.specs.declared.ids.Lane.{Lane}
 use Rattle.inspect.specs.declared.pieces.Piece.{Piece}
 use Rattle.inspect.specs.declared.pieces.Piece.TheVariants.{Words, Number}
 
--- these parts, one behind the other, and the line's end
+-- these parts, one after the other, and the line's end
 abbrev pub line : List (List ℕ) → List ℕ
 line parts = concat parts ++ codes "\n"
 
--- the numbers, each behind a space
+-- the numbers, each after a space
 abbrev pub numbers_text : List ℕ → List ℕ
 numbers_text numbers = flat_map (λ number. concat (codes " " ∷ decimal number ∷ [])) numbers
 
--- a word and numbers, each behind a space
+-- a word and numbers, each after a space
 abbrev pub list_line : (word numbers : List ℕ) → List ℕ
 list_line word numbers = word ++ numbers_text numbers ++ codes "\n"
 

@@ -1,11 +1,11 @@
 //! The sections of a study as a graph, in Graphviz's DOT language.
-ghost use Rattle.std.specs.Prelude.{◌≡◌, ◌<◌, [], OnOk, OnErr, IfErr, length, option_map};
-ghost use Rattle.std.specs.Io.KnownBytes.{Appends};
-ghost use Rattle.inspect.specs.Written.{AppendsPart};
+ghost use Rattle.std.specs.Prelude.{◌≡◌, ◌<◌, IfErr, length};
+ghost use Rattle.inspect.specs.Written.{Shows, Writes};
 ghost use Rattle.recover.specs.Fits.{FitsNumbers};
 ghost use Rattle.inspect.specs.Links.{Tells, releases_of};
 ghost use Rattle.inspect.specs.Sections.{numbering_of};
-ghost use Rattle.inspect.specs.WholeGraph.{picture_text, graph_of, graph_head, columns_text, column_text, column_head, whole_head, cut_head, column_edge, left_out_of};
+ghost use Rattle.inspect.specs.WholeGraph.{picture_text, graph_head, column_head, whole_head, cut_head, column_edge, left_out_of};
+ghost use Rattle.inspect.specs.Pictured.{drawn_graph, drawn_columns, drawn_column, names_of};
 ghost use Rattle.inspect.specs.declared.error.ShowError.TheVariants as kinds;
 
 use crate::error::{ShowError, WriteError};
@@ -22,14 +22,15 @@ use recover::Study;
 use std::alloc::Global;
 use std::io::Write;
 
-/// Writes live sections of a study and their dependences as a graph in Graphviz's DOT language, which `dot` draws, with a legend: a
-/// column for each lane, by number, with its thread as heading; in it a node for each section, from the top, filled where the
-/// section is acknowledged, with the reason and a colour where it is dropped, and a dotted arrow to the lane's section before it;
-/// then an arrow for each dependence on a section of another lane, with the object that was taken, by the name that this
-/// schema has for it. Arrows go from a section to what it depends on.
+/// Writes live sections of a study and their dependences as a graph in Graphviz's DOT language, which `dot` draws, with a legend.
 ///
-/// Of each lane the section that it is in is drawn, and the last so many that have ended. The lane's heading says how many before
-/// them are left out.
+/// - Each lane is a column, by number, with its thread as heading. The heading says how many of the lane's sections are left out.
+/// - A node in it stands for each section that is drawn, from the top. It is filled where the section is acknowledged, and has the
+///   reason and a colour where the section is dropped. A dotted arrow leads to the lane's section before it.
+/// - An arrow stands for each dependence on a section of another lane. It has the object that was taken, by the name that this
+///   schema has for it, and goes from a section to what it depends on.
+///
+/// The section that a lane is in is drawn, and the last so many of the lane that have ended.
 ///
 /// `NoMemory` comes first, where there are live releases and no room for their table: nothing is written then. After
 /// `Write` a beginning of the text is written.
@@ -43,13 +44,9 @@ pub fn write_graph<W: Write>(
     requires { FitsNumbers study.now }
     // A graph has of each lane the open section and the last so many that have ended, and says how many before these it
     // leaves out. Each dropped section has its reason, and each dependence between drawn sections an arrow.
-    ensures ok { OnOk result (Appends (W.contents writer.old) (W.contents writer.new) (picture_text (option_map (λ x. x.now) names.entry) last study.now)) }
-    // Where memory runs out nothing is written.
-    ensures no_memory { IfErr result (λ e. e ≡ kinds.NoMemory → Appends (W.contents writer.old) (W.contents writer.new) []) }
+    ensures text { Shows W.contents writer.old writer.new (picture_text (names_of names.entry) last study.now) result }
     // Memory is wanted only where there are live releases to note.
     ensures needed { IfErr result (λ e. e ≡ kinds.NoMemory → 0 < length (releases_of study.now)) }
-    // After a fault of the writer a beginning of the text is written, and not all.
-    ensures part { IfErr result (λ e. e ≡ kinds.Write → AppendsPart (W.contents writer.old) (W.contents writer.new) (picture_text (option_map (λ x. x.now) names.entry) last study.now)) }
 {
     let Ok(releases) = releases_in(alloc, study) else {
         return Err(ShowError::NoMemory);
@@ -69,8 +66,7 @@ fn put_picture<W: Write>(
 ) -> Result<(), WriteError>
     requires numbers { FitsNumbers study.now }
     requires releases { Tells releases.now (releases_of study.now) }
-    ensures ok { OnOk result (Appends (W.contents writer.old) (W.contents writer.new) (picture_text (option_map (λ x. x.now) names.entry) last study.now)) }
-    ensures part { OnErr result (AppendsPart (W.contents writer.old) (W.contents writer.new) (picture_text (option_map (λ x. x.now) names.entry) last study.now)) }
+    ensures { Writes W.contents writer.old writer.new (picture_text (names_of names.entry) last study.now) result }
 {
     let firsts = bounds(study, last);
     let picture = Picture {
@@ -89,8 +85,7 @@ fn put_graph<W: Write>(
 ) -> Result<(), WriteError>
     requires numbers { FitsNumbers study.now }
     requires releases { Tells releases.now (releases_of study.now) }
-    ensures ok { OnOk result (Appends (W.contents writer.old) (W.contents writer.new) (graph_of (option_map (λ x. x.now) picture.entry.names) picture.entry.firsts.now picture.entry.dropped.now study.now)) }
-    ensures part { OnErr result (AppendsPart (W.contents writer.old) (W.contents writer.new) (graph_of (option_map (λ x. x.now) picture.entry.names) picture.entry.firsts.now picture.entry.dropped.now study.now)) }
+    ensures { Writes W.contents writer.old writer.new (drawn_graph picture.entry study.now) result }
 {
     put_head(writer)?;
     put_columns(writer, picture, study)?;
@@ -100,8 +95,7 @@ fn put_graph<W: Write>(
 
 // Writes the beginning of the graph, with the legend.
 fn put_head<W: Write>(writer: &mut W) -> Result<(), WriteError>
-    ensures ok { OnOk result (Appends (W.contents writer.old) (W.contents writer.new) graph_head) }
-    ensures part { OnErr result (AppendsPart (W.contents writer.old) (W.contents writer.new) graph_head) }
+    ensures { Writes W.contents writer.old writer.new graph_head result }
 {
     put_line(
         writer,
@@ -125,8 +119,7 @@ fn put_columns<W: Write>(
     study: &Study,
 ) -> Result<(), WriteError>
     requires { FitsNumbers study.now }
-    ensures ok { OnOk result (Appends (W.contents writer.old) (W.contents writer.new) (columns_text picture.entry.firsts.now picture.entry.dropped.now study.now)) }
-    ensures part { OnErr result (AppendsPart (W.contents writer.old) (W.contents writer.new) (columns_text picture.entry.firsts.now picture.entry.dropped.now study.now)) }
+    ensures { Writes W.contents writer.old writer.new (drawn_columns picture.entry study.now) result }
 {
     for lane in 0..study.layout.lanes {
         put_column(writer, picture, study, Lane(lane))?;
@@ -142,8 +135,7 @@ fn put_column<W: Write>(
 ) -> Result<(), WriteError>
     requires lane { lane.0 < study.now.layout.lanes }
     requires numbers { FitsNumbers study.now }
-    ensures ok { OnOk result (Appends (W.contents writer.old) (W.contents writer.new) (column_text picture.entry.firsts.now picture.entry.dropped.now study.now lane.0)) }
-    ensures part { OnErr result (AppendsPart (W.contents writer.old) (W.contents writer.new) (column_text picture.entry.firsts.now picture.entry.dropped.now study.now lane.0)) }
+    ensures { Writes W.contents writer.old writer.new (drawn_column picture.entry study.now lane.0) result }
 {
     put_column_head(writer, lane, left_out(picture.firsts, study, lane))?;
     put_lane_sections(writer, Form::Graph(picture), study, lane)?;
@@ -161,8 +153,7 @@ fn left_out(firsts: &[u64], study: &Study, lane: Lane) -> u64
 }
 
 fn put_column_head<W: Write>(writer: &mut W, lane: Lane, left_out: u64) -> Result<(), WriteError>
-    ensures ok { OnOk result (Appends (W.contents writer.old) (W.contents writer.new) (column_head lane.0 left_out)) }
-    ensures part { OnErr result (AppendsPart (W.contents writer.old) (W.contents writer.new) (column_head lane.0 left_out)) }
+    ensures { Writes W.contents writer.old writer.new (column_head lane.0 left_out) result }
 {
     if left_out == 0 {
         put_whole_head(writer, lane)
@@ -172,8 +163,7 @@ fn put_column_head<W: Write>(writer: &mut W, lane: Lane, left_out: u64) -> Resul
 }
 
 fn put_whole_head<W: Write>(writer: &mut W, lane: Lane) -> Result<(), WriteError>
-    ensures ok { OnOk result (Appends (W.contents writer.old) (W.contents writer.new) (whole_head lane.0)) }
-    ensures part { OnErr result (AppendsPart (W.contents writer.old) (W.contents writer.new) (whole_head lane.0)) }
+    ensures { Writes W.contents writer.old writer.new (whole_head lane.0) result }
 {
     let thread = thread_number(lane);
     put_line(
@@ -189,8 +179,7 @@ fn put_whole_head<W: Write>(writer: &mut W, lane: Lane) -> Result<(), WriteError
 }
 
 fn put_cut_head<W: Write>(writer: &mut W, lane: Lane, left_out: u64) -> Result<(), WriteError>
-    ensures ok { OnOk result (Appends (W.contents writer.old) (W.contents writer.new) (cut_head lane.0 left_out)) }
-    ensures part { OnErr result (AppendsPart (W.contents writer.old) (W.contents writer.new) (cut_head lane.0 left_out)) }
+    ensures { Writes W.contents writer.old writer.new (cut_head lane.0 left_out) result }
 {
     let thread = thread_number(lane);
     put_line(
@@ -211,8 +200,7 @@ fn put_cut_head<W: Write>(writer: &mut W, lane: Lane, left_out: u64) -> Result<(
 
 // The columns stand in the order of the lanes.
 fn put_column_edge<W: Write>(writer: &mut W, lane: Lane) -> Result<(), WriteError>
-    ensures ok { OnOk result (Appends (W.contents writer.old) (W.contents writer.new) (column_edge lane.0)) }
-    ensures part { OnErr result (AppendsPart (W.contents writer.old) (W.contents writer.new) (column_edge lane.0)) }
+    ensures { Writes W.contents writer.old writer.new (column_edge lane.0) result }
 {
     if lane.0 == 0 {
         return Ok(());

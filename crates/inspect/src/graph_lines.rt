@@ -1,8 +1,8 @@
 //! The nodes and edges of a graph of sections, in Graphviz's DOT language.
-ghost use Rattle.std.specs.Prelude.{◌≡◌, ◌<◌, ◌≤◌, ◌↔◌, IsTrue, OnOk, OnErr, option_map};
-ghost use Rattle.std.specs.Io.KnownBytes.{Appends};
-ghost use Rattle.inspect.specs.Written.{AppendsPart};
-ghost use Rattle.inspect.specs.GraphText.{node_text, whole_node, node_line, node_front, node_end, plain_end, order_edge, heading_edge, before_edge, link_edge, whole_edge, edge_front, edge_end, object_text, name_in};
+ghost use Rattle.std.specs.Prelude.{◌≡◌, ◌<◌, ◌≤◌, ◌↔◌, IsTrue, option_map};
+ghost use Rattle.inspect.specs.Written.{Writes};
+ghost use Rattle.inspect.specs.Pictured.{drawn_node, drawn_edge, node_by, names_of};
+ghost use Rattle.inspect.specs.GraphText.{node_line, node_front, node_end, plain_end, order_edge, heading_edge, before_edge, whole_edge, edge_front, edge_end, object_text, name_in};
 
 use crate::error::WriteError;
 use crate::numbering::Numbering;
@@ -24,8 +24,7 @@ pub(crate) fn put_node<W: Write>(
     numbering: Numbering,
     section: Section,
 ) -> Result<(), WriteError>
-    ensures ok { OnOk result (Appends (W.contents writer.old) (W.contents writer.new) (node_text picture.entry.firsts.now picture.entry.dropped.now numbering section)) }
-    ensures part { OnErr result (AppendsPart (W.contents writer.old) (W.contents writer.new) (node_text picture.entry.firsts.now picture.entry.dropped.now numbering section)) }
+    ensures { Writes W.contents writer.old writer.new (drawn_node picture.entry numbering section) result }
 {
     if is_drawn(picture.firsts, section.id) {
         put_whole_node(writer, picture, numbering, section)
@@ -40,8 +39,7 @@ fn put_whole_node<W: Write>(
     numbering: Numbering,
     section: Section,
 ) -> Result<(), WriteError>
-    ensures ok { OnOk result (Appends (W.contents writer.old) (W.contents writer.new) (whole_node picture.entry.firsts.now picture.entry.dropped.now numbering section)) }
-    ensures part { OnErr result (AppendsPart (W.contents writer.old) (W.contents writer.new) (whole_node picture.entry.firsts.now picture.entry.dropped.now numbering section)) }
+    ensures { Writes W.contents writer.old writer.new (node_by picture.entry numbering section) result }
 {
     let why = reason_of(picture.dropped, section.id);
     put_node_line(writer, numbering, why, section)?;
@@ -54,16 +52,14 @@ fn put_node_line<W: Write>(
     why: Option<Why>,
     section: Section,
 ) -> Result<(), WriteError>
-    ensures ok { OnOk result (Appends (W.contents writer.old) (W.contents writer.new) (node_line numbering why section)) }
-    ensures part { OnErr result (AppendsPart (W.contents writer.old) (W.contents writer.new) (node_line numbering why section)) }
+    ensures { Writes W.contents writer.old writer.new (node_line numbering why section) result }
 {
     put_node_front(writer, section)?;
     put_node_end(writer, why, section.id.number <= numbering.kept)
 }
 
 fn put_node_front<W: Write>(writer: &mut W, section: Section) -> Result<(), WriteError>
-    ensures ok { OnOk result (Appends (W.contents writer.old) (W.contents writer.new) (node_front section)) }
-    ensures part { OnErr result (AppendsPart (W.contents writer.old) (W.contents writer.new) (node_front section)) }
+    ensures { Writes W.contents writer.old writer.new (node_front section) result }
 {
     let thread = thread_number(section.id.lane);
     put_pieces(
@@ -88,8 +84,7 @@ fn put_node_front<W: Write>(writer: &mut W, section: Section) -> Result<(), Writ
 
 // Ends a node by why its section is dropped, or else by whether it is acknowledged.
 fn put_node_end<W: Write>(writer: &mut W, why: Option<Why>, is_kept: bool) -> Result<(), WriteError>
-    ensures ok { OnOk result (Appends (W.contents writer.old) (W.contents writer.new) (node_end why is_kept)) }
-    ensures part { OnErr result (AppendsPart (W.contents writer.old) (W.contents writer.new) (node_end why is_kept)) }
+    ensures { Writes W.contents writer.old writer.new (node_end why is_kept) result }
 {
     match why {
         Some(why) => put_reason(writer, why),
@@ -110,8 +105,7 @@ fn put_order_edge<W: Write>(
     firsts: &[u64],
     section: Section,
 ) -> Result<(), WriteError>
-    ensures ok { OnOk result (Appends (W.contents writer.old) (W.contents writer.new) (order_edge firsts.now section)) }
-    ensures part { OnErr result (AppendsPart (W.contents writer.old) (W.contents writer.new) (order_edge firsts.now section)) }
+    ensures { Writes W.contents writer.old writer.new (order_edge firsts.now section) result }
 {
     if section.id.number <= first_drawn(firsts, section.id.lane) {
         put_heading_edge(writer, section)
@@ -121,8 +115,7 @@ fn put_order_edge<W: Write>(
 }
 
 fn put_heading_edge<W: Write>(writer: &mut W, section: Section) -> Result<(), WriteError>
-    ensures ok { OnOk result (Appends (W.contents writer.old) (W.contents writer.new) (heading_edge section)) }
-    ensures part { OnErr result (AppendsPart (W.contents writer.old) (W.contents writer.new) (heading_edge section)) }
+    ensures { Writes W.contents writer.old writer.new (heading_edge section) result }
 {
     let thread = thread_number(section.id.lane);
     put_line(
@@ -141,8 +134,7 @@ fn put_heading_edge<W: Write>(writer: &mut W, section: Section) -> Result<(), Wr
 
 fn put_before_edge<W: Write>(writer: &mut W, section: Section) -> Result<(), WriteError>
     requires { 0 < section.id.number }
-    ensures ok { OnOk result (Appends (W.contents writer.old) (W.contents writer.new) (before_edge section)) }
-    ensures part { OnErr result (AppendsPart (W.contents writer.old) (W.contents writer.new) (before_edge section)) }
+    ensures { Writes W.contents writer.old writer.new (before_edge section) result }
 {
     let thread = thread_number(section.id.lane);
     put_line(
@@ -167,8 +159,7 @@ pub(crate) fn put_edge<W: Write>(
     picture: Picture<'_>,
     link: Link,
 ) -> Result<(), WriteError>
-    ensures ok { OnOk result (Appends (W.contents writer.old) (W.contents writer.new) (link_edge (option_map (λ x. x.now) picture.entry.names) picture.entry.firsts.now link)) }
-    ensures part { OnErr result (AppendsPart (W.contents writer.old) (W.contents writer.new) (link_edge (option_map (λ x. x.now) picture.entry.names) picture.entry.firsts.now link)) }
+    ensures { Writes W.contents writer.old writer.new (drawn_edge picture.entry link) result }
 {
     if is_drawn(picture.firsts, link.taker) && is_drawn(picture.firsts, link.releaser) {
         put_whole_edge(writer, picture.names, link)
@@ -182,8 +173,7 @@ fn put_whole_edge<W: Write>(
     names: Option<&Schema>,
     link: Link,
 ) -> Result<(), WriteError>
-    ensures ok { OnOk result (Appends (W.contents writer.old) (W.contents writer.new) (whole_edge (option_map (λ x. x.now) names.entry) link)) }
-    ensures part { OnErr result (AppendsPart (W.contents writer.old) (W.contents writer.new) (whole_edge (option_map (λ x. x.now) names.entry) link)) }
+    ensures { Writes W.contents writer.old writer.new (whole_edge (names_of names.entry) link) result }
 {
     put_edge_front(writer, link)?;
     put_object(writer, names, link.object)?;
@@ -191,8 +181,7 @@ fn put_whole_edge<W: Write>(
 }
 
 fn put_edge_front<W: Write>(writer: &mut W, link: Link) -> Result<(), WriteError>
-    ensures ok { OnOk result (Appends (W.contents writer.old) (W.contents writer.new) (edge_front link)) }
-    ensures part { OnErr result (AppendsPart (W.contents writer.old) (W.contents writer.new) (edge_front link)) }
+    ensures { Writes W.contents writer.old writer.new (edge_front link) result }
 {
     let taker = thread_number(link.taker.lane);
     let releaser = thread_number(link.releaser.lane);
@@ -218,8 +207,7 @@ fn put_object<W: Write>(
     names: Option<&Schema>,
     object: ObjectId,
 ) -> Result<(), WriteError>
-    ensures ok { OnOk result (Appends (W.contents writer.old) (W.contents writer.new) (object_text (option_map (λ x. x.now) names.entry) object.0)) }
-    ensures part { OnErr result (AppendsPart (W.contents writer.old) (W.contents writer.new) (object_text (option_map (λ x. x.now) names.entry) object.0)) }
+    ensures { Writes W.contents writer.old writer.new (object_text (names_of names.entry) object.0) result }
 {
     match name_of(names, object) {
         Some(name) => put_pieces(writer, &[Piece::Words(name)]),
@@ -232,7 +220,7 @@ fn put_object<W: Write>(
 
 // The name that the schema has for the object, where there is a schema, and it has the object.
 fn name_of<'a>(names: Option<&'a Schema>, object: ObjectId) -> Option<&'a str>
-    ensures { option_map (λ x. x.now) result ≡ name_in (option_map (λ x. x.now) names.entry) object.0 }
+    ensures { option_map (λ x. x.now) result ≡ name_in (names_of names.entry) object.0 }
 {
     let schema = names?;
     if object.0 < schema.objects() {
@@ -243,8 +231,7 @@ fn name_of<'a>(names: Option<&'a Schema>, object: ObjectId) -> Option<&'a str>
 }
 
 fn put_edge_end<W: Write>(writer: &mut W, link: Link) -> Result<(), WriteError>
-    ensures ok { OnOk result (Appends (W.contents writer.old) (W.contents writer.new) (edge_end link)) }
-    ensures part { OnErr result (AppendsPart (W.contents writer.old) (W.contents writer.new) (edge_end link)) }
+    ensures { Writes W.contents writer.old writer.new (edge_end link) result }
 {
     put_line(
         writer,

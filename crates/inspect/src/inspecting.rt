@@ -1,14 +1,9 @@
 //! Inspecting an image: its study, line by line or as a graph.
-ghost use Rattle.std.specs.Prelude.{◌≡◌, [], OnOk, IfErr};
-ghost use Rattle.block_disk.specs.Device.{HasCause, SameMoments};
-ghost use Rattle.inspect.specs.Inspection.{Inspects, IsNotShown, Refuses};
+ghost use Rattle.inspect.specs.Inspection.{ShowsImage, ShowsStudy};
 ghost use Rattle.recover.specs.Fits.{FitsNumbers};
 ghost use Rattle.inspect.specs.StudyText.{study_text};
 ghost use Rattle.inspect.specs.WholeGraph.{graph_text};
 ghost use Rattle.image_parts.specs.Layout.{IsLayout};
-ghost use Rattle.std.specs.Io.KnownBytes.{Appends};
-ghost use Rattle.inspect.specs.declared.error.InspectError.TheVariants as kinds;
-ghost use Rattle.recover_heap.specs.declared.error.RecoverError.TheVariants.{Fault};
 
 use crate::error::{InspectError, ShowError};
 use crate::graph::write_graph;
@@ -28,14 +23,8 @@ pub fn inspect<D: Disk, W: Write>(
     disk: &mut D,
     writer: &mut W,
 ) -> Result<(), InspectError>
-    // What is written of an image are the lines of its study.
-    ensures ok { OnOk result (Inspects study_text (D.device disk.old).now.bytes (W.contents writer.old) (W.contents writer.new)) }
-    // Where the image is refused nothing is written, and the refusal is the study's.
-    ensures refused { IfErr result (Refuses study_text (D.device disk.old).now.bytes (W.contents writer.old) (W.contents writer.new)) }
-    // The device is left as it was.
-    ensures same { SameMoments (D.device disk.old) (D.device disk.new) }
-    // A fault is answered only where the device has failed.
-    ensures cause { HasCause (D.device disk.old).failures (D.device disk.new).failures (kinds.Study Fault) result }
+    // What is written of an image are the lines of its study. Where the image is refused nothing is written.
+    ensures { ShowsImage study_text D.device disk.old disk.new W.contents writer.old writer.new result }
 {
     match study(alloc, disk) {
         Ok(study) => {
@@ -57,14 +46,8 @@ pub fn draw<D: Disk, W: Write>(
     disk: &mut D,
     writer: &mut W,
 ) -> Result<(), InspectError>
-    // What is drawn of an image is its graph.
-    ensures ok { OnOk result (Inspects graph_text (D.device disk.old).now.bytes (W.contents writer.old) (W.contents writer.new)) }
-    // Where the image is refused nothing is written, and the refusal is the study's.
-    ensures refused { IfErr result (Refuses graph_text (D.device disk.old).now.bytes (W.contents writer.old) (W.contents writer.new)) }
-    // The device is left as it was.
-    ensures same { SameMoments (D.device disk.old) (D.device disk.new) }
-    // A fault is answered only where the device has failed.
-    ensures cause { HasCause (D.device disk.old).failures (D.device disk.new).failures (kinds.Study Fault) result }
+    // What is drawn of an image is its graph. Where the image is refused nothing is written.
+    ensures { ShowsImage graph_text D.device disk.old disk.new W.contents writer.old writer.new result }
 {
     match study(alloc, disk) {
         Ok(study) => {
@@ -79,8 +62,7 @@ pub fn draw<D: Disk, W: Write>(
 // Writes the graph of an image's study.
 fn show_graph<W: Write>(alloc: Global, study: &Study, writer: &mut W) -> Result<(), InspectError>
     requires numbers { FitsNumbers study.now }
-    ensures ok { OnOk result (Appends (W.contents writer.old) (W.contents writer.new) (graph_text study.now)) }
-    ensures refused { IfErr result (IsNotShown (W.contents writer.old) (W.contents writer.new) (graph_text study.now)) }
+    ensures { ShowsStudy W.contents writer.old writer.new (graph_text study.now) result }
 {
     match write_graph(alloc, study, None, 50, writer) {
         Ok(()) => Ok(()),
@@ -93,8 +75,7 @@ fn show_graph<W: Write>(alloc: Global, study: &Study, writer: &mut W) -> Result<
 fn show<W: Write>(alloc: Global, study: &Study, writer: &mut W) -> Result<(), InspectError>
     requires limits { IsLayout study.now.layout }
     requires numbers { FitsNumbers study.now }
-    ensures ok { OnOk result (Appends (W.contents writer.old) (W.contents writer.new) (study_text study.now)) }
-    ensures refused { IfErr result (IsNotShown (W.contents writer.old) (W.contents writer.new) (study_text study.now)) }
+    ensures { ShowsStudy W.contents writer.old writer.new (study_text study.now) result }
 {
     match write_study(alloc, study, writer) {
         Ok(()) => Ok(()),

@@ -4,7 +4,7 @@ ghost use Rattle.recover_heap.specs.Logs.{records_of};
 
 use heap_model::{Lane, UndoRecord};
 
-/// The lane's live records, the oldest first. There are none where there is no such lane.
+/// The lane's live records, the oldest first. A lane that isn't there has none.
 pub(crate) fn records_in(logs: &[Vec<UndoRecord>], lane: Lane) -> &[UndoRecord]
     ensures { result.now ≡ records_of logs.now lane.0 }
 {

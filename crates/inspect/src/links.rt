@@ -1,11 +1,8 @@
 //! What sections take from those of other lanes, written one by one.
-ghost use Rattle.std.specs.Prelude.{◌≡◌, ◌+◌, ◌<◌, ◌^◌, OnOk, OnErr, length, reverse};
-ghost use Rattle.std.specs.Io.KnownBytes.{Appends};
-ghost use Rattle.std.specs.List.{flat_map};
-ghost use Rattle.inspect.specs.Written.{AppendsPart};
-ghost use Rattle.inspect.specs.Sections.{told};
-ghost use Rattle.inspect.specs.Links.{finds, linked_by, link_from, one_or_none, taken_in};
-ghost use Rattle.inspect.specs.SectionText.{link_text};
+ghost use Rattle.std.specs.Prelude.{◌≡◌, ◌+◌, ◌<◌, ◌^◌, length, reverse};
+ghost use Rattle.inspect.specs.Written.{Writes};
+ghost use Rattle.inspect.specs.Links.{finds, link_from, one_or_none, taken_in};
+ghost use Rattle.inspect.specs.SectionText.{link_text, taken_text, taking_text};
 
 use crate::error::WriteError;
 use crate::form::Form;
@@ -28,8 +25,7 @@ pub(crate) fn put_links<W: Write>(
     records: &[UndoRecord],
 ) -> Result<(), WriteError>
     requires { numbering.first + length records.now < 2 ^ 64 }
-    ensures ok { OnOk result (Appends (W.contents writer.old) (W.contents writer.new) (flat_map (link_text form.entry) (told (linked_by (finds releases.now) numbering) (reverse records.now)))) }
-    ensures part { OnErr result (AppendsPart (W.contents writer.old) (W.contents writer.new) (flat_map (link_text form.entry) (told (linked_by (finds releases.now) numbering) (reverse records.now)))) }
+    ensures { Writes W.contents writer.old writer.new (taken_text form.entry (finds releases.now) numbering records.now) result }
 {
     let mut gone = LaneCount::new();
     for entry in records {
@@ -53,8 +49,7 @@ fn put_taken<W: Write>(
     taker: SectionId,
     entry: UndoRecord,
 ) -> Result<(), WriteError>
-    ensures ok { OnOk result (Appends (W.contents writer.old) (W.contents writer.new) (flat_map (link_text form.entry) (link_from (finds releases.now) taker entry))) }
-    ensures part { OnErr result (AppendsPart (W.contents writer.old) (W.contents writer.new) (flat_map (link_text form.entry) (link_from (finds releases.now) taker entry))) }
+    ensures { Writes W.contents writer.old writer.new (taking_text form.entry (finds releases.now) taker entry) result }
 {
     match link_by(releases, taker, entry) {
         Some(link) => put_link(writer, form, link),
@@ -99,8 +94,7 @@ fn taken_from(
 }
 
 fn put_link<W: Write>(writer: &mut W, form: Form<'_>, link: Link) -> Result<(), WriteError>
-    ensures ok { OnOk result (Appends (W.contents writer.old) (W.contents writer.new) (link_text form.entry link)) }
-    ensures part { OnErr result (AppendsPart (W.contents writer.old) (W.contents writer.new) (link_text form.entry link)) }
+    ensures { Writes W.contents writer.old writer.new (link_text form.entry link) result }
 {
     match form {
         Form::Lines => put_link_line(writer, link),

@@ -24,7 +24,7 @@ pub(crate) struct Picture<'a> {
 }
 
 /// By lane: the number of the first section that is drawn, where the section that the lane is in is drawn, and the last so many that
-/// have ended. Behind the study's lanes there are zeros.
+/// have ended. After the study's lanes there are zeros.
 pub(crate) fn bounds(study: &Study, last: u32) -> [u64; 32]
     requires { FitsNumbers study.now }
     ensures { take study.now.layout.lanes result ≡ drawn.bounds last study.now }

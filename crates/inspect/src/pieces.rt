@@ -1,7 +1,6 @@
 //! The pieces that a line is made of.
-ghost use Rattle.std.specs.Prelude.{◌≡◌, OnOk, OnErr};
-ghost use Rattle.std.specs.Io.KnownBytes.{Appends};
-ghost use Rattle.inspect.specs.Written.{AppendsPart};
+ghost use Rattle.std.specs.Prelude.{◌≡◌};
+ghost use Rattle.inspect.specs.Written.{Writes};
 ghost use Rattle.inspect.specs.Pieces.{piece_text, pieces_text, line_text, numbers_text, list_line};
 
 use crate::error::WriteError;
@@ -20,17 +19,15 @@ pub enum Piece<'a> {
 
 /// Writes a line of these pieces. After an error a beginning of it is written.
 pub fn put_line<W: Write>(writer: &mut W, pieces: &[Piece<'_>]) -> Result<(), WriteError>
-    ensures ok { OnOk result (Appends (W.contents writer.old) (W.contents writer.new) (line_text pieces.now)) }
-    ensures part { OnErr result (AppendsPart (W.contents writer.old) (W.contents writer.new) (line_text pieces.now)) }
+    ensures { Writes W.contents writer.old writer.new (line_text pieces.now) result }
 {
     put_pieces(writer, pieces)?;
     put(writer, b"\n")
 }
 
-/// Writes the pieces, one behind the other.
+/// Writes the pieces, one after the other.
 pub(crate) fn put_pieces<W: Write>(writer: &mut W, pieces: &[Piece<'_>]) -> Result<(), WriteError>
-    ensures ok { OnOk result (Appends (W.contents writer.old) (W.contents writer.new) (pieces_text pieces.now)) }
-    ensures part { OnErr result (AppendsPart (W.contents writer.old) (W.contents writer.new) (pieces_text pieces.now)) }
+    ensures { Writes W.contents writer.old writer.new (pieces_text pieces.now) result }
 {
     for piece in pieces {
         put_piece(writer, piece)?;
@@ -39,8 +36,7 @@ pub(crate) fn put_pieces<W: Write>(writer: &mut W, pieces: &[Piece<'_>]) -> Resu
 }
 
 fn put_piece<W: Write>(writer: &mut W, piece: &Piece<'_>) -> Result<(), WriteError>
-    ensures ok { OnOk result (Appends (W.contents writer.old) (W.contents writer.new) (piece_text piece.now)) }
-    ensures part { OnErr result (AppendsPart (W.contents writer.old) (W.contents writer.new) (piece_text piece.now)) }
+    ensures { Writes W.contents writer.old writer.new (piece_text piece.now) result }
 {
     match piece {
         Piece::Words(words) => put(writer, words.as_bytes()),
@@ -48,10 +44,9 @@ fn put_piece<W: Write>(writer: &mut W, piece: &Piece<'_>) -> Result<(), WriteErr
     }
 }
 
-/// Writes a line of a word and numbers, each behind a space. After an error a beginning of it is written.
+/// Writes a line of a word and numbers, each after a space. After an error a beginning of it is written.
 pub fn put_list<W: Write>(writer: &mut W, word: &str, numbers: &[u64]) -> Result<(), WriteError>
-    ensures ok { OnOk result (Appends (W.contents writer.old) (W.contents writer.new) (list_line word.now numbers.now)) }
-    ensures part { OnErr result (AppendsPart (W.contents writer.old) (W.contents writer.new) (list_line word.now numbers.now)) }
+    ensures { Writes W.contents writer.old writer.new (list_line word.now numbers.now) result }
 {
     put(writer, word.as_bytes())?;
     put_numbers(writer, numbers)?;
@@ -59,8 +54,7 @@ pub fn put_list<W: Write>(writer: &mut W, word: &str, numbers: &[u64]) -> Result
 }
 
 fn put_numbers<W: Write>(writer: &mut W, numbers: &[u64]) -> Result<(), WriteError>
-    ensures ok { OnOk result (Appends (W.contents writer.old) (W.contents writer.new) (numbers_text numbers.now)) }
-    ensures part { OnErr result (AppendsPart (W.contents writer.old) (W.contents writer.new) (numbers_text numbers.now)) }
+    ensures { Writes W.contents writer.old writer.new (numbers_text numbers.now) result }
 {
     for number in numbers {
         put_pieces(writer, &[Piece::Words(" "), Piece::Number(*number)])?;

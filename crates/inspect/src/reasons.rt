@@ -1,7 +1,6 @@
 //! Why sections are dropped, in a graph.
-ghost use Rattle.std.specs.Prelude.{◌≡◌, OnOk, OnErr};
-ghost use Rattle.std.specs.Io.KnownBytes.{Appends};
-ghost use Rattle.inspect.specs.Written.{AppendsPart};
+ghost use Rattle.std.specs.Prelude.{◌≡◌};
+ghost use Rattle.inspect.specs.Written.{Writes};
 ghost use Rattle.inspect.specs.GraphText.{is_about, reason_end, reason_in};
 ghost use Rattle.inspect.specs.Pieces.{line};
 
@@ -32,8 +31,7 @@ fn is_about(dropped: Dropped, section: SectionId) -> bool
 
 /// Ends the node of a section that is dropped, with the reason where its first words don't say it, and the node's colour.
 pub(crate) fn put_reason<W: Write>(writer: &mut W, why: Why) -> Result<(), WriteError>
-    ensures ok { OnOk result (Appends (W.contents writer.old) (W.contents writer.new) (line (reason_end why))) }
-    ensures part { OnErr result (AppendsPart (W.contents writer.old) (W.contents writer.new) (line (reason_end why))) }
+    ensures { Writes W.contents writer.old writer.new (line (reason_end why)) result }
 {
     match why {
         Why::Unfinished => put_line(

@@ -25,7 +25,7 @@ pub(crate) fn releaser(releases: &Releases, object: ObjectId, number: u64) -> Op
     releases.get(&(object.0, number)).copied()
 }
 
-/// All live releases of the study. Memory is wanting only where there are some.
+/// All live releases of the study. It fails only where there are some.
 pub(crate) fn releases_in(alloc: Global, study: &Study) -> Result<Releases, AllocError>
     requires { FitsNumbers study.now }
     ensures ok { IfOk result (λ releases. Tells releases (releases_of study.now)) }

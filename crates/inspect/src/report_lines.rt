@@ -1,7 +1,6 @@
 //! The lines of a report (docs/SCRIPTS.md, "Lines").
-ghost use Rattle.std.specs.Prelude.{◌≡◌, ◌+◌, OnOk, OnErr, take, min};
-ghost use Rattle.std.specs.Io.KnownBytes.{Appends};
-ghost use Rattle.inspect.specs.Written.{AppendsPart};
+ghost use Rattle.std.specs.Prelude.{◌≡◌, ◌+◌, take, min};
+ghost use Rattle.inspect.specs.Written.{Writes};
 ghost use Rattle.inspect.specs.ReportText.{report_text, dropped_lines, dropped_line};
 
 use crate::error::WriteError;
@@ -19,9 +18,7 @@ pub fn write_report<W: Write>(
     writer: &mut W,
 ) -> Result<(), WriteError>
     // The lines of a report are the documented text.
-    ensures ok { OnOk result (Appends (W.contents writer.old) (W.contents writer.new) (report_text report.now heap.now lanes)) }
-    // After a fault of the writer a beginning of the text is written, and not all.
-    ensures part { OnErr result (AppendsPart (W.contents writer.old) (W.contents writer.new) (report_text report.now heap.now lanes)) }
+    ensures { Writes W.contents writer.old writer.new (report_text report.now heap.now lanes) result }
 {
     put_list(writer, "kept", first_counts(&report.kept.counts, lanes))?;
     put_dropped(writer, &report.dropped)?;
@@ -43,8 +40,7 @@ pub(crate) fn first_counts(counts: &[u64], lanes: u8) -> &[u64]
 }
 
 fn put_dropped<W: Write>(writer: &mut W, dropped: &[Dropped]) -> Result<(), WriteError>
-    ensures ok { OnOk result (Appends (W.contents writer.old) (W.contents writer.new) (dropped_lines dropped.now)) }
-    ensures part { OnErr result (AppendsPart (W.contents writer.old) (W.contents writer.new) (dropped_lines dropped.now)) }
+    ensures { Writes W.contents writer.old writer.new (dropped_lines dropped.now) result }
 {
     for section in dropped {
         put_section(writer, *section)?;
@@ -53,8 +49,7 @@ fn put_dropped<W: Write>(writer: &mut W, dropped: &[Dropped]) -> Result<(), Writ
 }
 
 fn put_section<W: Write>(writer: &mut W, dropped: Dropped) -> Result<(), WriteError>
-    ensures ok { OnOk result (Appends (W.contents writer.old) (W.contents writer.new) (dropped_line dropped)) }
-    ensures part { OnErr result (AppendsPart (W.contents writer.old) (W.contents writer.new) (dropped_line dropped)) }
+    ensures { Writes W.contents writer.old writer.new (dropped_line dropped) result }
 {
     let thread = Piece::Number(thread_number(dropped.lane));
     let section = Piece::Number(dropped.section);

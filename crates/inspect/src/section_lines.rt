@@ -1,7 +1,6 @@
 //! The lines of sections and of dependences (docs/SCRIPTS.md, "The inspector's lines").
-ghost use Rattle.std.specs.Prelude.{◌≡◌, OnOk, OnErr};
-ghost use Rattle.std.specs.Io.KnownBytes.{Appends};
-ghost use Rattle.inspect.specs.Written.{AppendsPart};
+ghost use Rattle.std.specs.Prelude.{◌≡◌};
+ghost use Rattle.inspect.specs.Written.{Writes};
 ghost use Rattle.inspect.specs.SectionText.{section_line, link_line};
 ghost use Rattle.inspect.specs.GraphText.{state_text};
 
@@ -13,8 +12,7 @@ use std::io::Write;
 
 /// Writes the line of a section.
 pub(crate) fn put_section_line<W: Write>(writer: &mut W, section: Section) -> Result<(), WriteError>
-    ensures ok { OnOk result (Appends (W.contents writer.old) (W.contents writer.new) (section_line section)) }
-    ensures part { OnErr result (AppendsPart (W.contents writer.old) (W.contents writer.new) (section_line section)) }
+    ensures { Writes W.contents writer.old writer.new (section_line section) result }
 {
     let thread = thread_number(section.id.lane);
     put_line(
@@ -34,8 +32,7 @@ pub(crate) fn put_section_line<W: Write>(writer: &mut W, section: Section) -> Re
 
 /// Writes the line of a dependence.
 pub(crate) fn put_link_line<W: Write>(writer: &mut W, link: Link) -> Result<(), WriteError>
-    ensures ok { OnOk result (Appends (W.contents writer.old) (W.contents writer.new) (link_line link)) }
-    ensures part { OnErr result (AppendsPart (W.contents writer.old) (W.contents writer.new) (link_line link)) }
+    ensures { Writes W.contents writer.old writer.new (link_line link) result }
 {
     let taker = thread_number(link.taker.lane);
     let releaser = thread_number(link.releaser.lane);

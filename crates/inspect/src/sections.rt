@@ -1,11 +1,8 @@
 //! The live sections of a lane, written one by one.
-ghost use Rattle.std.specs.Prelude.{◌≡◌, ◌+◌, ◌<◌, ◌^◌, IfOk, OnOk, OnErr, length, reverse};
-ghost use Rattle.std.specs.Io.KnownBytes.{Appends};
-ghost use Rattle.std.specs.List.{flat_map};
-ghost use Rattle.inspect.specs.Written.{AppendsPart};
+ghost use Rattle.std.specs.Prelude.{◌≡◌, ◌+◌, ◌<◌, ◌^◌, IfOk, length, reverse};
+ghost use Rattle.inspect.specs.Written.{Writes};
 ghost use Rattle.recover_logs.specs.Lanes.{count_of};
-ghost use Rattle.inspect.specs.Sections.{ended_by, whole_sections, unfinished_section, live_sections};
-ghost use Rattle.inspect.specs.SectionText.{section_text};
+ghost use Rattle.inspect.specs.SectionText.{section_text, live_text, whole_text, ended_text, unfinished_text};
 
 use crate::error::WriteError;
 use crate::form::Form;
@@ -25,8 +22,7 @@ pub(crate) fn put_sections<W: Write>(
     records: &[UndoRecord],
 ) -> Result<(), WriteError>
     requires { numbering.first + length records.now < 2 ^ 64 }
-    ensures ok { OnOk result (Appends (W.contents writer.old) (W.contents writer.new) (flat_map (section_text form.entry numbering) (live_sections numbering (reverse records.now)))) }
-    ensures part { OnErr result (AppendsPart (W.contents writer.old) (W.contents writer.new) (flat_map (section_text form.entry numbering) (live_sections numbering (reverse records.now)))) }
+    ensures { Writes W.contents writer.old writer.new (live_text form.entry numbering records.now) result }
 {
     let gone = put_whole_sections(writer, form, numbering, records)?;
     put_unfinished(writer, form, numbering, gone)
@@ -39,9 +35,8 @@ fn put_whole_sections<W: Write>(
     records: &[UndoRecord],
 ) -> Result<LaneCount, WriteError>
     requires { numbering.first + length records.now < 2 ^ 64 }
-    ensures ok { OnOk result (Appends (W.contents writer.old) (W.contents writer.new) (flat_map (section_text form.entry numbering) (whole_sections numbering (reverse records.now)))) }
+    ensures written { Writes W.contents writer.old writer.new (whole_text form.entry numbering records.now) result }
     ensures count { IfOk result (λ gone. gone ≡ count_of (reverse records.now)) }
-    ensures part { OnErr result (AppendsPart (W.contents writer.old) (W.contents writer.new) (flat_map (section_text form.entry numbering) (whole_sections numbering (reverse records.now)))) }
 {
     let mut gone = LaneCount::new();
     for entry in records {
@@ -61,8 +56,7 @@ fn put_ended<W: Write>(
 ) -> Result<(), WriteError>
     requires number { numbering.first + gone.ended < 2 ^ 64 }
     requires records { gone.since + 1 < 2 ^ 64 }
-    ensures ok { OnOk result (Appends (W.contents writer.old) (W.contents writer.new) (flat_map (section_text form.entry numbering) (ended_by numbering gone entry))) }
-    ensures part { OnErr result (AppendsPart (W.contents writer.old) (W.contents writer.new) (flat_map (section_text form.entry numbering) (ended_by numbering gone entry))) }
+    ensures { Writes W.contents writer.old writer.new (ended_text form.entry numbering gone entry) result }
 {
     if !gone.ends(entry) {
         return Ok(());
@@ -83,8 +77,7 @@ fn put_unfinished<W: Write>(
     gone: LaneCount,
 ) -> Result<(), WriteError>
     requires number { numbering.first + gone.ended < 2 ^ 64 }
-    ensures ok { OnOk result (Appends (W.contents writer.old) (W.contents writer.new) (flat_map (section_text form.entry numbering) (unfinished_section numbering gone))) }
-    ensures part { OnErr result (AppendsPart (W.contents writer.old) (W.contents writer.new) (flat_map (section_text form.entry numbering) (unfinished_section numbering gone))) }
+    ensures { Writes W.contents writer.old writer.new (unfinished_text form.entry numbering gone) result }
 {
     if gone.since == 0 {
         return Ok(());
@@ -103,8 +96,7 @@ fn put_section<W: Write>(
     numbering: Numbering,
     section: Section,
 ) -> Result<(), WriteError>
-    ensures ok { OnOk result (Appends (W.contents writer.old) (W.contents writer.new) (section_text form.entry numbering section)) }
-    ensures part { OnErr result (AppendsPart (W.contents writer.old) (W.contents writer.new) (section_text form.entry numbering section)) }
+    ensures { Writes W.contents writer.old writer.new (section_text form.entry numbering section) result }
 {
     match form {
         Form::Lines => put_section_line(writer, section),

@@ -1,8 +1,7 @@
 //! The lines of a study (docs/SCRIPTS.md, "The inspector's lines").
-ghost use Rattle.std.specs.Prelude.{◌≡◌, ◌+◌, ◌<◌, ◌^◌, OnOk, OnErr, IfErr, IfOk, length, []};
-ghost use Rattle.std.specs.Io.KnownBytes.{Appends};
+ghost use Rattle.std.specs.Prelude.{◌≡◌, ◌+◌, ◌<◌, ◌^◌, IfErr, length};
 ghost use Rattle.image_parts.specs.Layout.{IsLayout};
-ghost use Rattle.inspect.specs.Written.{AppendsPart};
+ghost use Rattle.inspect.specs.Written.{Shows, Writes};
 ghost use Rattle.recover.specs.Fits.{FitsNumbers};
 ghost use Rattle.inspect.specs.StudyText.{study_text, head_text, image_line, control_line, slot_text, lane_lines, lane_line, sections_text, lane_sections, links_text, end_text};
 ghost use Rattle.inspect.specs.SectionText.{section_text, link_text};
@@ -35,13 +34,9 @@ pub fn write_study<W: Write>(alloc: Global, study: &Study, writer: &mut W) -> Re
     requires limits { IsLayout study.now.layout }
     requires numbers { FitsNumbers study.now }
     // The lines of a study are the documented text, with a line of the transient fields where there are any.
-    ensures ok { OnOk result (Appends (W.contents writer.old) (W.contents writer.new) (study_text study.now)) }
-    // Where memory runs out nothing is written.
-    ensures no_memory { IfErr result (λ e. e ≡ kinds.NoMemory → Appends (W.contents writer.old) (W.contents writer.new) []) }
+    ensures text { Shows W.contents writer.old writer.new (study_text study.now) result }
     // Memory is wanted only where there are live releases to note.
     ensures needed { IfErr result (λ e. e ≡ kinds.NoMemory → 0 < length (releases_of study.now)) }
-    // After a fault of the writer a beginning of the text is written, and not all.
-    ensures part { IfErr result (λ e. e ≡ kinds.Write → AppendsPart (W.contents writer.old) (W.contents writer.new) (study_text study.now)) }
 {
     let Ok(releases) = releases_in(alloc, study) else {
         return Err(ShowError::NoMemory);
@@ -56,8 +51,7 @@ fn put_study<W: Write>(writer: &mut W, study: &Study, releases: &Releases) -> Re
     requires limits { IsLayout study.now.layout }
     requires numbers { FitsNumbers study.now }
     requires releases { Tells releases.now (releases_of study.now) }
-    ensures ok { OnOk result (Appends (W.contents writer.old) (W.contents writer.new) (study_text study.now)) }
-    ensures part { OnErr result (AppendsPart (W.contents writer.old) (W.contents writer.new) (study_text study.now)) }
+    ensures { Writes W.contents writer.old writer.new (study_text study.now) result }
 {
     put_head(writer, study)?;
     put_all_sections(writer, study)?;
@@ -68,8 +62,7 @@ fn put_study<W: Write>(writer: &mut W, study: &Study, releases: &Releases) -> Re
 // Writes the lines of the image, the control, the transient fields and the lanes.
 fn put_head<W: Write>(writer: &mut W, study: &Study) -> Result<(), WriteError>
     requires limits { IsLayout study.now.layout }
-    ensures ok { OnOk result (Appends (W.contents writer.old) (W.contents writer.new) (head_text study.now)) }
-    ensures part { OnErr result (AppendsPart (W.contents writer.old) (W.contents writer.new) (head_text study.now)) }
+    ensures { Writes W.contents writer.old writer.new (head_text study.now) result }
 {
     put_image(writer, &study.layout)?;
     put_control(writer, study.slot, &study.control)?;
@@ -79,8 +72,7 @@ fn put_head<W: Write>(writer: &mut W, study: &Study) -> Result<(), WriteError>
 
 fn put_image<W: Write>(writer: &mut W, layout: &Layout) -> Result<(), WriteError>
     requires limits { IsLayout layout.now }
-    ensures ok { OnOk result (Appends (W.contents writer.old) (W.contents writer.new) (image_line layout.now)) }
-    ensures part { OnErr result (AppendsPart (W.contents writer.old) (W.contents writer.new) (image_line layout.now)) }
+    ensures { Writes W.contents writer.old writer.new (image_line layout.now) result }
 {
     put_line(
         writer,
@@ -100,8 +92,7 @@ fn put_image<W: Write>(writer: &mut W, layout: &Layout) -> Result<(), WriteError
 }
 
 fn put_control<W: Write>(writer: &mut W, slot: Slot, control: &Control) -> Result<(), WriteError>
-    ensures ok { OnOk result (Appends (W.contents writer.old) (W.contents writer.new) (control_line slot control.now)) }
-    ensures part { OnErr result (AppendsPart (W.contents writer.old) (W.contents writer.new) (control_line slot control.now)) }
+    ensures { Writes W.contents writer.old writer.new (control_line slot control.now) result }
 {
     put_line(
         writer,
@@ -127,8 +118,7 @@ fn slot_name(slot: Slot) -> &'static str
 
 fn put_lanes<W: Write>(writer: &mut W, layout: &Layout, control: &Control) -> Result<(), WriteError>
     requires limits { IsLayout layout.now }
-    ensures ok { OnOk result (Appends (W.contents writer.old) (W.contents writer.new) (lane_lines layout.now.lanes control.now.rows)) }
-    ensures part { OnErr result (AppendsPart (W.contents writer.old) (W.contents writer.new) (lane_lines layout.now.lanes control.now.rows)) }
+    ensures { Writes W.contents writer.old writer.new (lane_lines layout.now.lanes control.now.rows) result }
 {
     for lane in 0..layout.lanes {
         put_lane(writer, Lane(lane), &control.rows[usize::from(lane)])?;
@@ -137,8 +127,7 @@ fn put_lanes<W: Write>(writer: &mut W, layout: &Layout, control: &Control) -> Re
 }
 
 fn put_lane<W: Write>(writer: &mut W, lane: Lane, row: &LaneRow) -> Result<(), WriteError>
-    ensures ok { OnOk result (Appends (W.contents writer.old) (W.contents writer.new) (lane_line lane.0 row.now)) }
-    ensures part { OnErr result (AppendsPart (W.contents writer.old) (W.contents writer.new) (lane_line lane.0 row.now)) }
+    ensures { Writes W.contents writer.old writer.new (lane_line lane.0 row.now) result }
 {
     put_line(
         writer,
@@ -160,8 +149,7 @@ fn put_lane<W: Write>(writer: &mut W, lane: Lane, row: &LaneRow) -> Result<(), W
 // Writes the live sections of all lanes, by lane and number.
 fn put_all_sections<W: Write>(writer: &mut W, study: &Study) -> Result<(), WriteError>
     requires { FitsNumbers study.now }
-    ensures ok { OnOk result (Appends (W.contents writer.old) (W.contents writer.new) (sections_text study.now)) }
-    ensures part { OnErr result (AppendsPart (W.contents writer.old) (W.contents writer.new) (sections_text study.now)) }
+    ensures { Writes W.contents writer.old writer.new (sections_text study.now) result }
 {
     for lane in 0..study.layout.lanes {
         put_lane_sections(writer, Form::Lines, study, Lane(lane))?;
@@ -178,8 +166,7 @@ pub(crate) fn put_lane_sections<W: Write>(
 ) -> Result<(), WriteError>
     requires lane { lane.0 < study.now.layout.lanes }
     requires numbers { FitsNumbers study.now }
-    ensures ok { OnOk result (Appends (W.contents writer.old) (W.contents writer.new) (lane_sections (section_text form.entry) study.now lane.0)) }
-    ensures part { OnErr result (AppendsPart (W.contents writer.old) (W.contents writer.new) (lane_sections (section_text form.entry) study.now lane.0)) }
+    ensures { Writes W.contents writer.old writer.new (lane_sections (section_text form.entry) study.now lane.0) result }
 {
     let numbering = lane_numbering(study, lane);
     put_sections(writer, form, numbering, records_in(&study.records, lane))
@@ -194,8 +181,7 @@ pub(crate) fn put_all_links<W: Write>(
 ) -> Result<(), WriteError>
     requires numbers { FitsNumbers study.now }
     requires releases { Tells releases.now (releases_of study.now) }
-    ensures ok { OnOk result (Appends (W.contents writer.old) (W.contents writer.new) (links_text (link_text form.entry) study.now)) }
-    ensures part { OnErr result (AppendsPart (W.contents writer.old) (W.contents writer.new) (links_text (link_text form.entry) study.now)) }
+    ensures { Writes W.contents writer.old writer.new (links_text (link_text form.entry) study.now) result }
 {
     for lane in 0..study.layout.lanes {
         let numbering = lane_numbering(study, Lane(lane));
@@ -212,8 +198,7 @@ pub(crate) fn put_all_links<W: Write>(
 
 // Writes the cut and the heap.
 fn put_end<W: Write>(writer: &mut W, study: &Study) -> Result<(), WriteError>
-    ensures ok { OnOk result (Appends (W.contents writer.old) (W.contents writer.new) (end_text study.now)) }
-    ensures part { OnErr result (AppendsPart (W.contents writer.old) (W.contents writer.new) (end_text study.now)) }
+    ensures { Writes W.contents writer.old writer.new (end_text study.now) result }
 {
     put_list(
         writer,

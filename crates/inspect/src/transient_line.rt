@@ -1,9 +1,8 @@
 //! The line of the transient fields (docs/SCRIPTS.md, "The inspector's lines").
-ghost use Rattle.std.specs.Prelude.{◌≡◌, ◌++◌, codes, length, OnOk, OnErr};
+ghost use Rattle.std.specs.Prelude.{◌≡◌, length};
 ghost use Rattle.std.specs.List.{list_any};
-ghost use Rattle.std.specs.Io.KnownBytes.{Appends};
-ghost use Rattle.inspect.specs.Written.{AppendsPart};
-ghost use Rattle.inspect.specs.TransientText.{transient_line, marks_text, mark_text};
+ghost use Rattle.inspect.specs.Written.{Writes};
+ghost use Rattle.inspect.specs.TransientText.{transient_line, marks_line, marks_text, mark_text};
 
 use crate::error::WriteError;
 use crate::pieces::{Piece, put_pieces};
@@ -13,8 +12,7 @@ use std::io::Write;
 
 /// Writes the numbers of the transient fields of these guard rows: a line, and nothing where there are none.
 pub(crate) fn put_transients<W: Write>(writer: &mut W, rows: &[GuardRow]) -> Result<(), WriteError>
-    ensures ok { OnOk result (Appends (W.contents writer.old) (W.contents writer.new) (transient_line rows.now)) }
-    ensures part { OnErr result (AppendsPart (W.contents writer.old) (W.contents writer.new) (transient_line rows.now)) }
+    ensures { Writes W.contents writer.old writer.new (transient_line rows.now) result }
 {
     if !has_transient(rows) {
         return Ok(());
@@ -29,8 +27,7 @@ fn has_transient(rows: &[GuardRow]) -> bool
 }
 
 fn put_transient_line<W: Write>(writer: &mut W, rows: &[GuardRow]) -> Result<(), WriteError>
-    ensures ok { OnOk result (Appends (W.contents writer.old) (W.contents writer.new) (codes "transient" ++ marks_text rows.now (length rows.now) ++ codes "\n")) }
-    ensures part { OnErr result (AppendsPart (W.contents writer.old) (W.contents writer.new) (codes "transient" ++ marks_text rows.now (length rows.now) ++ codes "\n")) }
+    ensures { Writes W.contents writer.old writer.new (marks_line rows.now) result }
 {
     put(writer, b"transient")?;
     put_marks(writer, rows)?;
@@ -38,8 +35,7 @@ fn put_transient_line<W: Write>(writer: &mut W, rows: &[GuardRow]) -> Result<(),
 }
 
 fn put_marks<W: Write>(writer: &mut W, rows: &[GuardRow]) -> Result<(), WriteError>
-    ensures ok { OnOk result (Appends (W.contents writer.old) (W.contents writer.new) (marks_text rows.now (length rows.now))) }
-    ensures part { OnErr result (AppendsPart (W.contents writer.old) (W.contents writer.new) (marks_text rows.now (length rows.now))) }
+    ensures { Writes W.contents writer.old writer.new (marks_text rows.now (length rows.now)) result }
 {
     for field in 0..rows.len() {
         put_mark(writer, field as u64, &rows[field])?;
@@ -48,8 +44,7 @@ fn put_marks<W: Write>(writer: &mut W, rows: &[GuardRow]) -> Result<(), WriteErr
 }
 
 fn put_mark<W: Write>(writer: &mut W, field: u64, row: &GuardRow) -> Result<(), WriteError>
-    ensures ok { OnOk result (Appends (W.contents writer.old) (W.contents writer.new) (mark_text field row.now)) }
-    ensures part { OnErr result (AppendsPart (W.contents writer.old) (W.contents writer.new) (mark_text field row.now)) }
+    ensures { Writes W.contents writer.old writer.new (mark_text field row.now) result }
 {
     if !row.transient {
         return Ok(());

@@ -1,4 +1,4 @@
-use Rattle.std.proofs.Common.{ℕ, [], ◌∷◌, codes, subst}
+use Rattle.std.proofs.Common.{rules, ℕ, [], ◌∷◌, codes, subst}
 use Rattle.std.specs.Io.KnownBytes.{Appends}
 use Rattle.std.proofs.lemmas.Result.{on_ok_weaker, on_err_weaker}
 use Rattle.inspect.specs.Written.{AppendsPart}
@@ -9,8 +9,8 @@ use Rattle.inspect.specs.WholeGraph.{column_head, column_edge, left_out_of}
 use Rattle.inspect.proofs.PartLemmas.{always, all_later, all_last, part_here, part_later}
 use Rattle.inspect.proofs.graph.put_column.Goals as goal
 
-pub returns-in_err-put_column_head-clause-part : goal.returns-in_err-put_column_head-clause-part
-returns-in_err-put_column_head-clause-part g c =
+pub returns-in_err-put_column_head : goal.returns-in_err-put_column_head
+returns-in_err-put_column_head g c =
     let s = c.args.study.now in
     let begin = column_head c.args.lane.0 (left_out_of c.args.picture.firsts.now s c.args.lane.0) in
     let sections = lane_sections (node_text c.args.picture.firsts.now c.args.picture.dropped.now) s c.args.lane.0 in
@@ -19,10 +19,13 @@ returns-in_err-put_column_head-clause-part g c =
     let old = g.W.Write.contents c.args.writer.now in
     let one = g.W.Write.contents c.put_column_head.new.writer in
     let head : AppendsPart old one begin = subst (λ (n : ℕ). AppendsPart old one (column_head c.args.lane.0 n)) c.left_out.ensures c.in_err-put_column_head.ensures.part in
-    always c.from_residual.result (part_here old one begin (sections ∷ end ∷ edge ∷ []) head)
+    record {
+      ok = search rules;
+      part = always c.from_residual.result (part_here old one begin (sections ∷ end ∷ edge ∷ []) head);
+    }
 
-pub returns-in_err-put_lane_sections-clause-part : goal.returns-in_err-put_lane_sections-clause-part
-returns-in_err-put_lane_sections-clause-part g c =
+pub returns-in_err-put_lane_sections : goal.returns-in_err-put_lane_sections
+returns-in_err-put_lane_sections g c =
     let s = c.args.study.now in
     let begin = column_head c.args.lane.0 (left_out_of c.args.picture.firsts.now s c.args.lane.0) in
     let sections = lane_sections (node_text c.args.picture.firsts.now c.args.picture.dropped.now) s c.args.lane.0 in
@@ -32,10 +35,13 @@ returns-in_err-put_lane_sections-clause-part g c =
     let one = g.W.Write.contents c.put_column_head.new.writer in
     let head : Appends old one begin = subst (λ (n : ℕ). Appends old one (column_head c.args.lane.0 n)) c.left_out.ensures c.in_ok-put_column_head.ensures.ok in
     let two = g.W.Write.contents c.put_lane_sections.new.writer in
-    always c.from_residual-in_err-put_lane_sections.result (part_later old one two begin (sections ∷ end ∷ edge ∷ []) head (part_here one two sections (end ∷ edge ∷ []) c.in_err-put_lane_sections.ensures.part))
+    record {
+      ok = search rules;
+      part = always c.from_residual-in_err-put_lane_sections.result (part_later old one two begin (sections ∷ end ∷ edge ∷ []) head (part_here one two sections (end ∷ edge ∷ []) c.in_err-put_lane_sections.ensures.part));
+    }
 
-pub returns-in_err-put_line-clause-part : goal.returns-in_err-put_line-clause-part
-returns-in_err-put_line-clause-part g c =
+pub returns-in_err-put_line : goal.returns-in_err-put_line
+returns-in_err-put_line g c =
     let s = c.args.study.now in
     let begin = column_head c.args.lane.0 (left_out_of c.args.picture.firsts.now s c.args.lane.0) in
     let sections = lane_sections (node_text c.args.picture.firsts.now c.args.picture.dropped.now) s c.args.lane.0 in
@@ -46,25 +52,13 @@ returns-in_err-put_line-clause-part g c =
     let head : Appends old one begin = subst (λ (n : ℕ). Appends old one (column_head c.args.lane.0 n)) c.left_out.ensures c.in_ok-put_column_head.ensures.ok in
     let two = g.W.Write.contents c.put_lane_sections.new.writer in
     let three = g.W.Write.contents c.put_line.new.writer in
-    always c.from_residual-in_err-put_line.result (part_later old one three begin (sections ∷ end ∷ edge ∷ []) head (part_later one two three sections (end ∷ edge ∷ []) c.in_ok-put_lane_sections.ensures.ok (part_here two three end (edge ∷ []) c.in_err-put_line.ensures.part)))
+    record {
+      ok = search rules;
+      part = always c.from_residual-in_err-put_line.result (part_later old one three begin (sections ∷ end ∷ edge ∷ []) head (part_later one two three sections (end ∷ edge ∷ []) c.in_ok-put_lane_sections.ensures.ok (part_here two three end (edge ∷ []) c.in_err-put_line.ensures.part)));
+    }
 
-pub returns-clause-ok : goal.returns-clause-ok
-returns-clause-ok g c =
-    let s = c.args.study.now in
-    let begin = column_head c.args.lane.0 (left_out_of c.args.picture.firsts.now s c.args.lane.0) in
-    let sections = lane_sections (node_text c.args.picture.firsts.now c.args.picture.dropped.now) s c.args.lane.0 in
-    let end = line (codes "}" ∷ []) in
-    let edge = column_edge c.args.lane.0 in
-    let old = g.W.Write.contents c.args.writer.now in
-    let one = g.W.Write.contents c.put_column_head.new.writer in
-    let head : Appends old one begin = subst (λ (n : ℕ). Appends old one (column_head c.args.lane.0 n)) c.left_out.ensures c.in_ok-put_column_head.ensures.ok in
-    let two = g.W.Write.contents c.put_lane_sections.new.writer in
-    let three = g.W.Write.contents c.put_line.new.writer in
-    let four = g.W.Write.contents c.put_column_edge.new.writer in
-    on_ok_weaker c.put_column_edge.result (λ (last : Appends three four edge). all_later old one four begin (sections ∷ end ∷ edge ∷ []) head (all_later one two four sections (end ∷ edge ∷ []) c.in_ok-put_lane_sections.ensures.ok (all_later two three four end (edge ∷ []) c.in_ok-put_line.ensures.ok (all_last three four edge last)))) c.put_column_edge.ensures.ok
-
-pub returns-clause-part : goal.returns-clause-part
-returns-clause-part g c =
+pub returns : goal.returns
+returns g c =
     let s = c.args.study.now in
     let begin = column_head c.args.lane.0 (left_out_of c.args.picture.firsts.now s c.args.lane.0) in
     let sections = lane_sections (node_text c.args.picture.firsts.now c.args.picture.dropped.now) s c.args.lane.0 in
@@ -76,4 +70,7 @@ returns-clause-part g c =
     let two = g.W.Write.contents c.put_lane_sections.new.writer in
     let three = g.W.Write.contents c.put_line.new.writer in
     let four = g.W.Write.contents c.put_column_edge.new.writer in
-    on_err_weaker c.put_column_edge.result (λ (last : AppendsPart three four edge). part_later old one four begin (sections ∷ end ∷ edge ∷ []) head (part_later one two four sections (end ∷ edge ∷ []) c.in_ok-put_lane_sections.ensures.ok (part_later two three four end (edge ∷ []) c.in_ok-put_line.ensures.ok (part_here three four edge [] last)))) c.put_column_edge.ensures.part
+    record {
+      ok = on_ok_weaker c.put_column_edge.result (λ (last : Appends three four edge). all_later old one four begin (sections ∷ end ∷ edge ∷ []) head (all_later one two four sections (end ∷ edge ∷ []) c.in_ok-put_lane_sections.ensures.ok (all_later two three four end (edge ∷ []) c.in_ok-put_line.ensures.ok (all_last three four edge last)))) c.put_column_edge.ensures.ok;
+      part = on_err_weaker c.put_column_edge.result (λ (last : AppendsPart three four edge). part_later old one four begin (sections ∷ end ∷ edge ∷ []) head (part_later one two four sections (end ∷ edge ∷ []) c.in_ok-put_lane_sections.ensures.ok (part_later two three four end (edge ∷ []) c.in_ok-put_line.ensures.ok (part_here three four edge [] last)))) c.put_column_edge.ensures.part;
+    }

@@ -5,18 +5,16 @@ use Rattle.std.specs.Io.KnownBytes.{Appends}
 use Rattle.inspect.specs.Written.{AppendsPart}
 use Rattle.inspect.proofs.graph_lines.put_edge_front.Goals as goal
 
-pub returns-clause-ok : goal.returns-clause-ok
-returns-clause-ok g c =
+pub returns : goal.returns
+returns g c =
     let k = c.args.link in
-    subst (λ (text : List ℕ). OnOk c.put_pieces.result (Appends (g.W.Write.contents c.args.writer.now) (g.W.Write.contents c.put_pieces.new.writer) text))
-    (λ i. concat (codes "\"t" ∷ decimal (c.thread_number-taker.ensures i) ∷ codes "." ∷ decimal k.taker.number
-    ∷ codes "\" -> \"t" ∷ decimal (c.thread_number-releaser.ensures i) ∷ codes "." ∷ decimal k.releaser.number ∷ codes "\" [label=\"" ∷ []))
-    c.put_pieces.ensures.ok
-
-pub returns-clause-part : goal.returns-clause-part
-returns-clause-part g c =
-    let k = c.args.link in
-    subst (λ (text : List ℕ). OnErr c.put_pieces.result (AppendsPart (g.W.Write.contents c.args.writer.now) (g.W.Write.contents c.put_pieces.new.writer) text))
-    (λ i. concat (codes "\"t" ∷ decimal (c.thread_number-taker.ensures i) ∷ codes "." ∷ decimal k.taker.number
-    ∷ codes "\" -> \"t" ∷ decimal (c.thread_number-releaser.ensures i) ∷ codes "." ∷ decimal k.releaser.number ∷ codes "\" [label=\"" ∷ []))
-    c.put_pieces.ensures.part
+    record {
+      ok = subst (λ (text : List ℕ). OnOk c.put_pieces.result (Appends (g.W.Write.contents c.args.writer.now) (g.W.Write.contents c.put_pieces.new.writer) text))
+          (λ i. concat (codes "\"t" ∷ decimal (c.thread_number-taker.ensures i) ∷ codes "." ∷ decimal k.taker.number
+          ∷ codes "\" -> \"t" ∷ decimal (c.thread_number-releaser.ensures i) ∷ codes "." ∷ decimal k.releaser.number ∷ codes "\" [label=\"" ∷ []))
+          c.put_pieces.ensures.ok;
+      part = subst (λ (text : List ℕ). OnErr c.put_pieces.result (AppendsPart (g.W.Write.contents c.args.writer.now) (g.W.Write.contents c.put_pieces.new.writer) text))
+          (λ i. concat (codes "\"t" ∷ decimal (c.thread_number-taker.ensures i) ∷ codes "." ∷ decimal k.taker.number
+          ∷ codes "\" -> \"t" ∷ decimal (c.thread_number-releaser.ensures i) ∷ codes "." ∷ decimal k.releaser.number ∷ codes "\" [label=\"" ∷ []))
+          c.put_pieces.ensures.part;
+    }

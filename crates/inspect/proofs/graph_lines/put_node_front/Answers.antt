@@ -5,20 +5,18 @@ use Rattle.std.specs.Io.KnownBytes.{Appends}
 use Rattle.inspect.specs.Written.{AppendsPart}
 use Rattle.inspect.proofs.graph_lines.put_node_front.Goals as goal
 
-pub returns-clause-ok : goal.returns-clause-ok
-returns-clause-ok g c =
+pub returns : goal.returns
+returns g c =
     let s = c.args.section in
-    subst (λ (text : List ℕ). OnOk c.put_pieces.result (Appends (g.W.Write.contents c.args.writer.now) (g.W.Write.contents c.put_pieces.new.writer) text))
-    (λ i. concat (codes "\"t" ∷ decimal (c.thread_number-thread.ensures i) ∷ codes "." ∷ decimal s.id.number
-    ∷ codes "\" [label=\"t" ∷ decimal (c.thread_number-thread.ensures i) ∷ codes " " ∷ decimal s.id.number ∷ codes "\\n"
-    ∷ c.state.ensures i ∷ codes ", " ∷ decimal s.records ∷ codes " records" ∷ []))
-    c.put_pieces.ensures.ok
-
-pub returns-clause-part : goal.returns-clause-part
-returns-clause-part g c =
-    let s = c.args.section in
-    subst (λ (text : List ℕ). OnErr c.put_pieces.result (AppendsPart (g.W.Write.contents c.args.writer.now) (g.W.Write.contents c.put_pieces.new.writer) text))
-    (λ i. concat (codes "\"t" ∷ decimal (c.thread_number-thread.ensures i) ∷ codes "." ∷ decimal s.id.number
-    ∷ codes "\" [label=\"t" ∷ decimal (c.thread_number-thread.ensures i) ∷ codes " " ∷ decimal s.id.number ∷ codes "\\n"
-    ∷ c.state.ensures i ∷ codes ", " ∷ decimal s.records ∷ codes " records" ∷ []))
-    c.put_pieces.ensures.part
+    record {
+      ok = subst (λ (text : List ℕ). OnOk c.put_pieces.result (Appends (g.W.Write.contents c.args.writer.now) (g.W.Write.contents c.put_pieces.new.writer) text))
+          (λ i. concat (codes "\"t" ∷ decimal (c.thread_number-thread.ensures i) ∷ codes "." ∷ decimal s.id.number
+          ∷ codes "\" [label=\"t" ∷ decimal (c.thread_number-thread.ensures i) ∷ codes " " ∷ decimal s.id.number ∷ codes "\\n"
+          ∷ c.state.ensures i ∷ codes ", " ∷ decimal s.records ∷ codes " records" ∷ []))
+          c.put_pieces.ensures.ok;
+      part = subst (λ (text : List ℕ). OnErr c.put_pieces.result (AppendsPart (g.W.Write.contents c.args.writer.now) (g.W.Write.contents c.put_pieces.new.writer) text))
+          (λ i. concat (codes "\"t" ∷ decimal (c.thread_number-thread.ensures i) ∷ codes "." ∷ decimal s.id.number
+          ∷ codes "\" [label=\"t" ∷ decimal (c.thread_number-thread.ensures i) ∷ codes " " ∷ decimal s.id.number ∷ codes "\\n"
+          ∷ c.state.ensures i ∷ codes ", " ∷ decimal s.records ∷ codes " records" ∷ []))
+          c.put_pieces.ensures.part;
+    }

@@ -1,4 +1,4 @@
-use Rattle.std.proofs.Common.{◌<◌, length, arith, take, reverse, sym, ap, subst, ◌∙◌, get_or, List}
+use Rattle.std.proofs.Common.{rules, ◌<◌, length, arith, take, reverse, sym, ap, subst, ◌∙◌, get_or, List}
 use Rattle.std.specs.List.{flat_map}
 use Rattle.std.specs.Io.KnownBytes.{Appends}
 use Rattle.heap_model.specs.declared.record.UndoRecord.{UndoRecord}
@@ -46,8 +46,8 @@ loop-entry-preserved g c =
       written = next_told (linked_by (finds c.args.releases.now) c.args.numbering) text xs i lt (g.W.Write.contents c.args.writer.now) w new c.loop-entry.invariant.written next;
     }
 
-pub returns-in_err-put_taken-clause-part : goal.returns-in_err-put_taken-clause-part
-returns-in_err-put_taken-clause-part g c =
+pub returns-in_err-put_taken : goal.returns-in_err-put_taken
+returns-in_err-put_taken g c =
     let i = c.loop-entry.entry-index in
     let xs : List UndoRecord = c.args.records.now in
     let lt : i < length xs = c.loop-entry-test.true in
@@ -58,7 +58,10 @@ returns-in_err-put_taken-clause-part g c =
     subst (λ (taker : SectionId). AppendsPart w new (flat_map text (link_from (finds c.args.releases.now) taker (get_or xs i none)))) c.section.ensures c.in_err-put_taken.ensures.part in
     let next : AppendsPart w new (flat_map text (linked_by (finds c.args.releases.now) c.args.numbering (count_of (reverse (take i xs))) (get_or xs i none))) =
     subst (λ (p : LaneCount). AppendsPart w new (flat_map text (linked_by (finds c.args.releases.now) c.args.numbering p (get_or xs i none)))) c.loop-entry.invariant.gone named in
-    always c.from_residual.result (part_told (linked_by (finds c.args.releases.now) c.args.numbering) text xs i lt (g.W.Write.contents c.args.writer.now) w new c.loop-entry.invariant.written next)
+    record {
+      ok = search rules;
+      part = always c.from_residual.result (part_told (linked_by (finds c.args.releases.now) c.args.numbering) text xs i lt (g.W.Write.contents c.args.writer.now) w new c.loop-entry.invariant.written next);
+    }
 
 pub loop-entry-init : goal.loop-entry-init
 loop-entry-init g c = record { gone = c.new-gone.ensures; written = Appends-nil (g.W.Write.contents c.args.writer.now) }

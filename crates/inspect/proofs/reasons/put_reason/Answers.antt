@@ -7,40 +7,31 @@ use Rattle.inspect.specs.Pieces.{line}
 use Rattle.inspect.specs.Written.{AppendsPart}
 use Rattle.inspect.proofs.reasons.put_reason.Goals as goal
 
-pub returns-in-After-clause-ok : goal.returns-in-After-clause-ok
-returns-in-After-clause-ok g c =
+pub returns-in-After : goal.returns-in-After
+returns-in-After g c =
     let old = g.W.Write.contents c.args.writer.now in
     let new = g.W.Write.contents c.put_line-in-After.new.writer in
-    subst (λ (why : Why). OnOk c.put_line-in-After.result (Appends old new (line (reason_end why)))) (sym c.in-After.is)
-    (subst (λ (text : List ℕ). OnOk c.put_line-in-After.result (Appends old new text)) (λ i. line (codes "\\nafter t" ∷ decimal (c.thread_number.ensures i) ∷ codes " " ∷ decimal c.in-After.section ∷ codes "\", style=filled, fillcolor=orange]" ∷ [])) c.put_line-in-After.ensures.ok)
+    record {
+      ok = subst (λ (why : Why). OnOk c.put_line-in-After.result (Appends old new (line (reason_end why)))) (sym c.in-After.is)
+          (subst (λ (text : List ℕ). OnOk c.put_line-in-After.result (Appends old new text)) (λ i. line (codes "\\nafter t" ∷ decimal (c.thread_number.ensures i) ∷ codes " " ∷ decimal c.in-After.section ∷ codes "\", style=filled, fillcolor=orange]" ∷ [])) c.put_line-in-After.ensures.ok);
+      part = subst (λ (why : Why). OnErr c.put_line-in-After.result (AppendsPart old new (line (reason_end why)))) (sym c.in-After.is)
+          (subst (λ (text : List ℕ). OnErr c.put_line-in-After.result (AppendsPart old new text)) (λ i. line (codes "\\nafter t" ∷ decimal (c.thread_number.ensures i) ∷ codes " " ∷ decimal c.in-After.section ∷ codes "\", style=filled, fillcolor=orange]" ∷ [])) c.put_line-in-After.ensures.part);
+    }
 
-pub returns-in-After-clause-part : goal.returns-in-After-clause-part
-returns-in-After-clause-part g c =
-    let old = g.W.Write.contents c.args.writer.now in
-    let new = g.W.Write.contents c.put_line-in-After.new.writer in
-    subst (λ (why : Why). OnErr c.put_line-in-After.result (AppendsPart old new (line (reason_end why)))) (sym c.in-After.is)
-    (subst (λ (text : List ℕ). OnErr c.put_line-in-After.result (AppendsPart old new text)) (λ i. line (codes "\\nafter t" ∷ decimal (c.thread_number.ensures i) ∷ codes " " ∷ decimal c.in-After.section ∷ codes "\", style=filled, fillcolor=orange]" ∷ [])) c.put_line-in-After.ensures.part)
-
-pub returns-in-Unfinished-clause-ok : goal.returns-in-Unfinished-clause-ok
-returns-in-Unfinished-clause-ok g c =
+pub returns-in-Unfinished : goal.returns-in-Unfinished
+returns-in-Unfinished g c =
     let old = g.W.Write.contents c.args.writer.now in
     let new = g.W.Write.contents c.put_line.new.writer in
-    subst (λ (why : Why). OnOk c.put_line.result (Appends old new (line (reason_end why)))) (sym c.in-Unfinished.is) c.put_line.ensures.ok
+    record {
+      ok = subst (λ (why : Why). OnOk c.put_line.result (Appends old new (line (reason_end why)))) (sym c.in-Unfinished.is) c.put_line.ensures.ok;
+      part = subst (λ (why : Why). OnErr c.put_line.result (AppendsPart old new (line (reason_end why)))) (sym c.in-Unfinished.is) c.put_line.ensures.part;
+    }
 
-pub returns-in-Unfinished-clause-part : goal.returns-in-Unfinished-clause-part
-returns-in-Unfinished-clause-part g c =
-    let old = g.W.Write.contents c.args.writer.now in
-    let new = g.W.Write.contents c.put_line.new.writer in
-    subst (λ (why : Why). OnErr c.put_line.result (AppendsPart old new (line (reason_end why)))) (sym c.in-Unfinished.is) c.put_line.ensures.part
-
-pub returns-in-Unsettled-clause-ok : goal.returns-in-Unsettled-clause-ok
-returns-in-Unsettled-clause-ok g c =
+pub returns-in-Unsettled : goal.returns-in-Unsettled
+returns-in-Unsettled g c =
     let old = g.W.Write.contents c.args.writer.now in
     let new = g.W.Write.contents c.put_line-in-Unsettled.new.writer in
-    subst (λ (why : Why). OnOk c.put_line-in-Unsettled.result (Appends old new (line (reason_end why)))) (sym c.in-Unsettled.is) c.put_line-in-Unsettled.ensures.ok
-
-pub returns-in-Unsettled-clause-part : goal.returns-in-Unsettled-clause-part
-returns-in-Unsettled-clause-part g c =
-    let old = g.W.Write.contents c.args.writer.now in
-    let new = g.W.Write.contents c.put_line-in-Unsettled.new.writer in
-    subst (λ (why : Why). OnErr c.put_line-in-Unsettled.result (AppendsPart old new (line (reason_end why)))) (sym c.in-Unsettled.is) c.put_line-in-Unsettled.ensures.part
+    record {
+      ok = subst (λ (why : Why). OnOk c.put_line-in-Unsettled.result (Appends old new (line (reason_end why)))) (sym c.in-Unsettled.is) c.put_line-in-Unsettled.ensures.ok;
+      part = subst (λ (why : Why). OnErr c.put_line-in-Unsettled.result (AppendsPart old new (line (reason_end why)))) (sym c.in-Unsettled.is) c.put_line-in-Unsettled.ensures.part;
+    }

@@ -1,4 +1,4 @@
-use Rattle.std.proofs.Common.{ℕ, ◌≡◌, ◌+◌, ◌∙◌, Bool, true, false, List, [], ◌∷◌, sym, subst, OnOk, OnErr}
+use Rattle.std.proofs.Common.{rules, ℕ, ◌≡◌, ◌+◌, ◌∙◌, Bool, true, false, List, [], ◌∷◌, sym, subst, OnOk, OnErr}
 use Rattle.std.specs.Io.KnownBytes.{Appends}
 use Rattle.std.proofs.KnownBytes.{Appends-nil}
 use Rattle.recover_logs.specs.Lanes.{ends_at}
@@ -14,30 +14,27 @@ use Rattle.inspect.proofs.sections.put_ended.Goals as goal
 abbrev section_of : (records : ℕ) → SectionId → Section
 section_of records id = record { id = id; is_whole = true; records = records }
 
-pub returns-then-not-ends-clause-ok : goal.returns-then-not-ends-clause-ok
-returns-then-not-ends-clause-ok g c =
+pub returns-then-not-ends : goal.returns-then-not-ends
+returns-then-not-ends g c =
     let text = section_text c.args.form c.args.numbering in
     let old = g.W.Write.contents c.args.writer.now in
     let section : Section = section_of (c.args.gone.since + 1) (section_id c.args.numbering c.args.gone.ended) in
     let none : ends_at c.args.entry c.args.gone.held ≡ false = sym c.ends.ensures ∙ c.if-not-ends.true in
-    subst (Appends old old) (sym (none_else text (ends_at c.args.entry c.args.gone.held) (section ∷ []) none)) (Appends-nil old)
+    record {
+      ok = subst (Appends old old) (sym (none_else text (ends_at c.args.entry c.args.gone.held) (section ∷ []) none)) (Appends-nil old);
+      part = search rules;
+    }
 
-pub returns-clause-ok : goal.returns-clause-ok
-returns-clause-ok g c =
+pub returns : goal.returns
+returns g c =
     let text = section_text c.args.form c.args.numbering in
     let old = g.W.Write.contents c.args.writer.now in
     let new = g.W.Write.contents c.put_section.new.writer in
     let section : Section = section_of (c.args.gone.since + 1) (section_id c.args.numbering c.args.gone.ended) in
     let some : ends_at c.args.entry c.args.gone.held ≡ true = sym c.ends.ensures ∙ c.if-not-ends.false in
-    subst (λ (t : List ℕ). OnOk c.put_section.result (Appends old new t)) (sym (one_then text (ends_at c.args.entry c.args.gone.held) section some))
-    (subst (λ (id : SectionId). OnOk c.put_section.result (Appends old new (text (section_of (c.args.gone.since + 1) id)))) c.section.ensures c.put_section.ensures.ok)
-
-pub returns-clause-part : goal.returns-clause-part
-returns-clause-part g c =
-    let text = section_text c.args.form c.args.numbering in
-    let old = g.W.Write.contents c.args.writer.now in
-    let new = g.W.Write.contents c.put_section.new.writer in
-    let section : Section = section_of (c.args.gone.since + 1) (section_id c.args.numbering c.args.gone.ended) in
-    let some : ends_at c.args.entry c.args.gone.held ≡ true = sym c.ends.ensures ∙ c.if-not-ends.false in
-    subst (λ (t : List ℕ). OnErr c.put_section.result (AppendsPart old new t)) (sym (one_then text (ends_at c.args.entry c.args.gone.held) section some))
-    (subst (λ (id : SectionId). OnErr c.put_section.result (AppendsPart old new (text (section_of (c.args.gone.since + 1) id)))) c.section.ensures c.put_section.ensures.part)
+    record {
+      ok = subst (λ (t : List ℕ). OnOk c.put_section.result (Appends old new t)) (sym (one_then text (ends_at c.args.entry c.args.gone.held) section some))
+          (subst (λ (id : SectionId). OnOk c.put_section.result (Appends old new (text (section_of (c.args.gone.since + 1) id)))) c.section.ensures c.put_section.ensures.ok);
+      part = subst (λ (t : List ℕ). OnErr c.put_section.result (AppendsPart old new t)) (sym (one_then text (ends_at c.args.entry c.args.gone.held) section some))
+          (subst (λ (id : SectionId). OnErr c.put_section.result (AppendsPart old new (text (section_of (c.args.gone.since + 1) id)))) c.section.ensures c.put_section.ensures.part);
+    }

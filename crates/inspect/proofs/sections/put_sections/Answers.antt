@@ -1,4 +1,4 @@
-use Rattle.std.proofs.Common.{length, arith, reverse, sym, subst, List}
+use Rattle.std.proofs.Common.{rules, length, arith, reverse, sym, subst, List}
 use Rattle.std.specs.List.{flat_map}
 use Rattle.std.specs.Io.KnownBytes.{Appends}
 use Rattle.std.proofs.KnownBytes.{Appends-trans}
@@ -23,8 +23,8 @@ put_unfinished-requires g c =
     let counted : Few c.in_ok-gone.gone (length xs) = subst (λ (p : LaneCount). Few p (length xs)) (sym c.in_ok-gone.ensures.count) all in
     record { number = omega (arith, counted.ended) }
 
-pub returns-clause-ok : goal.returns-clause-ok
-returns-clause-ok g c =
+pub returns : goal.returns
+returns g c =
     let text = section_text c.args.form c.args.numbering in
     let xs : List UndoRecord = reverse c.args.records.now in
     let whole : List Section = whole_sections c.args.numbering xs in
@@ -32,29 +32,24 @@ returns-clause-ok g c =
     let old = g.W.Write.contents c.args.writer.now in
     let mid = g.W.Write.contents c.put_whole_sections.new.writer in
     let new = g.W.Write.contents c.put_unfinished.new.writer in
-    on_ok_weaker c.put_unfinished.result (λ (more : Appends mid new (flat_map text (unfinished_section c.args.numbering c.in_ok-gone.gone))).
-    subst (Appends old new) (sym (flat_map-append text whole last)) (Appends-trans old mid new (flat_map text whole) (flat_map text last) c.in_ok-gone.ensures.ok
-    (subst (λ (p : LaneCount). Appends mid new (flat_map text (unfinished_section c.args.numbering p))) c.in_ok-gone.ensures.count more))) c.put_unfinished.ensures.ok
+    record {
+      ok = on_ok_weaker c.put_unfinished.result (λ (more : Appends mid new (flat_map text (unfinished_section c.args.numbering c.in_ok-gone.gone))).
+          subst (Appends old new) (sym (flat_map-append text whole last)) (Appends-trans old mid new (flat_map text whole) (flat_map text last) c.in_ok-gone.ensures.written.ok
+          (subst (λ (p : LaneCount). Appends mid new (flat_map text (unfinished_section c.args.numbering p))) c.in_ok-gone.ensures.count more))) c.put_unfinished.ensures.ok;
+      part = on_err_weaker c.put_unfinished.result (λ (more : AppendsPart mid new (flat_map text (unfinished_section c.args.numbering c.in_ok-gone.gone))).
+          subst (AppendsPart old new) (sym (flat_map-append text whole last)) (part_second old mid new (flat_map text whole) (flat_map text last) c.in_ok-gone.ensures.written.ok
+          (subst (λ (p : LaneCount). AppendsPart mid new (flat_map text (unfinished_section c.args.numbering p))) c.in_ok-gone.ensures.count more))) c.put_unfinished.ensures.part;
+    }
 
-pub returns-clause-part : goal.returns-clause-part
-returns-clause-part g c =
+pub returns-in_err-gone : goal.returns-in_err-gone
+returns-in_err-gone g c =
     let text = section_text c.args.form c.args.numbering in
     let xs : List UndoRecord = reverse c.args.records.now in
     let whole : List Section = whole_sections c.args.numbering xs in
     let last : List Section = unfinished_section c.args.numbering (count_of xs) in
     let old = g.W.Write.contents c.args.writer.now in
     let mid = g.W.Write.contents c.put_whole_sections.new.writer in
-    let new = g.W.Write.contents c.put_unfinished.new.writer in
-    on_err_weaker c.put_unfinished.result (λ (more : AppendsPart mid new (flat_map text (unfinished_section c.args.numbering c.in_ok-gone.gone))).
-    subst (AppendsPart old new) (sym (flat_map-append text whole last)) (part_second old mid new (flat_map text whole) (flat_map text last) c.in_ok-gone.ensures.ok
-    (subst (λ (p : LaneCount). AppendsPart mid new (flat_map text (unfinished_section c.args.numbering p))) c.in_ok-gone.ensures.count more))) c.put_unfinished.ensures.part
-
-pub returns-in_err-gone-clause-part : goal.returns-in_err-gone-clause-part
-returns-in_err-gone-clause-part g c =
-    let text = section_text c.args.form c.args.numbering in
-    let xs : List UndoRecord = reverse c.args.records.now in
-    let whole : List Section = whole_sections c.args.numbering xs in
-    let last : List Section = unfinished_section c.args.numbering (count_of xs) in
-    let old = g.W.Write.contents c.args.writer.now in
-    let mid = g.W.Write.contents c.put_whole_sections.new.writer in
-    always c.from_residual.result (subst (AppendsPart old mid) (sym (flat_map-append text whole last)) (part_first old mid (flat_map text whole) (flat_map text last) c.in_err-gone.ensures.part))
+    record {
+      ok = search rules;
+      part = always c.from_residual.result (subst (AppendsPart old mid) (sym (flat_map-append text whole last)) (part_first old mid (flat_map text whole) (flat_map text last) c.in_err-gone.ensures.written.part));
+    }

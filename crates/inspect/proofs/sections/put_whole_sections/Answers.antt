@@ -1,4 +1,4 @@
-use Rattle.std.proofs.Common.{◌<◌, length, arith, take, reverse, sym, ap, subst, ◌∙◌, get_or, List}
+use Rattle.std.proofs.Common.{rules, ◌<◌, length, arith, take, reverse, sym, ap, subst, ◌∙◌, get_or, List}
 use Rattle.std.specs.List.{flat_map}
 use Rattle.std.specs.Io.KnownBytes.{Appends}
 use Rattle.heap_model.specs.declared.record.UndoRecord.{UndoRecord}
@@ -43,8 +43,8 @@ loop-entry-preserved g c =
       written = next_told (ended_by c.args.numbering) text xs i lt (g.W.Write.contents c.args.writer.now) w new c.loop-entry.invariant.written next;
     }
 
-pub returns-in_err-put_ended-clause-part : goal.returns-in_err-put_ended-clause-part
-returns-in_err-put_ended-clause-part g c =
+pub returns-in_err-put_ended-clause-written : goal.returns-in_err-put_ended-clause-written
+returns-in_err-put_ended-clause-written g c =
     let i = c.loop-entry.entry-index in
     let xs : List UndoRecord = c.args.records.now in
     let lt : i < length xs = c.loop-entry-test.true in
@@ -53,7 +53,10 @@ returns-in_err-put_ended-clause-part g c =
     let new = g.W.Write.contents c.put_ended.new.writer in
     let next : AppendsPart w new (flat_map text (ended_by c.args.numbering (count_of (reverse (take i xs))) (get_or xs i none))) =
     subst (λ (p : LaneCount). AppendsPart w new (flat_map text (ended_by c.args.numbering p (get_or xs i none)))) c.loop-entry.invariant.gone c.in_err-put_ended.ensures.part in
-    always c.from_residual.result (part_told (ended_by c.args.numbering) text xs i lt (g.W.Write.contents c.args.writer.now) w new c.loop-entry.invariant.written next)
+    record {
+      ok = search rules;
+      part = always c.from_residual.result (part_told (ended_by c.args.numbering) text xs i lt (g.W.Write.contents c.args.writer.now) w new c.loop-entry.invariant.written next);
+    }
 
 pub loop-entry-init : goal.loop-entry-init
 loop-entry-init g c = record { gone = c.new-gone.ensures; written = Appends-nil (g.W.Write.contents c.args.writer.now) }

@@ -1,4 +1,4 @@
-use Rattle.std.proofs.Common.{ℕ, ◌≡◌, reverse, ap, subst, ◌∙◌, List, Option}
+use Rattle.std.proofs.Common.{rules, ℕ, ◌≡◌, reverse, ap, subst, ◌∙◌, List, Option}
 use Rattle.std.specs.List.{flat_map}
 use Rattle.std.specs.Io.KnownBytes.{Appends}
 use Rattle.heap_model.specs.declared.record.UndoRecord.{UndoRecord}
@@ -14,8 +14,8 @@ use Rattle.inspect.proofs.PartLemmas.{always}
 use Rattle.inspect.proofs.LaneLemmas.{next_lane, part_lane}
 use Rattle.inspect.proofs.study_lines.put_all_links.Goals as goal
 
-pub returns-in_err-put_links-clause-part : goal.returns-in_err-put_links-clause-part
-returns-in_err-put_links-clause-part g c =
+pub returns-in_err-put_links : goal.returns-in_err-put_links
+returns-in_err-put_links g c =
     let s = c.args.study.now in
     let l = c.loop-lane.lane in
     let tell = λ (lane : ℕ). flat_map (link_text c.args.form) (links_in s lane) in
@@ -27,7 +27,10 @@ returns-in_err-put_links-clause-part g c =
     let part : AppendsPart mid new (tell l) =
     subst (λ (xs : List UndoRecord). AppendsPart mid new (flat_map (link_text c.args.form) (told (linked_by (releaser_in (releases_of s)) (numbering_of s l)) (reverse xs)))) records
     (subst (λ (n : Numbering). AppendsPart mid new (flat_map (link_text c.args.form) (told (linked_by (releaser_in (releases_of s)) n) (reverse c.records_in.result.now)))) c.lane_numbering-numbering.ensures (subst (λ (find : ℕ → ℕ → Option SectionId). AppendsPart mid new (flat_map (link_text c.args.form) (told (linked_by find c.lane_numbering-numbering.result) (reverse c.records_in.result.now)))) found c.in_err-put_links.ensures.part)) in
-    always c.from_residual.result (part_lane tell l old mid new s.layout.lanes c.loop-lane-test.true c.loop-lane.invariant part)
+    record {
+      ok = search rules;
+      part = always c.from_residual.result (part_lane tell l old mid new s.layout.lanes c.loop-lane-test.true c.loop-lane.invariant part);
+    }
 
 pub loop-lane-preserved : goal.loop-lane-preserved
 loop-lane-preserved g c =

@@ -1,4 +1,4 @@
-use Rattle.std.proofs.Common.{List, [], ◌∷◌, subst}
+use Rattle.std.proofs.Common.{rules, List, [], ◌∷◌, subst}
 use Rattle.std.specs.Io.KnownBytes.{Appends}
 use Rattle.std.proofs.lemmas.Result.{on_ok_weaker, on_err_weaker}
 use Rattle.image_parts.specs.declared.guard_row.GuardRow.{GuardRow}
@@ -8,29 +8,20 @@ use Rattle.inspect.specs.TransientText.{transient_line}
 use Rattle.inspect.proofs.PartLemmas.{always, all_later, all_last, part_here, part_later}
 use Rattle.inspect.proofs.study_lines.put_head.Goals as goal
 
-pub returns-in_err-put_image-clause-part : goal.returns-in_err-put_image-clause-part
-returns-in_err-put_image-clause-part g c =
+pub returns-in_err-put_image : goal.returns-in_err-put_image
+returns-in_err-put_image g c =
     let s = c.args.study.now in
     let image = image_line s.layout in
     let control = control_line s.slot s.control in
     let marks = transient_line s.guards.items in
     let lanes = lane_lines s.layout.lanes s.control.rows in
-    always c.from_residual.result (part_here (g.W.Write.contents c.args.writer.now) (g.W.Write.contents c.put_image.new.writer) image (control ∷ marks ∷ lanes ∷ []) c.in_err-put_image.ensures.part)
+    record {
+      ok = search rules;
+      part = always c.from_residual.result (part_here (g.W.Write.contents c.args.writer.now) (g.W.Write.contents c.put_image.new.writer) image (control ∷ marks ∷ lanes ∷ []) c.in_err-put_image.ensures.part);
+    }
 
-pub returns-in_err-put_control-clause-part : goal.returns-in_err-put_control-clause-part
-returns-in_err-put_control-clause-part g c =
-    let s = c.args.study.now in
-    let image = image_line s.layout in
-    let control = control_line s.slot s.control in
-    let marks = transient_line s.guards.items in
-    let lanes = lane_lines s.layout.lanes s.control.rows in
-    let old = g.W.Write.contents c.args.writer.now in
-    let one = g.W.Write.contents c.put_image.new.writer in
-    let two = g.W.Write.contents c.put_control.new.writer in
-    always c.from_residual-in_err-put_control.result (part_later old one two image (control ∷ marks ∷ lanes ∷ []) c.in_ok-put_image.ensures.ok (part_here one two control (marks ∷ lanes ∷ []) c.in_err-put_control.ensures.part))
-
-pub returns-in_err-put_transients-clause-part : goal.returns-in_err-put_transients-clause-part
-returns-in_err-put_transients-clause-part g c =
+pub returns-in_err-put_control : goal.returns-in_err-put_control
+returns-in_err-put_control g c =
     let s = c.args.study.now in
     let image = image_line s.layout in
     let control = control_line s.slot s.control in
@@ -39,13 +30,13 @@ returns-in_err-put_transients-clause-part g c =
     let old = g.W.Write.contents c.args.writer.now in
     let one = g.W.Write.contents c.put_image.new.writer in
     let two = g.W.Write.contents c.put_control.new.writer in
-    let three = g.W.Write.contents c.put_transients.new.writer in
-    always c.from_residual-in_err-put_transients.result (part_later old one three image (control ∷ marks ∷ lanes ∷ []) c.in_ok-put_image.ensures.ok
-    (part_later one two three control (marks ∷ lanes ∷ []) c.in_ok-put_control.ensures.ok (part_here two three marks (lanes ∷ [])
-    (subst (λ (rows : List GuardRow). AppendsPart two three (transient_line rows)) c.deref.ensures.value c.in_err-put_transients.ensures.part))))
+    record {
+      ok = search rules;
+      part = always c.from_residual-in_err-put_control.result (part_later old one two image (control ∷ marks ∷ lanes ∷ []) c.in_ok-put_image.ensures.ok (part_here one two control (marks ∷ lanes ∷ []) c.in_err-put_control.ensures.part));
+    }
 
-pub returns-clause-ok : goal.returns-clause-ok
-returns-clause-ok g c =
+pub returns-in_err-put_transients : goal.returns-in_err-put_transients
+returns-in_err-put_transients g c =
     let s = c.args.study.now in
     let image = image_line s.layout in
     let control = control_line s.slot s.control in
@@ -55,14 +46,15 @@ returns-clause-ok g c =
     let one = g.W.Write.contents c.put_image.new.writer in
     let two = g.W.Write.contents c.put_control.new.writer in
     let three = g.W.Write.contents c.put_transients.new.writer in
-    let four = g.W.Write.contents c.put_lanes.new.writer in
-    let told : Appends two three marks = subst (λ (rows : List GuardRow). Appends two three (transient_line rows)) c.deref.ensures.value c.in_ok-put_transients.ensures.ok in
-    on_ok_weaker c.put_lanes.result (λ (last : Appends three four lanes). all_later old one four image (control ∷ marks ∷ lanes ∷ []) c.in_ok-put_image.ensures.ok
-    (all_later one two four control (marks ∷ lanes ∷ []) c.in_ok-put_control.ensures.ok
-    (all_later two three four marks (lanes ∷ []) told (all_last three four lanes last)))) c.put_lanes.ensures.ok
+    record {
+      ok = search rules;
+      part = always c.from_residual-in_err-put_transients.result (part_later old one three image (control ∷ marks ∷ lanes ∷ []) c.in_ok-put_image.ensures.ok
+          (part_later one two three control (marks ∷ lanes ∷ []) c.in_ok-put_control.ensures.ok (part_here two three marks (lanes ∷ [])
+          (subst (λ (rows : List GuardRow). AppendsPart two three (transient_line rows)) c.deref.ensures.value c.in_err-put_transients.ensures.part))));
+    }
 
-pub returns-clause-part : goal.returns-clause-part
-returns-clause-part g c =
+pub returns : goal.returns
+returns g c =
     let s = c.args.study.now in
     let image = image_line s.layout in
     let control = control_line s.slot s.control in
@@ -74,6 +66,11 @@ returns-clause-part g c =
     let three = g.W.Write.contents c.put_transients.new.writer in
     let four = g.W.Write.contents c.put_lanes.new.writer in
     let told : Appends two three marks = subst (λ (rows : List GuardRow). Appends two three (transient_line rows)) c.deref.ensures.value c.in_ok-put_transients.ensures.ok in
-    on_err_weaker c.put_lanes.result (λ (last : AppendsPart three four lanes). part_later old one four image (control ∷ marks ∷ lanes ∷ []) c.in_ok-put_image.ensures.ok
-    (part_later one two four control (marks ∷ lanes ∷ []) c.in_ok-put_control.ensures.ok
-    (part_later two three four marks (lanes ∷ []) told (part_here three four lanes [] last)))) c.put_lanes.ensures.part
+    record {
+      ok = on_ok_weaker c.put_lanes.result (λ (last : Appends three four lanes). all_later old one four image (control ∷ marks ∷ lanes ∷ []) c.in_ok-put_image.ensures.ok
+          (all_later one two four control (marks ∷ lanes ∷ []) c.in_ok-put_control.ensures.ok
+          (all_later two three four marks (lanes ∷ []) told (all_last three four lanes last)))) c.put_lanes.ensures.ok;
+      part = on_err_weaker c.put_lanes.result (λ (last : AppendsPart three four lanes). part_later old one four image (control ∷ marks ∷ lanes ∷ []) c.in_ok-put_image.ensures.ok
+          (part_later one two four control (marks ∷ lanes ∷ []) c.in_ok-put_control.ensures.ok
+          (part_later two three four marks (lanes ∷ []) told (part_here three four lanes [] last)))) c.put_lanes.ensures.part;
+    }

@@ -5,16 +5,14 @@ use Rattle.inspect.specs.Written.{AppendsPart}
 use Rattle.inspect.specs.Pieces.{line}
 use Rattle.inspect.proofs.study_lines.put_image.Goals as goal
 
-pub returns-clause-ok : goal.returns-clause-ok
-returns-clause-ok g c =
-    subst (λ (text : List ℕ). OnOk c.put_line.result (Appends (g.W.Write.contents c.args.writer.now) (g.W.Write.contents c.put_line.new.writer) text))
-    (λ i. line (codes "image lanes " ∷ decimal (c.from.ensures i) ∷ codes " capacity " ∷ decimal (c.from-2.ensures i) ∷ codes " objects " ∷ decimal (c.from-3.ensures i)
-    ∷ codes " fields " ∷ decimal (c.from-4.ensures i) ∷ codes " size " ∷ decimal (c.size.ensures i) ∷ []))
-    c.put_line.ensures.ok
-
-pub returns-clause-part : goal.returns-clause-part
-returns-clause-part g c =
-    subst (λ (text : List ℕ). OnErr c.put_line.result (AppendsPart (g.W.Write.contents c.args.writer.now) (g.W.Write.contents c.put_line.new.writer) text))
-    (λ i. line (codes "image lanes " ∷ decimal (c.from.ensures i) ∷ codes " capacity " ∷ decimal (c.from-2.ensures i) ∷ codes " objects " ∷ decimal (c.from-3.ensures i)
-    ∷ codes " fields " ∷ decimal (c.from-4.ensures i) ∷ codes " size " ∷ decimal (c.size.ensures i) ∷ []))
-    c.put_line.ensures.part
+pub returns : goal.returns
+returns g c = record {
+  ok = subst (λ (text : List ℕ). OnOk c.put_line.result (Appends (g.W.Write.contents c.args.writer.now) (g.W.Write.contents c.put_line.new.writer) text))
+      (λ i. line (codes "image lanes " ∷ decimal (c.from.ensures i) ∷ codes " capacity " ∷ decimal (c.from-2.ensures i) ∷ codes " objects " ∷ decimal (c.from-3.ensures i)
+      ∷ codes " fields " ∷ decimal (c.from-4.ensures i) ∷ codes " size " ∷ decimal (c.size.ensures i) ∷ []))
+      c.put_line.ensures.ok;
+  part = subst (λ (text : List ℕ). OnErr c.put_line.result (AppendsPart (g.W.Write.contents c.args.writer.now) (g.W.Write.contents c.put_line.new.writer) text))
+      (λ i. line (codes "image lanes " ∷ decimal (c.from.ensures i) ∷ codes " capacity " ∷ decimal (c.from-2.ensures i) ∷ codes " objects " ∷ decimal (c.from-3.ensures i)
+      ∷ codes " fields " ∷ decimal (c.from-4.ensures i) ∷ codes " size " ∷ decimal (c.size.ensures i) ∷ []))
+      c.put_line.ensures.part;
+}

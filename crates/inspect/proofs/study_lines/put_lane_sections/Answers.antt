@@ -9,22 +9,16 @@ use Rattle.inspect.specs.Sections.{numbering_of, live_sections}
 use Rattle.inspect.specs.SectionText.{section_text}
 use Rattle.inspect.proofs.study_lines.put_lane_sections.Goals as goal
 
-pub returns-clause-ok : goal.returns-clause-ok
-returns-clause-ok g c =
+pub returns : goal.returns
+returns g c =
     let s = c.args.study.now in
     let l = c.args.lane.0 in
     let old = g.W.Write.contents c.args.writer.now in
     let new = g.W.Write.contents c.put_sections.new.writer in
     let records : c.records_in.result.now ≡ records_of s.records.items l = c.records_in.ensures ∙ ap (λ logs. records_of logs l) c.deref.ensures.value in
-    subst (λ (xs : List UndoRecord). OnOk c.put_sections.result (Appends old new (flat_map (section_text c.args.form (numbering_of s l)) (live_sections (numbering_of s l) (reverse xs))))) records
-    (subst (λ (n : Numbering). OnOk c.put_sections.result (Appends old new (flat_map (section_text c.args.form n) (live_sections n (reverse c.records_in.result.now))))) c.lane_numbering-numbering.ensures c.put_sections.ensures.ok)
-
-pub returns-clause-part : goal.returns-clause-part
-returns-clause-part g c =
-    let s = c.args.study.now in
-    let l = c.args.lane.0 in
-    let old = g.W.Write.contents c.args.writer.now in
-    let new = g.W.Write.contents c.put_sections.new.writer in
-    let records : c.records_in.result.now ≡ records_of s.records.items l = c.records_in.ensures ∙ ap (λ logs. records_of logs l) c.deref.ensures.value in
-    subst (λ (xs : List UndoRecord). OnErr c.put_sections.result (AppendsPart old new (flat_map (section_text c.args.form (numbering_of s l)) (live_sections (numbering_of s l) (reverse xs))))) records
-    (subst (λ (n : Numbering). OnErr c.put_sections.result (AppendsPart old new (flat_map (section_text c.args.form n) (live_sections n (reverse c.records_in.result.now))))) c.lane_numbering-numbering.ensures c.put_sections.ensures.part)
+    record {
+      ok = subst (λ (xs : List UndoRecord). OnOk c.put_sections.result (Appends old new (flat_map (section_text c.args.form (numbering_of s l)) (live_sections (numbering_of s l) (reverse xs))))) records
+          (subst (λ (n : Numbering). OnOk c.put_sections.result (Appends old new (flat_map (section_text c.args.form n) (live_sections n (reverse c.records_in.result.now))))) c.lane_numbering-numbering.ensures c.put_sections.ensures.ok);
+      part = subst (λ (xs : List UndoRecord). OnErr c.put_sections.result (AppendsPart old new (flat_map (section_text c.args.form (numbering_of s l)) (live_sections (numbering_of s l) (reverse xs))))) records
+          (subst (λ (n : Numbering). OnErr c.put_sections.result (AppendsPart old new (flat_map (section_text c.args.form n) (live_sections n (reverse c.records_in.result.now))))) c.lane_numbering-numbering.ensures c.put_sections.ensures.part);
+    }
