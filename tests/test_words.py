@@ -233,6 +233,17 @@ class Workers(Played):
         self.changes(FORMAT, FORMATTED)
         self.fails("drive --image {image}", FAULT, "other schema", "image")
 
+    def test_other_workers_are_told_how_many_an_image_is_for(self):
+        """An image of two workers has two lanes, or three: one is the helper's then."""
+        self.changes("drive --rounds 20 --image {image}", "acknowledged 20 20\nheap 40 20 20\n")
+        theirs = self.folder / "theirs"
+        theirs.write_text(self.play("dump --image {image}").out)
+        self.fails("drive --workers 3 --image {image}", FAULT, "other schema", "of 2 workers, not of 3; type --workers 2")
+        self.assertEqual(self.play("format --image {image} --schema {folder}/theirs --lanes 3 --force").status, 0)
+        self.fails("drive --workers 3 --image {image}", FAULT, "other schema", "of 2 workers, not of 3; type --workers 2")
+        self.changes("drive --rounds 20 --image {image}", "acknowledged 20 20\nheap 80 40 40\n")
+        theirs.unlink()
+
 
 class TwoPlaces(Played):
     """Words on images in two places: they do what they do on one in one place."""

@@ -320,9 +320,12 @@ where
     };
     let layout = head.layout;
     let (lanes, objects, fields) = (layout.lanes, layout.objects, layout.fields);
-    if objects == u32::from(lanes) + 1 && fields == objects && lanes != *workers {
+    // So many workers have an object and a field each and one more, and a lane each; the helper may have one of its own.
+    let others = objects.saturating_sub(1);
+    let has_lanes = u32::from(lanes) == others || u32::from(lanes) == objects;
+    if others > 0 && has_lanes && fields == objects && others != u32::from(*workers) {
         let _ = eprintln!(rt;
-            "heapctl: {image}: it is an image of {lanes} workers, not of {workers}; type --workers {lanes}"
+            "heapctl: {image}: it is an image of {others} workers, not of {workers}; type --workers {others}"
         );
     } else {
         let _ = eprintln!(rt;
