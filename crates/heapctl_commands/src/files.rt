@@ -1,7 +1,7 @@
 //! Workers on the image at a path.
 ghost use Rattle.std.specs.Prelude.{false, IfErr, IfOk};
 ghost use Rattle.heapctl_commands.specs.Faults.{HasNoDisk, HasNoImage, RefusesAt};
-ghost use Rattle.image_file.specs.Beside.{KeepsBeside, LeavesBeside};
+ghost use Rattle.image_file.specs.Beside.{KeepsBeside, LeavesBesideIt};
 ghost use Rattle.heapctl_commands.specs.Telling.{BeginsAt, DrivesAt, IsMadeAt, LeavesAt};
 
 use crate::fault::WorkFault;
@@ -70,8 +70,7 @@ where
     D: Disk + Drop,
     P: Images<Medium = D>,
     ensures left { LeavesAt D.device left (P.holds images.new path.now) }
-    ensures beside { LeavesBeside path.now (P.holds images.old) (P.holds images.new) (P.lies images.old)
-        (P.lies images.new) }
+    ensures beside { LeavesBesideIt path.now P.holds P.lies images.old images.new }
 {
     images.close(path, left.into_disk());
 }

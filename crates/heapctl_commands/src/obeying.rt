@@ -1,7 +1,7 @@
 //! What the program's words do.
 ghost use Rattle.std.specs.Prelude.{◌≡◌};
 ghost use Rattle.heapctl_commands.specs.Beside.{PlaysBeside, Spares};
-ghost use Rattle.image_file.specs.Beside.{LeavesBeside};
+ghost use Rattle.image_file.specs.Beside.{LeavesBesideIt};
 ghost use Rattle.heapctl_commands.specs.Obeying.{DumpsPartOf, Obeys, PlaysAt, PlaysInMemory, sectors_asked, told_of_format, told_of_image, told_of_named, told_of_run, told_of_script, told_of_set, told_of_strict, told_of_values};
 
 use crate::driving::drive;
@@ -153,8 +153,7 @@ where
     W: Write,
     ensures ends { DumpsPartOf part schema.entry result (P.holds images.old image.now)
         (P.holds images.new image.now) (W.contents writer.old) (W.contents writer.new) }
-    ensures beside { LeavesBeside image.now (P.holds images.old) (P.holds images.new) (P.lies images.old)
-        (P.lies images.new) }
+    ensures beside { LeavesBesideIt image.now P.holds P.lies images.old images.new }
 {
     let alloc = rt.alloc();
     match part {

@@ -65,3 +65,12 @@ pub record KeepsBeside (is_kept : Bool) (path : List ℕ) (had has : List ℕ �
 abbrev pub MakesBeside : {T E : Type 0} (is_kept : Bool) → Result T E → (path : List ℕ) (had has : List ℕ → Option (List ℕ)) → Type 0
 MakesBeside is_kept (Ok done) path had has = KeepsBeside is_kept path had has × IsKept is_kept (had path) (had (kept_at path)) (has (kept_at path))
 MakesBeside is_kept (Err why) path had has = KeepsBeside is_kept path had has
+
+-- the same, by what images were there before and are now, and how they lay and lie
+abbrev pub LeavesBesideIt : {P : Type 0} (path : List ℕ) (holds : P → List ℕ → Option (List ℕ))
+    (lies : P → List ℕ → Option (Option SectorSize)) (old new : P) → Type 0
+LeavesBesideIt path holds lies old new = LeavesBeside path (holds old) (holds new) (lies old) (lies new)
+
+abbrev pub StaysBesideIt : {P : Type 0} (path : List ℕ) (holds : P → List ℕ → Option (List ℕ))
+    (lies : P → List ℕ → Option (Option SectorSize)) (old new : P) → Type 0
+StaysBesideIt path holds lies old new = StaysBeside path (holds old) (holds new) (lies old) (lies new)

@@ -17,3 +17,8 @@ IsLeft m held = IfSome held (λ there. Image m there)
 -- the image that was there is there still
 abbrev pub Stays : (had has : Option (List ℕ)) → Type 0
 Stays had has = IfSome had (λ was. IfSome has (λ there. there ≡ was))
+
+-- what was known to be at a path, and what is now, stand in this relation
+abbrev pub AtPath : {P : Type 0} (relation : Option (List ℕ) → Option (List ℕ) → Type 0) (holds : P → List ℕ → Option (List ℕ)) (old new : P)
+    (path : List ℕ) → Type 0
+AtPath relation holds old new path = relation (holds old path) (holds new path)

@@ -6,8 +6,8 @@ ghost use Rattle.image_parts.specs.Layout.{size_of};
 ghost use Rattle.inspect.specs.Written.{AppendsPart};
 ghost use Rattle.image_file.specs.declared.error.FormatError.TheVariants.{BadHeader, Fault};
 ghost use Rattle.store_image.specs.Formatting.{AreLimits, layout_with};
-ghost use Rattle.image_file.specs.Beside.{LeavesBeside, MakesBeside};
-ghost use Rattle.image_file.specs.Images.{IsThere};
+ghost use Rattle.image_file.specs.Beside.{MakesBeside, LeavesBesideIt};
+ghost use Rattle.image_file.specs.Images.{AtPath, IsThere};
 ghost use Rattle.image_file.specs.Formatting.{FormatsAt, IsBeforeFile, IsImageFor, IsSilent, LiesSo, MakesAt, MayBeMade, MayBlameNumbers, PrintsLess, PrintsLessOf, PrintsSize, RefusesImage, StaysOrIsMade, formatted_line, told_of_schema};
 
 use crate::error::{FileFault, FormatError};
@@ -44,8 +44,7 @@ pub fn format_image<D: Disk + Drop, P: Images<Medium = D>, S: Read, W: Write>(
     ensures ok { OnOk result (FormatsAt (DeclaresSchema (S.remaining reader.old) (S.remaining reader.new)) new (P.holds images.new path.now) (P.lies images.new path.now)
         (W.contents writer.old) (W.contents writer.new)) }
     // A refusal leaves the old image at the path, or a whole new one of some schema.
-    ensures kept { OnErr result
-        (MayBeMade new (P.holds images.old path.now) (P.holds images.new path.now)) }
+    ensures kept { OnErr result (AtPath (MayBeMade new) P.holds images.old images.new path.now) }
     // An image is refused for what is wrong with the schema file or the numbers, or by what its maker answers.
     ensures refused { IfErr result
         (λ error. RefusesImage (S.remaining reader.old) (S.remaining reader.new) new.lanes
@@ -106,8 +105,7 @@ pub fn make_image<D: Disk + Drop, P: Images<Medium = D>>(
     // A refused schema, and numbers past their limits, leave everything untouched.
     ensures untouched { IfErr result (λ error. IsBeforeFile error → images.new ≡ images.old) }
     // A refusal leaves the old image at the path, or a whole new one of this schema.
-    ensures kept { OnErr result
-        (StaysOrIsMade schema.now new (P.holds images.old path.now) (P.holds images.new path.now)) }
+    ensures kept { OnErr result (AtPath (StaysOrIsMade schema.now new) P.holds images.old images.new path.now) }
     // Nothing beside the path is lost: an image that is replaced is kept where it is to be, and else what was kept before
     // remains.
     ensures beside { MakesBeside new.is_kept result path.now (P.holds images.old) (P.holds images.new) }
@@ -145,8 +143,7 @@ fn make_in_place<D: Disk + Drop, P: Images<Medium = D>>(
     ensures there { IfOk result
         (λ made. IsThere (D.device made.0).now.bytes (P.holds images.new path.now)) }
     ensures lies { OnOk result (LiesSo new (P.lies images.new path.now)) }
-    ensures kept { OnErr result
-        (StaysOrIsMade schema.now new (P.holds images.old path.now) (P.holds images.new path.now)) }
+    ensures kept { OnErr result (AtPath (StaysOrIsMade schema.now new) P.holds images.old images.new path.now) }
     ensures beside { MakesBeside new.is_kept result path.now (P.holds images.old) (P.holds images.new) }
 {
     let (disk, layout) = match formatted(images, alloc, path, schema, new, size) {
@@ -175,8 +172,7 @@ fn formatted<D: Disk + Drop, P: Images<Medium = D>>(
     ensures ok { IfOk result (λ made. IsImageFor schema.now new made.1 (D.device made.0)) }
     ensures durable { IfOk result (λ made. (D.device made.0).now.pending ≡ []) }
     ensures same { P.holds images.new path.now ≡ P.holds images.old path.now }
-    ensures beside { LeavesBeside path.now (P.holds images.old) (P.holds images.new) (P.lies images.old)
-        (P.lies images.new) }
+    ensures beside { LeavesBesideIt path.now P.holds P.lies images.old images.new }
 {
     let disk = match images.make(alloc, path, new.sectors, size) {
         Ok(disk) => disk,
@@ -246,8 +242,7 @@ where
         (MakesAt new (P.holds images.new path.now) (P.lies images.new path.now)
         (W.contents writer.old) (W.contents writer.new)) }
     // A refusal leaves the old image at the path, or a whole new one of some schema.
-    ensures kept { OnErr result
-        (MayBeMade new (P.holds images.old path.now) (P.holds images.new path.now)) }
+    ensures kept { OnErr result (AtPath (MayBeMade new) P.holds images.old images.new path.now) }
     // A refused schema, and numbers past their limits, leave everything untouched.
     ensures untouched { IfErr result (λ error. IsBeforeFile error → images.new ≡ images.old) }
     // The numbers are blamed only where lanes or records are past their limits.

@@ -3,7 +3,7 @@ ghost use Rattle.std.specs.Prelude.{◌≡◌, ◌⊎◌, ◌↔◌, ℕ, List, 
 ghost use Rattle.block_disk.specs.Device.{Device, new_device};
 ghost use Rattle.disk_sectors.specs.declared.size.SectorSize.{SectorSize as Size};
 ghost use Rattle.disk_sector_file.specs.ImageDisks.{room_for};
-ghost use Rattle.image_file.specs.Beside.{IsKept, KeepsBeside, LeavesBeside, LiesOn, kept_at};
+ghost use Rattle.image_file.specs.Beside.{IsKept, KeepsBeside, LeavesBeside, LiesOn, LeavesBesideIt, kept_at};
 ghost use Rattle.image_file.specs.Images.{BeginsThere, IsLeft, IsThere};
 
 use crate::error::FileFault;
@@ -144,8 +144,7 @@ pub fn look_at<D: Disk + Drop, P: Images<Medium = D>>(
     ensures ok { IfOk result
         (λ (disk : Device). BeginsThere disk.now.bytes (P.holds images.old path.now)) }
     ensures same { P.holds images.new path.now ≡ P.holds images.old path.now }
-    ensures beside { LeavesBeside path.now (P.holds images.old) (P.holds images.new) (P.lies images.old)
-        (P.lies images.new) }
+    ensures beside { LeavesBesideIt path.now P.holds P.lies images.old images.new }
 {
     match images.look(alloc, path) {
         Ok(image) => Ok(VolatileDisk::holding(image)),

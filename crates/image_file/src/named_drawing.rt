@@ -1,6 +1,6 @@
 //! Drawing the sections of an image by the names of a schema file.
 ghost use Rattle.std.specs.Prelude.{◌≡◌, IfErr, OnOk};
-ghost use Rattle.image_file.specs.Beside.{LeavesBeside};
+ghost use Rattle.image_file.specs.Beside.{LeavesBesideIt};
 ghost use Rattle.image_file.specs.Drawing.{DrawsBy, DrawsThere, RefusesToDraw};
 
 use crate::error::{ImageFault, NamedFault};
@@ -46,8 +46,7 @@ where
     ensures ends { DrawsBy schema_path.entry last result (P.holds images.old path.now)
         (P.holds images.new path.now) (W.contents writer.old) (W.contents writer.new) }
     // Nothing beside the path is lost.
-    ensures beside { LeavesBeside path.now (P.holds images.old) (P.holds images.new) (P.lies images.old)
-        (P.lies images.new) }
+    ensures beside { LeavesBesideIt path.now P.holds P.lies images.old images.new }
 {
     let given = match schema_at(rt, alloc, trouble, schema_path) {
         Ok(given) => given,
@@ -74,8 +73,7 @@ fn draw_there<D: Disk + Drop, P: Images<Medium = D>, W: Write>(
         (RefusesToDraw given last (P.holds images.old path.now) (W.contents writer.old)
         (W.contents writer.new)) }
     ensures same { P.holds images.new path.now ≡ P.holds images.old path.now }
-    ensures beside { LeavesBeside path.now (P.holds images.old) (P.holds images.new) (P.lies images.old)
-        (P.lies images.new) }
+    ensures beside { LeavesBesideIt path.now P.holds P.lies images.old images.new }
 {
     let mut disk = match look_at(images, alloc, path) {
         Ok(disk) => disk,

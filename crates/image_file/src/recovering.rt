@@ -9,8 +9,8 @@ ghost use Rattle.recover_heap.specs.declared.error.RecoverError.TheVariants.{Fau
 ghost use Rattle.recover.specs.declared.studied.Study.{Study};
 ghost use Rattle.inspect.specs.ReportText.{report_text};
 ghost use Rattle.image_file.specs.declared.error.ImageFault.TheVariants.{Image};
-ghost use Rattle.image_file.specs.Beside.{LeavesBeside};
-ghost use Rattle.image_file.specs.Images.{Stays};
+ghost use Rattle.image_file.specs.Beside.{LeavesBesideIt};
+ghost use Rattle.image_file.specs.Images.{AtPath, Stays};
 ghost use Rattle.image_file.specs.Recovering.{IsOnTheWayAt, IsRecoveredAt, IsToldOf, RecoversAt};
 ghost use Rattle.image_file.specs.Telling.{MayBeRefusedBy, TellsLessOfVersions};
 
@@ -99,11 +99,10 @@ pub fn recover_at<D: Disk + Drop, P: Images<Medium = D>, W: Write>(
         (W.contents writer.old) (W.contents writer.new)) }
     // A refusal other than a fault leaves the image at the path.
     ensures kept { IfErr result
-        (λ error. error ≢ Image Fault → Stays (P.holds images.old path.now)
-        (P.holds images.new path.now)) }
+        (λ error. error ≢ Image Fault → AtPath Stays P.holds images.old images.new path.now) }
     // After any refusal, a fault too, what is at the path is the image that was there, or one on recovery's way from it,
     // of which recovery gives the same heap.
-    ensures way { OnErr result (IsOnTheWayAt (P.holds images.old path.now) (P.holds images.new path.now)) }
+    ensures way { OnErr result (AtPath IsOnTheWayAt P.holds images.old images.new path.now) }
     // A refusal other than a fault has written nothing.
     ensures silent { IfErr result
         (λ error. error ≢ Image Fault → Appends (W.contents writer.old) (W.contents writer.new) []) }
@@ -113,8 +112,7 @@ pub fn recover_at<D: Disk + Drop, P: Images<Medium = D>, W: Write>(
     // An image is refused as old only where version 1 isn't taken.
     ensures too_old { IfErr result (MayBeRefusedBy versions) }
     // Nothing beside the path is lost.
-    ensures beside { LeavesBeside path.now (P.holds images.old) (P.holds images.new) (P.lies images.old)
-        (P.lies images.new) }
+    ensures beside { LeavesBesideIt path.now P.holds P.lies images.old images.new }
 {
     let told = match recovered_at(images, alloc, versions, path) {
         Ok(told) => told,
@@ -136,12 +134,10 @@ fn recovered_at<D: Disk + Drop, P: Images<Medium = D>>(
     ensures ok { IfOk result (λ told. IsRecoveredAt versions (P.holds images.old path.now) (P.holds images.new path.now)
         (report_text told.report told.heap.items told.lanes)) }
     ensures kept { IfErr result
-        (λ error. error ≢ Image Fault → Stays (P.holds images.old path.now)
-        (P.holds images.new path.now)) }
-    ensures way { OnErr result (IsOnTheWayAt (P.holds images.old path.now) (P.holds images.new path.now)) }
+        (λ error. error ≢ Image Fault → AtPath Stays P.holds images.old images.new path.now) }
+    ensures way { OnErr result (AtPath IsOnTheWayAt P.holds images.old images.new path.now) }
     ensures too_old { IfErr result (MayBeRefusedBy versions) }
-    ensures beside { LeavesBeside path.now (P.holds images.old) (P.holds images.new) (P.lies images.old)
-        (P.lies images.new) }
+    ensures beside { LeavesBesideIt path.now P.holds P.lies images.old images.new }
 {
     let disk = match images.open(alloc, path) {
         Ok(disk) => disk,

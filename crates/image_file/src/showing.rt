@@ -1,6 +1,6 @@
 //! Showing what an image holds.
 ghost use Rattle.inspect.specs.StudyText.{study_text};
-ghost use Rattle.image_file.specs.Beside.{LeavesBeside};
+ghost use Rattle.image_file.specs.Beside.{LeavesBesideIt};
 ghost use Rattle.image_file.specs.Showing.{ShowsBy};
 
 use crate::error::ImageFault;
@@ -30,8 +30,7 @@ pub fn show_at<D: Disk + Drop, P: Images<Medium = D>, W: Write>(
     ensures ends { ShowsBy study_text result (P.holds images.old path.now) (P.holds images.new path.now)
         (W.contents writer.old) (W.contents writer.new) }
     // Nothing beside the path is lost.
-    ensures beside { LeavesBeside path.now (P.holds images.old) (P.holds images.new) (P.lies images.old)
-        (P.lies images.new) }
+    ensures beside { LeavesBesideIt path.now P.holds P.lies images.old images.new }
 {
     let mut disk = match look_at(images, alloc, path) {
         Ok(disk) => disk,

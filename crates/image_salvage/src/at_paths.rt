@@ -1,6 +1,6 @@
 //! What is left of the image at a path, which is only looked at.
 ghost use Rattle.std.specs.Prelude.{◌≡◌, IfErr, OnOk};
-ghost use Rattle.image_file.specs.Beside.{LeavesBeside};
+ghost use Rattle.image_file.specs.Beside.{LeavesBesideIt};
 ghost use Rattle.image_file.specs.Naming.{told_of_naming};
 ghost use Rattle.image_salvage.specs.AtPaths.{DumpsThere, EndsBy, RefusesThere};
 ghost use Rattle.image_salvage.specs.Cells.{DumpsCells, RefusesCells};
@@ -47,8 +47,7 @@ where
     ensures ends { EndsBy DumpsCells RefusesCells schema_path.entry result (P.holds images.old path.now)
         (P.holds images.new path.now) (W.contents writer.old) (W.contents writer.new) }
     // Nothing beside the path is lost, where home cells are dumped.
-    ensures beside { LeavesBeside path.now (P.holds images.old) (P.holds images.new) (P.lies images.old)
-        (P.lies images.new) }
+    ensures beside { LeavesBesideIt path.now P.holds P.lies images.old images.new }
 {
     let given = match schema_at(rt, alloc, trouble, schema_path) {
         Ok(given) => given,
@@ -74,8 +73,7 @@ fn dump_cells_there<D: Disk + Drop, P: Images<Medium = D>, W: Write>(
         (RefusesThere RefusesCells given (P.holds images.old path.now) (W.contents writer.old)
         (W.contents writer.new)) }
     ensures same { P.holds images.new path.now ≡ P.holds images.old path.now }
-    ensures beside { LeavesBeside path.now (P.holds images.old) (P.holds images.new) (P.lies images.old)
-        (P.lies images.new) }
+    ensures beside { LeavesBesideIt path.now P.holds P.lies images.old images.new }
 {
     let mut disk = match look_at(images, alloc, path) {
         Ok(disk) => disk,
@@ -118,8 +116,7 @@ where
     ensures ends { EndsBy (DumpsSlot slot) (RefusesSlot slot) schema_path.entry result (P.holds images.old path.now)
         (P.holds images.new path.now) (W.contents writer.old) (W.contents writer.new) }
     // Nothing beside the path is lost, where a heap is dumped by a slot.
-    ensures beside { LeavesBeside path.now (P.holds images.old) (P.holds images.new) (P.lies images.old)
-        (P.lies images.new) }
+    ensures beside { LeavesBesideIt path.now P.holds P.lies images.old images.new }
 {
     let given = match schema_at(rt, alloc, trouble, schema_path) {
         Ok(given) => given,
@@ -146,8 +143,7 @@ fn dump_slot_there<D: Disk + Drop, P: Images<Medium = D>, W: Write>(
         (RefusesThere (RefusesSlot slot) given (P.holds images.old path.now) (W.contents writer.old)
         (W.contents writer.new)) }
     ensures same { P.holds images.new path.now ≡ P.holds images.old path.now }
-    ensures beside { LeavesBeside path.now (P.holds images.old) (P.holds images.new) (P.lies images.old)
-        (P.lies images.new) }
+    ensures beside { LeavesBesideIt path.now P.holds P.lies images.old images.new }
 {
     let image = match images.look(alloc, path) {
         Ok(image) => image,

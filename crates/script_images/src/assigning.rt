@@ -1,6 +1,6 @@
 //! Setting fields of an image, by their names: the lines of a section of its own are played over it.
 ghost use Rattle.std.specs.Prelude.{◌≡◌, ◌<◌, ◌++◌, [], None, length, set, string_bytes, IfErr, IfOk, IfSome, IsTrue, OnOk};
-ghost use Rattle.image_file.specs.Beside.{LeavesBeside, LiesOn, StaysBeside};
+ghost use Rattle.image_file.specs.Beside.{LiesOn, LeavesBesideIt, StaysBesideIt};
 ghost use Rattle.image_file.specs.declared.error.ImageFault.TheVariants as images;
 ghost use Rattle.image_file.specs.declared.error.NamedFault.TheVariants.{Image};
 ghost use Rattle.image_schema.specs.OfImage.{IsStudied};
@@ -73,8 +73,7 @@ where
     ensures ends { SetsAt schema_path.entry texts.now result (P.holds images.old path.now) (P.holds images.new path.now)
         (W.contents writer.old) (W.contents writer.new) }
     // Nothing beside the path is lost: what is kept there remains, and the image lies as it did, in one place or in two.
-    ensures beside { StaysBeside path.now (P.holds images.old) (P.holds images.new) (P.lies images.old)
-        (P.lies images.new) }
+    ensures beside { StaysBesideIt path.now P.holds P.lies images.old images.new }
 {
     let given = match schema_at(rt, alloc, trouble, schema_path) {
         Ok(given) => given,
@@ -97,8 +96,7 @@ fn set_image<D: Disk + Drop, P: Images<Medium = D>, W: Write>(
 ) -> Result<(), SetFault>
     ensures ends { SetsHeld given texts.now (P.holds images.old path.now) (P.holds images.new path.now)
         (W.contents writer.old) (W.contents writer.new) result }
-    ensures beside { StaysBeside path.now (P.holds images.old) (P.holds images.new) (P.lies images.old)
-        (P.lies images.new) }
+    ensures beside { StaysBesideIt path.now P.holds P.lies images.old images.new }
 {
     match place_for(images, alloc, path) {
         Ok((disk, sectors)) => set_on(images, alloc, path, disk, sectors, given, texts, writer),
@@ -123,8 +121,7 @@ fn set_on<D: Disk + Drop, P: Images<Medium = D>, W: Write>(
     requires { LiesOn sectors (P.lies images.old path.now) }
     ensures ends { SetsHeld given texts.now (P.holds images.old path.now) (P.holds images.new path.now)
         (W.contents writer.old) (W.contents writer.new) result }
-    ensures beside { StaysBeside path.now (P.holds images.old) (P.holds images.new) (P.lies images.old)
-        (P.lies images.new) }
+    ensures beside { StaysBesideIt path.now P.holds P.lies images.old images.new }
 {
     let played = match set_there(images, alloc, path, given, texts) {
         Ok(played) => played,
@@ -153,8 +150,7 @@ fn set_there<D: Disk + Drop, P: Images<Medium = D>>(
     ensures ok { IfOk result (λ played. SetsThere given texts.now (P.holds images.old path.now) played.image.items played.text.items) }
     ensures refused { IfErr result (RefusesThere given texts.now (P.holds images.old path.now)) }
     ensures same { P.holds images.new path.now ≡ P.holds images.old path.now }
-    ensures beside { LeavesBeside path.now (P.holds images.old) (P.holds images.new) (P.lies images.old)
-        (P.lies images.new) }
+    ensures beside { LeavesBesideIt path.now P.holds P.lies images.old images.new }
 {
     match images.read(alloc, path) {
         Ok(image) => {

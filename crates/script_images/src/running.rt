@@ -2,7 +2,7 @@
 ghost use Rattle.std.specs.Prelude.{◌≡◌, ◌⊎◌, length, IfErr, IfOk, OnErr, OnOk};
 ghost use Rattle.block_disk.specs.Device.{synced, written};
 ghost use Rattle.script_lines.specs.Lines.{lines_of};
-ghost use Rattle.image_file.specs.Beside.{LeavesBeside, LiesOn, StaysBeside};
+ghost use Rattle.image_file.specs.Beside.{LiesOn, LeavesBesideIt, StaysBesideIt};
 ghost use Rattle.image_file.specs.Images.{IsThere};
 ghost use Rattle.image_file.specs.Showing.{told_of_attaching};
 ghost use Rattle.image_file.specs.declared.error.NamedFault.TheVariants.{Image};
@@ -45,8 +45,7 @@ pub fn run_image<D: Disk + Drop, P: Images<Medium = D>, W: Write>(
     ensures ends { RunsHeld given (lines_of script.now) ending is_strict result (P.holds images.old path.now)
         (P.holds images.new path.now) (W.contents writer.old) (W.contents writer.new) }
     // Nothing beside the path is lost: what is kept there remains, and the image lies as it did, in one place or in two.
-    ensures beside { StaysBeside path.now (P.holds images.old) (P.holds images.new) (P.lies images.old)
-        (P.lies images.new) }
+    ensures beside { StaysBesideIt path.now P.holds P.lies images.old images.new }
 {
     match place_for(images, alloc, path) {
         Ok((disk, sectors)) => {
@@ -70,8 +69,7 @@ pub(crate) fn place_for<D: Disk + Drop, P: Images<Medium = D>>(
     // The new image is to lie as the one that is there.
     ensures lies { IfOk result (λ r. LiesOn r.1 (P.lies images.new path.now)) }
     ensures same { P.holds images.new path.now ≡ P.holds images.old path.now }
-    ensures beside { LeavesBeside path.now (P.holds images.old) (P.holds images.new) (P.lies images.old)
-        (P.lies images.new) }
+    ensures beside { LeavesBesideIt path.now P.holds P.lies images.old images.new }
 {
     let (size, sectors) = match images.shape(path) {
         Ok(shape) => shape,
@@ -99,8 +97,7 @@ fn run_on<D: Disk + Drop, P: Images<Medium = D>, W: Write>(
     requires { LiesOn sectors (P.lies images.old path.now) }
     ensures ends { RunsHeld given (lines_of script.now) ending is_strict result (P.holds images.old path.now)
         (P.holds images.new path.now) (W.contents writer.old) (W.contents writer.new) }
-    ensures beside { StaysBeside path.now (P.holds images.old) (P.holds images.new) (P.lies images.old)
-        (P.lies images.new) }
+    ensures beside { StaysBesideIt path.now P.holds P.lies images.old images.new }
 {
     let played = match play_held(images, alloc, path, given, script, ending, is_strict) {
         Ok(played) => played,
@@ -134,8 +131,7 @@ fn play_held<D: Disk + Drop, P: Images<Medium = D>>(
     ensures refused { IfErr result
         (RefusesHeld given (lines_of script.now) ending is_strict (P.holds images.old path.now)) }
     ensures same { P.holds images.new path.now ≡ P.holds images.old path.now }
-    ensures beside { LeavesBeside path.now (P.holds images.old) (P.holds images.new) (P.lies images.old)
-        (P.lies images.new) }
+    ensures beside { LeavesBesideIt path.now P.holds P.lies images.old images.new }
 {
     match images.read(alloc, path) {
         Ok(image) => {
@@ -163,8 +159,7 @@ pub(crate) fn put_image<D: Disk + Drop, P: Images<Medium = D>>(
     ensures err { OnErr result
         ((P.holds images.new path.now ≡ P.holds images.old path.now) ⊎ IsThere image.now
         (P.holds images.new path.now)) }
-    ensures beside { StaysBeside path.now (P.holds images.old) (P.holds images.new) (P.lies images.old)
-        (P.lies images.new) }
+    ensures beside { StaysBesideIt path.now P.holds P.lies images.old images.new }
 {
     let mut disk = disk;
     if let Err(fault) = write_over(&mut disk, image) {
@@ -234,8 +229,7 @@ where
         (P.holds images.new path.now) (S.remaining reader.old) (S.remaining reader.new)
         (W.contents writer.old) (W.contents writer.new) }
     // Nothing beside the path is lost: what is kept there remains, and the image lies as it did, in one place or in two.
-    ensures beside { StaysBeside path.now (P.holds images.old) (P.holds images.new) (P.lies images.old)
-        (P.lies images.new) }
+    ensures beside { StaysBesideIt path.now P.holds P.lies images.old images.new }
 {
     let given = match schema_at(rt, alloc, trouble, schema_path) {
         Ok(given) => given,
@@ -253,8 +247,7 @@ where
 /// Leaves nothing beside the path, unless a new image has taken its place.
 pub(crate) fn tidy<D: Disk + Drop, P: Images<Medium = D>>(images: &mut P, path: &str, is_done: bool)
     ensures same { P.holds images.new path.now ≡ P.holds images.old path.now }
-    ensures beside { LeavesBeside path.now (P.holds images.old) (P.holds images.new) (P.lies images.old)
-        (P.lies images.new) }
+    ensures beside { LeavesBesideIt path.now P.holds P.lies images.old images.new }
 {
     if !is_done {
         images.give_up(path);

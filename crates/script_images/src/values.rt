@@ -2,7 +2,7 @@
 ghost use Rattle.std.specs.Prelude.{◌≡◌, false, string_bytes, IfErr, IfOk, IsTrue, OnOk};
 ghost use Rattle.image_schema.specs.OfImage.{IsStudied};
 ghost use Rattle.script_images.specs.Values.{GetsBy, HasLine, HasLines, IsHeldTold, IsNoField, IsTold, IsToldOfStudy, RefusesHeldValues, RefusesNames, RefusesStudied, RefusesValues};
-ghost use Rattle.image_file.specs.Beside.{LeavesBeside};
+ghost use Rattle.image_file.specs.Beside.{LeavesBesideIt};
 ghost use Rattle.image_file.specs.declared.error.ImageFault.TheVariants as images;
 ghost use Rattle.image_file.specs.declared.error.NamedFault.TheVariants.{Image};
 ghost use Rattle.script_images.specs.declared.error.ValueFault.TheVariants.{Named};
@@ -52,8 +52,7 @@ where
     ensures ends { GetsBy schema_path.entry names.now result (P.holds images.old path.now) (P.holds images.new path.now)
         (W.contents writer.old) (W.contents writer.new) }
     // Nothing beside the path is lost.
-    ensures beside { LeavesBeside path.now (P.holds images.old) (P.holds images.new) (P.lies images.old)
-        (P.lies images.new) }
+    ensures beside { LeavesBesideIt path.now P.holds P.lies images.old images.new }
 {
     let given = match schema_at(rt, alloc, trouble, schema_path) {
         Ok(given) => given,
@@ -80,8 +79,7 @@ fn held_values<D: Disk + Drop, P: Images<Medium = D>>(
     ensures ok { IfOk result (λ text. IsHeldTold given names.now (P.holds images.old path.now) (string_bytes text)) }
     ensures refused { IfErr result (RefusesHeldValues given names.now (P.holds images.old path.now)) }
     ensures same { P.holds images.new path.now ≡ P.holds images.old path.now }
-    ensures beside { LeavesBeside path.now (P.holds images.old) (P.holds images.new) (P.lies images.old)
-        (P.lies images.new) }
+    ensures beside { LeavesBesideIt path.now P.holds P.lies images.old images.new }
 {
     match look_at(images, alloc, path) {
         Ok(disk) => values_on(alloc, disk, given, names),
