@@ -1,4 +1,3 @@
-mod FitLemmas
 mod CellLemmas
 mod SlotLemmas
 mod NoteLemmas

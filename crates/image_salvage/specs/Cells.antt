@@ -1,7 +1,8 @@
 -- What is read of an image's home cells, and what is written of them: a schema file (docs/FORMAT.md, "Image").
-use Rattle.std.specs.Prelude.{ℕ, ◌≡◌, Option, None, Some, List, []}
+use Rattle.std.specs.Prelude.{ℕ, ◌≡◌, Option, None, Some, Result, List, []}
 use Rattle.std.specs.Io.KnownBytes.{Appends}
 use Rattle.script_declarations.specs.SchemaText.{beginning_with}
+use Rattle.block_disk.specs.Device.{Device}
 use Rattle.guards.specs.Schema.{Declarations}
 use Rattle.image_parts.specs.Cells.{HasHomes}
 use Rattle.image_parts.specs.declared.guard_row.GuardRow.{GuardRow}
@@ -9,7 +10,8 @@ use Rattle.image_parts.specs.declared.layout.Layout.{Layout}
 use Rattle.image_schema.specs.OfImage.{FitsImage}
 use Rattle.image_schema.specs.declared.error.DumpError.{DumpError}
 use Rattle.image_schema.specs.declared.error.DumpError.TheVariants as dump_error
-use Rattle.inspect.specs.Written.{AppendsPart}
+use Rattle.inspect.specs.Inspection.{WritesOfImage}
+use Rattle.inspect.specs.Written.{AppendsPart, WritesOr}
 use Rattle.image_parts.specs.NumberedRows.{numbered}
 use Rattle.recover.specs.Reading.{HasBadHeader, HasFront, RefusesLayout}
 use Rattle.recover_heap.specs.declared.error.RecoverError.{RecoverError}
@@ -90,3 +92,14 @@ abbrev pub RefusesCells : Option Declarations → List ℕ → (old new : Option
 RefusesCells given image old new (dump_error.Study why) = RefusesToRead image why × Appends old new []
 RefusesCells given image old new dump_error.OtherSchema = HasOtherCells given image × Appends old new []
 RefusesCells given image old new dump_error.Write = DumpsCellsPart given image old new
+
+-- what each answer says of home cells whose schema file was to be written
+abbrev pub DumpedRead : {W T : Type 0} → Option Declarations → Cells → (contents : W → Option (List ℕ)) (old new : W)
+    → Result T DumpError → Type 0
+DumpedRead given cells contents old new result = WritesOr (DumpsRead given cells) (RefusesRead given cells) contents old new result
+
+-- what each answer says of a device's image whose home cells were to be dumped
+abbrev pub DumpedCells : {M W T : Type 0} → Option Declarations → (device : M → Device) (before after : M)
+    (contents : W → Option (List ℕ)) (old new : W) → Result T DumpError → Type 0
+DumpedCells given device before after contents old new result =
+    WritesOfImage (DumpsCells given) (RefusesCells given) (dump_error.Study Fault) device before after contents old new result

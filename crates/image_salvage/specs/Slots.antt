@@ -1,5 +1,5 @@
 -- What is written of an image's heap by one slot of its control: a schema file.
-use Rattle.std.specs.Prelude.{ℕ, ◌≡◌, Option, List, [], slice_set}
+use Rattle.std.specs.Prelude.{ℕ, ◌≡◌, Option, Result, List, [], slice_set}
 use Rattle.std.specs.Io.KnownBytes.{Appends}
 use Rattle.guards.specs.Schema.{Declarations}
 use Rattle.image_parts.specs.Slots.{other, slot_at}
@@ -8,7 +8,7 @@ use Rattle.image_schema.specs.Dumping.{dumped}
 use Rattle.image_schema.specs.OfImage.{FitsImage, named_as}
 use Rattle.image_schema.specs.declared.error.DumpError.{DumpError}
 use Rattle.image_schema.specs.declared.error.DumpError.TheVariants as dump_error
-use Rattle.inspect.specs.Written.{AppendsPart}
+use Rattle.inspect.specs.Written.{AppendsPart, WritesOr}
 use Rattle.recover.specs.Reading.{RefusesImage}
 use Rattle.recover.specs.Study.{IsStudyOf}
 use Rattle.recover_heap.specs.declared.error.RecoverError.TheVariants.{NoMemory}
@@ -68,3 +68,15 @@ abbrev pub RefusesSlot : Slot → Option Declarations → List ℕ → (old new 
 RefusesSlot slot given image old new (dump_error.Study why) = RefusesImage (alone slot image) why × Appends old new []
 RefusesSlot slot given image old new dump_error.OtherSchema = IsOtherBySlot slot given image × Appends old new []
 RefusesSlot slot given image old new dump_error.Write = DumpsSlotPart slot given image old new
+
+-- what each answer says of a study by a slot whose schema file was to be written
+abbrev pub DumpedStudied : {W T : Type 0} → Slot → Option Declarations → Study → (contents : W → Option (List ℕ)) (old new : W)
+    → Result T DumpError → Type 0
+DumpedStudied slot given s contents old new result =
+    WritesOr (DumpsStudied slot given s) (RefusesStudied slot given s) contents old new result
+
+-- what each answer says of an image that was to be dumped by a slot
+abbrev pub DumpedSlot : {W T : Type 0} → Slot → Option Declarations → List ℕ → (contents : W → Option (List ℕ)) (old new : W)
+    → Result T DumpError → Type 0
+DumpedSlot slot given image contents old new result =
+    WritesOr (DumpsSlot slot given image) (RefusesSlot slot given image) contents old new result

@@ -1,9 +1,5 @@
 //! The schema file that an image's home cells make.
-ghost use Rattle.std.specs.Prelude.{◌≡◌, IfErr, OnOk};
-ghost use Rattle.block_disk.specs.Device.{HasCause, SameMoments};
-ghost use Rattle.image_schema.specs.declared.error.DumpError.TheVariants as kinds;
-ghost use Rattle.recover_heap.specs.declared.error.RecoverError.TheVariants.{Fault};
-ghost use Rattle.image_salvage.specs.Cells.{AreOfImage, DumpsCells, DumpsRead, RefusesCells, RefusesRead};
+ghost use Rattle.image_salvage.specs.Cells.{AreOfImage, DumpedCells, DumpedRead};
 
 use crate::cells::read_cells;
 use crate::found::Cells;
@@ -17,7 +13,7 @@ use recover::RecoverError;
 use std::alloc::Global;
 use std::io::Write;
 
-/// Writes what the home cells of the image on the device hold, of which nothing has to be known, as a schema file behind a comment: each
+/// Writes what the home cells of the image on the device hold, of which nothing has to be known, as a schema file after a comment: each
 /// persistent field begins with the value in its cell, and each transient one with its own first value. Neither the control nor any log
 /// is read, so these needn't be the values of one moment. The names are those of the schema that is given, which has to be the image's, or
 /// else numbers. The device is left as it was.
@@ -35,14 +31,9 @@ pub fn dump_cells<D: Disk, W: Write>(
     writer: &mut W,
 ) -> Result<(), DumpError>
     // The home cells of an image are dumped as the file of the image's own schema, each field with the value that the
-    // format says of its cell, behind a comment.
-    ensures ok { OnOk result (DumpsCells given (D.device disk.old).now.bytes (W.contents writer.old) (W.contents writer.new)) }
-    // Home cells are refused for what is wrong with header or guard rows, or with the schema; then nothing is written.
-    ensures refused { IfErr result (RefusesCells given (D.device disk.old).now.bytes (W.contents writer.old) (W.contents writer.new)) }
-    // The device whose home cells are dumped is left as it was.
-    ensures same { SameMoments (D.device disk.old) (D.device disk.new) }
-    // A dump of home cells answers a fault only where the device has failed.
-    ensures cause { HasCause (D.device disk.old).failures (D.device disk.new).failures (kinds.Study Fault) result }
+    // format says of its cell, after a comment. They are refused for what is wrong with header or guard rows, or with the
+    // schema; then nothing is written.
+    ensures { DumpedCells given D.device disk.old disk.new W.contents writer.old writer.new result }
 {
     match read_cells(alloc, disk) {
         Ok(cells) => {
@@ -65,8 +56,7 @@ fn write_cells<W: Write>(
     writer: &mut W,
 ) -> Result<(), DumpError>
     requires { AreOfImage cells.now }
-    ensures ok { OnOk result (DumpsRead given cells.now (W.contents writer.old) (W.contents writer.new)) }
-    ensures refused { IfErr result (RefusesRead given cells.now (W.contents writer.old) (W.contents writer.new)) }
+    ensures { DumpedRead given cells.now W.contents writer.old writer.new result }
 {
     let schema = match schema_for(alloc, &cells.layout, &cells.guards, given) {
         Ok(schema) => schema,

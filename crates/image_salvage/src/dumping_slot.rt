@@ -1,9 +1,9 @@
 //! The schema file that the heap of an image makes by one slot of its control.
-ghost use Rattle.std.specs.Prelude.{◌≡◌, IfErr, OnOk, slice_set};
+ghost use Rattle.std.specs.Prelude.{◌≡◌, slice_set};
 ghost use Rattle.block_disk.specs.Device.{new_device};
 ghost use Rattle.image_parts.specs.Slots.{slot_at};
 ghost use Rattle.image_schema.specs.OfImage.{IsStudied};
-ghost use Rattle.image_salvage.specs.Slots.{DumpsSlot, DumpsStudied, RefusesSlot, RefusesStudied, alone};
+ghost use Rattle.image_salvage.specs.Slots.{DumpedSlot, DumpedStudied, alone};
 
 use crate::notes::slot_note;
 use crate::writing::write_noted;
@@ -16,7 +16,7 @@ use std::alloc::Global;
 use std::io::Write;
 
 /// Writes the heap that recovery gives of an image with these bytes, of which nothing has to be known, by this slot of its control, as a
-/// schema file behind a comment: as [`image_schema::dump`] does of the image in which the other slot's gate is closed. Where the other slot
+/// schema file after a comment: as [`image_schema::dump`] does of the image in which the other slot's gate is closed. Where the other slot
 /// is newer, or its commit had begun, cells and log needn't fit this one, so these needn't be the values of one moment. The names are
 /// those of the schema that is given, which has to be the image's, or else numbers.
 ///
@@ -35,10 +35,9 @@ pub fn dump_slot<W: Write>(
     writer: &mut W,
 ) -> Result<(), DumpError>
     // What is dumped by a slot is the file of the image's own schema, with the heap that a study finds of the image in
-    // which the other slot's gate is closed, behind a comment.
-    ensures ok { OnOk result (DumpsSlot slot given image.items (W.contents writer.old) (W.contents writer.new)) }
-    // A slot is refused exactly for what a study of that image is refused for, or for the schema; then nothing is written.
-    ensures refused { IfErr result (RefusesSlot slot given image.items (W.contents writer.old) (W.contents writer.new)) }
+    // which the other slot's gate is closed, after a comment. A slot is refused exactly for what a study of that image is
+    // refused for, or for the schema; then nothing is written.
+    ensures { DumpedSlot slot given image.items W.contents writer.old writer.new result }
 {
     let mut disk = disk_of(image, slot);
     let studied = study(alloc, &mut disk);
@@ -84,8 +83,7 @@ fn write_study<W: Write>(
     writer: &mut W,
 ) -> Result<(), DumpError>
     requires { IsStudied study.now }
-    ensures ok { OnOk result (DumpsStudied slot given study.now (W.contents writer.old) (W.contents writer.new)) }
-    ensures refused { IfErr result (RefusesStudied slot given study.now (W.contents writer.old) (W.contents writer.new)) }
+    ensures { DumpedStudied slot given study.now W.contents writer.old writer.new result }
 {
     let schema = match schema_of(alloc, study, given) {
         Ok(schema) => schema,

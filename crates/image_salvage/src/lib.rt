@@ -10,7 +10,6 @@ mod at_paths;
 mod cells;
 mod dumping_cells;
 mod dumping_slot;
-mod fitting;
 mod found;
 mod front;
 mod laws;

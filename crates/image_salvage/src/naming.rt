@@ -5,10 +5,9 @@ ghost use Rattle.image_schema.specs.declared.error.NamingError.TheVariants.{Othe
 ghost use Rattle.image_parts.specs.NumberedRows.{numbered};
 ghost use Rattle.image_salvage.specs.Cells.{named_by};
 
-use crate::fitting::fits_rows;
 use guards::Schema;
 use image::{GuardRow, Layout, declare};
-use image_schema::NamingError;
+use image_schema::{NamingError, fits_rows};
 use std::alloc::{AllocError, Global};
 
 /// The schema of the image of this layout and these rows: the one that is given, which has to be the image's, or else the one of numbers.

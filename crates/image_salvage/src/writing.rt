@@ -1,10 +1,9 @@
 //! Writing what is salvaged.
-ghost use Rattle.std.specs.Prelude.{◌≡◌, length, OnErr, OnOk};
-ghost use Rattle.std.specs.Io.KnownBytes.{Appends};
-ghost use Rattle.script_declarations.specs.SchemaText.{beginning_with, ended};
+ghost use Rattle.std.specs.Prelude.{◌≡◌, length};
+ghost use Rattle.script_declarations.specs.SchemaText.{ended};
 ghost use Rattle.guards.specs.Schema.{field_count};
-ghost use Rattle.inspect.specs.Written.{AppendsPart};
-ghost use Rattle.image_salvage.specs.Notes.{noted_text};
+ghost use Rattle.inspect.specs.Written.{Writes};
+ghost use Rattle.image_salvage.specs.Notes.{noted_file};
 
 use guards::Schema;
 use image_schema::write_schema;
@@ -19,16 +18,14 @@ pub(crate) fn write_noted<W: Write>(
     writer: &mut W,
 ) -> Result<(), WriteError>
     requires { length values.now ≡ field_count schema.now }
-    ensures ok { OnOk result (Appends (W.contents writer.old) (W.contents writer.new) (noted_text note.now (beginning_with values.now schema.now))) }
-    ensures part { OnErr result (AppendsPart (W.contents writer.old) (W.contents writer.new) (noted_text note.now (beginning_with values.now schema.now))) }
+    ensures { Writes W.contents writer.old writer.new (noted_file note.now schema.now values.now) result }
 {
     put_note(note, writer)?;
     write_schema(schema, values, writer)
 }
 
 fn put_note<W: Write>(note: &str, writer: &mut W) -> Result<(), WriteError>
-    ensures ok { OnOk result (Appends (W.contents writer.old) (W.contents writer.new) (ended note.now)) }
-    ensures part { OnErr result (AppendsPart (W.contents writer.old) (W.contents writer.new) (ended note.now)) }
+    ensures { Writes W.contents writer.old writer.new (ended note.now) result }
 {
     put_line(writer, &[Piece::Words(note)])
 }

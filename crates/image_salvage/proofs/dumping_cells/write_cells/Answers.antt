@@ -12,8 +12,8 @@ use Rattle.image_salvage.proofs.dumping_cells.write_cells.Goals as goal
 pub write_noted-written-requires : goal.write_noted-written-requires
 write_noted-written-requires g c = ap length c.deref-2.ensures.value ∙ c.requires.had.homes.size ∙ c.in-Ok.ensures.fits.fields
 
-pub returns-in-Ok-written-clause-ok : goal.returns-in-Ok-written-clause-ok
-returns-in-Ok-written-clause-ok g c =
+pub returns-in-Ok-written : goal.returns-in-Ok-written
+returns-in-Ok-written g c =
     let given = c.args.given in
     let cells = c.args.cells.now in
     let is : c.in-Ok.schema ≡ named_by given cells.layout cells.guards.items =
@@ -22,10 +22,10 @@ returns-in-Ok-written-clause-ok g c =
     (subst (λ (schema : Declarations). FitsImage schema cells.layout c.deref.result.now) is c.in-Ok.ensures.fits) in
     let text : noted_text c.cells_note.result.now (beginning_with c.deref-2.result.now c.in-Ok.schema) ≡ cells_text given cells =
     (λ i. noted_text (c.cells_note.ensures i) (beginning_with (c.deref-2.ensures.value i) (is i))) in
-    record { fits = fits; written = subst (Appends (g.W.Write.contents c.args.writer.now) (g.W.Write.contents c.write_noted-written.new.writer)) text c.in-Ok-written.ensures.ok }
+    record { ok = record { fits = fits; written = subst (Appends (g.W.Write.contents c.args.writer.now) (g.W.Write.contents c.write_noted-written.new.writer)) text c.in-Ok-written.ensures.ok }; refused = tt }
 
-pub returns-in-Err-clause-refused : goal.returns-in-Err-clause-refused
-returns-in-Err-clause-refused g c =
+pub returns-in-Err : goal.returns-in-Err
+returns-in-Err g c =
     let given = c.args.given in
     let cells = c.args.cells.now in
     let is : c.in-Ok.schema ≡ named_by given cells.layout cells.guards.items =
@@ -34,4 +34,4 @@ returns-in-Err-clause-refused g c =
     (subst (λ (schema : Declarations). FitsImage schema cells.layout c.deref.result.now) is c.in-Ok.ensures.fits) in
     let text : noted_text c.cells_note.result.now (beginning_with c.deref-2.result.now c.in-Ok.schema) ≡ cells_text given cells =
     (λ i. noted_text (c.cells_note.ensures i) (beginning_with (c.deref-2.ensures.value i) (is i))) in
-    record { fits = fits; written = subst (AppendsPart (g.W.Write.contents c.args.writer.now) (g.W.Write.contents c.write_noted-written.new.writer)) text c.in-Err.ensures.part }
+    record { ok = tt; refused = record { fits = fits; written = subst (AppendsPart (g.W.Write.contents c.args.writer.now) (g.W.Write.contents c.write_noted-written.new.writer)) text c.in-Err.ensures.part } }

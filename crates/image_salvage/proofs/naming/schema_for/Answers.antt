@@ -1,7 +1,7 @@
 use Rattle.std.proofs.Common.{subst, sym}
 use Rattle.guards.specs.Schema.{Declarations}
 use Rattle.image_schema.specs.OfImage.{FitsImage}
-use Rattle.image_salvage.proofs.FitLemmas.{numbered_fits}
+use Rattle.image_schema.proofs.FitLemmas.{numbered_fits}
 use Rattle.image_salvage.specs.Cells.{named_by}
 use Rattle.image_salvage.proofs.naming.schema_for.Goals as goal
 
