@@ -15,6 +15,7 @@ pub mod HeardRings
 pub mod Closing
 pub mod Drained
 pub mod Gathering
+pub mod LeavingLemmas
 pub mod SeatLemmas
 pub mod SettingLemmas
 pub mod ClosingReasons

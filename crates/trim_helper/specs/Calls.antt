@@ -24,6 +24,7 @@ use Rattle.trim_helper.specs.Draining.{DrainsRings, SharesBound}
 use Rattle.trim_helper.specs.Endings.{HoldNone, IsCloseStop, IsCloseWhy, IsComplete, IsOfSessions, RefusesClosing, parts_of}
 use Rattle.trim_helper.specs.Heard.{HasSeen}
 use Rattle.trim_helper.specs.Hearing.{IsNoted}
+use Rattle.trim_helper.specs.Leaving.{ReadNoMore}
 use Rattle.trim_helper.specs.Helping.{IsBehind, IsHelper, taken_in}
 use Rattle.trim_helper.specs.Moves.{SameRings, most_room}
 use Rattle.trim_helper.specs.Parts.{Parts, IsServing, taking_of}
@@ -219,6 +220,9 @@ module _ {D : Type 0} (device : D → Device) where
     -- Whatever a crash leaves while closing shows a whole closed cut of a beginning of what was applied, with all that was acknowledged,
     -- whatever stops the closing.
     pub stood : Stood x.store.known.layout x.store.known.threads (setting_of h.plan) p ended (device x.store.disk) (device (disk_of answer))
+    -- Unless its sessions stop it, a closing finds that none of them has read as stable more sections than were acknowledged when it began,
+    -- whatever it answers.
+    pub read : HoldNone ended → IsComplete x.store.known.threads ended → ReadNoMore (parts_of ended) x.store.known.threads p
     -- Over a closing that answers Ok the count of the device's failures doesn't fall.
     pub later : IfOk answer (λ disk. (device x.store.disk).failures ≤ (device disk).failures)
     -- A closing takes at most two of the control's sequences, in whatever a crash leaves.
@@ -233,6 +237,7 @@ module _ {D : Type 0} (device : D → Device) where
     pub why : IfErr answer (IsCloseWhy x.store.known (device x.store.disk) now)
     pub failed : x.store.known.has_failed ≡ true → IsErrOf answer close.Failed
     pub stood : Stood x.store.known.layout x.store.known.threads (setting_of h.plan) p ended (device x.store.disk) now
+    pub read : IsBehind seat x.store.known.threads p → ReadNoMore (parts_of ended) x.store.known.threads p
     pub later : OnOk answer ((device x.store.disk).failures ≤ now.failures)
     pub shown : LeavesOnly (device x.store.disk) now (ShowsUpTo x.store.known.layout (x.store.known.committed.sequence + 2))
 

@@ -13,6 +13,7 @@ pub mod Limits
 pub mod Opening
 pub mod Endings
 pub mod Closed
+pub mod Leaving
 pub mod Calls
 pub mod Meets
 pub mod Seen

@@ -113,13 +113,11 @@ fn finish<D: Disk>(
     let layout = store.layout();
     meet(&shared, ended, rings, &mut seat, layout.capacity);
     if let Err(reason) = drain_known(store, rings, waiting, u64::MAX) {
-        drop(seat);
-        drop(shared);
+        drop(close(shared, seat));
         return Err(close_error(reason));
     }
     if let Err(reason) = settle_and_trim(store) {
-        drop(seat);
-        drop(shared);
+        drop(close(shared, seat));
         return Err(close_error(reason));
     }
     let words = close(shared, seat);

@@ -53,6 +53,7 @@ returns-in-Ok g c = record {
         untouched = tt;
         still = λ off. absurd (let no = finished.failed off in cc);
         stood = subst (λ d. Stood x.store.known.layout x.store.known.threads s p c.args.ended.items (g.D.Disk.device x.store.disk) (g.D.Disk.device d)) (sym disk) finished.stood;
+        read = λ none complete. finished.read (λ l lt. (has.counts l lt, has.places l lt));
         later = subst (λ d. (g.D.Disk.device x.store.disk).failures ≤ (g.D.Disk.device d).failures) (sym disk) finished.later;
         shown = subst (λ d. LeavesOnly (g.D.Disk.device x.store.disk) (g.D.Disk.device d) (ShowsUpTo x.store.known.layout (x.store.known.committed.sequence + 2))) (sym disk) finished.shown;
       });
@@ -79,6 +80,7 @@ returns-in-Err-finished g c = record {
         untouched = λ is. absurd (not_sessions c.in-Err-finished.reason finished.stop is);
         still = λ off. disk ∙ ap (λ z. z.disk) (c.in-Err-finished.ensures.still s p taken off);
         stood = subst (λ d. Stood x.store.known.layout x.store.known.threads s p c.args.ended.items (g.D.Disk.device x.store.disk) (g.D.Disk.device d)) (sym disk) finished.stood;
+        read = λ none complete. finished.read (λ l lt. (has.counts l lt, has.places l lt));
         later = tt;
         shown = subst (λ d. LeavesOnly (g.D.Disk.device x.store.disk) (g.D.Disk.device d) (ShowsUpTo x.store.known.layout (x.store.known.committed.sequence + 2))) (sym disk) finished.shown;
       });
@@ -102,6 +104,7 @@ returns-in-Err g c = record {
         untouched = λ is. c.into_disk.ensures.disk;
         still = λ off. c.into_disk.ensures.disk;
         stood = stood_still _ _ s p c.args.ended.items _ _ has.taken.has.past.legal (λ none complete. absurd (never_refused x.store.known.threads c.args.ended.items c.in-Err.reason told none complete)) (ap g.D.Disk.device c.into_disk.ensures.disk);
+        read = λ none complete. absurd (never_refused x.store.known.threads c.args.ended.items c.in-Err.reason told none complete);
         later = tt;
         shown = subst (λ d. LeavesOnly (g.D.Disk.device x.store.disk) (g.D.Disk.device d) (ShowsUpTo x.store.known.layout (x.store.known.committed.sequence + 2))) (sym c.into_disk.ensures.disk)
             (begin (g.D.Disk.device x.store.disk) (ShowsUpTo x.store.known.layout (x.store.known.committed.sequence + 2)));

@@ -71,6 +71,11 @@ returns-clause-finishes g c = λ p has.
           absurd (let no = (c.in_default-settle_and_trim.ensures.settles s (applied_more made.0 p) made.2.has).settles.failed (on.running ∙ off) in cc);
       stood = stood_round g.D.Disk.device met y _ w s p c.args.ended.items on taken (λ log follows. are_sent c.args.shared _ c.args.rings.now c.drain_known.new.rings c.args.ended.items log c.requires.ended each follows) c.settle_and_trim.ensures.layout c.settle_and_trim.ensures.threads
           (λ s p has. (c.in_default-settle_and_trim.ensures.settles s p has).settles.same);
+      read = λ places x among lt.
+          let read = (c.close-words.ensures.read x (subst (λ parts. Among parts x) (sym c.meet.ensures.gathered) among)).0 in
+          let same = c.meet.ensures.count x.lane in
+          let most = (places x.lane lt).0 in
+          omega (arith, read, same, most);
       later = let rose = c.settle_and_trim.ensures.cause.later in let same = ap (λ d. d.failures) on.uncalled in omega (arith, rose, same);
       shown = (takes_then 0 2 c.args.store.now.known y.store.known w.known _ _ _ on.layout (takes_none c.args.store.now.known y.store.known _ _ on.sequence on.uncalled) c.settle_and_trim.ensures.takes).shown;
     }
@@ -89,6 +94,11 @@ returns-in-Err-clause-finishes g c = λ p has.
       failed = λ off. ap Err (c.close_error.ensures.from_failed takes.failed);
       stood = stood_still _ _ s p c.args.ended.items _ _ has.has.past.legal
           (λ none complete. are_sent c.args.shared _ c.args.rings.now c.meet.new.rings c.args.ended.items (applied p) c.requires.ended each (taken_follows g.D.Disk.device _ s p taken)) takes.kept.1.uncalled;
+      read = λ places x among lt.
+          let read = (c.close.ensures.read x (subst (λ parts. Among parts x) (sym c.meet.ensures.gathered) among)).0 in
+          let same = c.meet.ensures.count x.lane in
+          let most = (places x.lane lt).0 in
+          omega (arith, read, same, most);
       later = tt;
       shown = (takes_more 0 2 c.args.store.now.known _ _ _ (omega arith) (takes_none c.args.store.now.known c.drain_known.new.store.known _ _ takes.kept.1.sequence takes.kept.1.uncalled)).shown;
     }
@@ -116,6 +126,11 @@ returns-in-Err-settle_and_trim-clause-finishes g c = λ p has.
       failed = λ off. let is = left.failed (on.running ∙ off) in ap Err (told.from_failed (let same : Err c.in-Err-settle_and_trim.reason ≡ Err StoreFailed = is in cc));
       stood = stood_round g.D.Disk.device met y _ w s p c.args.ended.items on taken (λ log follows. are_sent c.args.shared _ c.args.rings.now c.drain_known.new.rings c.args.ended.items log c.requires.ended each follows) c.settle_and_trim.ensures.layout c.settle_and_trim.ensures.threads
           (λ s p has. (c.in-Err-settle_and_trim.ensures.settles s p has).settles.same);
+      read = λ places x among lt.
+          let read = (c.close-in-Err-settle_and_trim.ensures.read x (subst (λ parts. Among parts x) (sym c.meet.ensures.gathered) among)).0 in
+          let same = c.meet.ensures.count x.lane in
+          let most = (places x.lane lt).0 in
+          omega (arith, read, same, most);
       later = tt;
       shown = took.shown;
     }
