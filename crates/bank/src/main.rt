@@ -3,7 +3,8 @@
 use std::alloc::Global;
 use std::sync::Wait;
 use thread_files::{
-    FieldId, HeapThread, Joint, ObjectId, Schema, SchemaBuilder, SessionError, Work, run_file,
+    FieldId, FilePlan, HeapThread, Joint, ObjectId, Schema, SchemaBuilder, SessionError, Work,
+    run_file,
 };
 
 const ACCOUNTS: u32 = 8;
@@ -74,18 +75,34 @@ fn pay<J: Joint>(
 // Each account has a field for its balance, which its monitor guards and which begins with 100.
 fn accounts(alloc: Global) -> anyhow::Result<Schema> {
     let mut builder = SchemaBuilder::new(alloc);
+    if let Err(refused) = declare(alloc, &mut builder) {
+        drop(builder);
+        return Err(refused);
+    }
+    match builder.build() {
+        Ok(schema) => Ok(schema),
+        Err((builder, refused)) => {
+            drop(builder);
+            Err(refused.into())
+        }
+    }
+}
+
+// Declares them.
+fn declare(alloc: Global, builder: &mut SchemaBuilder) -> anyhow::Result<()> {
     for number in 0..ACCOUNTS {
         let account = builder.object(format!(in alloc; "account{number}")?.as_str())?;
         let balance = format!(in alloc; "balance{number}")?;
         builder.field(account, balance.as_str(), account, 100)?;
     }
-    Ok(builder.build().map_err(|(_, why)| why)?)
+    Ok(())
 }
 
 fn main(rt: HostRuntime) -> anyhow::Result<()> {
     let schema = accounts(rt.alloc())?;
     let work = Transfers { rounds: 100 };
-    let (outcome, _) = run_file(&rt, rt.alloc(), "accounts.heap", schema, THREADS, &work)?;
+    let plan = FilePlan::of(THREADS);
+    let (outcome, _) = run_file(&rt, rt.alloc(), "accounts.heap", schema, plan, &work)?;
     outcome.answer?;
     for (number, balance) in outcome.heap.iter().enumerate() {
         println!(rt; "account {number}: {balance}")?;

@@ -19,37 +19,38 @@ use Rattle.session.specs.declared.session.Session.{Session}
 use Rattle.store_image.specs.Formatting.{AreLimits}
 use Rattle.thread_files.specs.declared.error.FileRunError.{FileRunError}
 use Rattle.thread_files.specs.declared.error.FileRunError.TheVariants.{File, Format, Run}
+use Rattle.thread_files.specs.declared.plan.FilePlan.{FilePlan}
 
 -- the disk of the image that was at a path, of which nothing was asked yet
 pub record IsOpenedAt (had : Option (List ℕ)) (d : Device) : Type 0 where
   pub fresh : d ≡ new_device d.now.bytes
   pub was : IsThere d.now.bytes had
 
--- what is asked for where there is no image yet: one with so many lanes of 4,000 records, in one place
-abbrev pub asked_for : (lanes : ℕ) → NewImage
-asked_for lanes = record { lanes = lanes; capacity = 4000; sectors = None; is_kept = false }
+-- what is asked for where there is no image yet: a lane for each thread and the helper's, with logs as the plan says, in one place
+abbrev pub asked_for : FilePlan → NewImage
+asked_for plan = record { lanes = lanes_for plan.threads; capacity = plan.lane_records; sectors = None; is_kept = false }
 
 -- the disk of an image that was made for threads
-abbrev pub IsMadeAt : (schema : Declarations) (lanes : ℕ) → Device → Type 0
-IsMadeAt schema lanes d = (layout : Layout) × IsImageFor schema (asked_for lanes) layout d
+abbrev pub IsMadeAt : (schema : Declarations) (plan : FilePlan) → Device → Type 0
+IsMadeAt schema plan d = (layout : Layout) × IsImageFor schema (asked_for plan) layout d
 
--- so many threads begin with this disk: that of the image at a path, or one that was made for them where there was none
-abbrev pub BeginsAt : (schema : Declarations) (threads : ℕ) (had : Option (List ℕ)) → Device → Type 0
-BeginsAt schema threads had d = IsOpenedAt had d ⊎ (IsThere [] had × IsMadeAt schema (lanes_for threads) d)
+-- Threads begin with this disk: that of the image at a path, or one that was made for them where there was none.
+abbrev pub BeginsAt : {D : Type 0} (device : D → Device) (schema : Declarations) (plan : FilePlan) (had : Option (List ℕ)) → D → Type 0
+BeginsAt device schema plan had disk = IsOpenedAt had (device disk) ⊎ (IsThere [] had × IsMadeAt schema plan (device disk))
 
 -- no image is made for threads, and that for its numbers only where it may have none. What was there stays, or a whole new one is there
-pub record IsNotMade (schema : Declarations) (lanes : ℕ) (had has : Option (List ℕ)) (e : FormatError) : Type 0 where
-  pub numbers : IsBeforeFile e → AreLimits lanes 4000 → ⊥
-  pub left : StaysOrIsMade schema (asked_for lanes) had has
+pub record IsNotMade (schema : Declarations) (plan : FilePlan) (had has : Option (List ℕ)) (e : FormatError) : Type 0 where
+  pub numbers : IsBeforeFile e → AreLimits (lanes_for plan.threads) plan.lane_records → ⊥
+  pub left : StaysOrIsMade schema (asked_for plan) had has
 
-abbrev pub HasNoImage : (schema : Declarations) (lanes : ℕ) (had has : Option (List ℕ)) → FileRunError → Type 0
-HasNoImage schema lanes had has (Format e) = IsNotMade schema lanes had has e
-HasNoImage schema lanes had has _ = ⊥
+abbrev pub HasNoImage : (schema : Declarations) (plan : FilePlan) (had has : Option (List ℕ)) → FileRunError → Type 0
+HasNoImage schema plan had has (Format e) = IsNotMade schema plan had has e
+HasNoImage schema plan had has _ = ⊥
 
 -- there is no disk for threads: none is had, and the image stays; or none is made
-abbrev pub HasNoDisk : (schema : Declarations) (threads : ℕ) (had has : Option (List ℕ)) → FileRunError → Type 0
-HasNoDisk schema threads had has (File e) = has ≡ had
-HasNoDisk schema threads had has fault = HasNoImage schema (lanes_for threads) had has fault
+abbrev pub HasNoDisk : (schema : Declarations) (plan : FilePlan) (had has : Option (List ℕ)) → FileRunError → Type 0
+HasNoDisk schema plan had has (File e) = has ≡ had
+HasNoDisk schema plan had has fault = HasNoImage schema plan had has fault
 
 -- what is on this disk is at the path
 abbrev pub LeavesAt : {D : Type 0} (device : D → Device) → Parts D → (has : Option (List ℕ)) → Type 0
@@ -57,25 +58,25 @@ LeavesAt device now has = IsThere (device now.disk).now.bytes has
 
 -- what a body does, and the device of a disk
 module _ (does : Home → Session → Session → Answer → Type 0) {D : Type 0} (device : D → Device) where
-  -- threads have run on the image at a path, and what they have left is there now
-  pub record HasRunAt (schema : Declarations) (threads : ℕ) (had has : Option (List ℕ)) (outcome : Outcome) (report : Report) : Type 0 where
-    pub opened : Device
-    pub begun : BeginsAt schema threads had opened
-    pub theirs : Holds schema threads opened.now.bytes
+  -- Threads have run on the image at a path, and what they have left is there now. This is told of it.
+  pub record HasRunAt (schema : Declarations) (plan : FilePlan) (had has : Option (List ℕ)) (told : Outcome × Report) : Type 0 where
+    pub opened : D
+    pub begun : BeginsAt device schema plan had opened
+    pub theirs : Holds schema plan.threads (device opened).now.bytes
     pub now : Parts D
     -- What threads tell of an image file is what they did on the device that it is.
-    pub so : HasRunOn does device schema threads opened report now outcome
+    pub so : HasRunOn does device schema plan.threads (device opened) told.1 now told.0
     pub left : LeavesAt device now has
 
   -- threads don't go on with this image: what is there is what the disk may leave
-  pub record RefusesRun (schema : Declarations) (threads : ℕ) (had has : Option (List ℕ)) (e : RunError) : Type 0 where
-    pub opened : Device
-    pub begun : BeginsAt schema threads had opened
+  pub record RefusesRun (schema : Declarations) (plan : FilePlan) (had has : Option (List ℕ)) (e : RunError) : Type 0 where
+    pub opened : D
+    pub begun : BeginsAt device schema plan had opened
     pub after : Device
-    pub refused : RefusesOn does device schema threads opened after e
+    pub refused : RefusesOn does device schema plan.threads (device opened) after e
     pub left : IsLeft after.now has
 
   -- threads don't run on the image at a path
-  abbrev pub RefusesAt : (schema : Declarations) (threads : ℕ) (had has : Option (List ℕ)) → FileRunError → Type 0
-  RefusesAt schema threads had has (Run e) = RefusesRun schema threads had has e
-  RefusesAt schema threads had has fault = HasNoDisk schema threads had has fault
+  abbrev pub RefusesAt : (schema : Declarations) (plan : FilePlan) (had has : Option (List ℕ)) → FileRunError → Type 0
+  RefusesAt schema plan had has (Run e) = RefusesRun schema plan had has e
+  RefusesAt schema plan had has fault = HasNoDisk schema plan had has fault

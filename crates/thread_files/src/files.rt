@@ -6,6 +6,7 @@ ghost use Rattle.image_file.specs.declared.watched.Watched.{Watched as Seen};
 ghost use Rattle.disk_sector_file.specs.ImageDisks.{device_on};
 
 use crate::error::FileRunError;
+use crate::plan::FilePlan;
 use block_disk::Disk;
 use disk_file::BackingFile;
 use guards::Schema;
@@ -20,13 +21,10 @@ use std::sync::Wait;
 use std::thread::Threads;
 use thread_work::{Outcome, Ran, Work, lanes_for, run_on};
 
-// The records of a lane in an image that is made.
-const CAPACITY: u32 = 4_000;
-
-/// Lets so many threads do this work on the image file at this path, which has to be of this schema, with as many lanes or one more.
-/// Where there is no file, or one of no bytes, a whole image takes its place first: it has lanes of 4,000 records, one for each thread
-/// and one for the helper ([`lanes_for`]). No other process has it until they have ended. It tells what they leave, and what recovery
-/// kept and dropped before they began.
+/// Lets threads do this work on the image file at this path, which has to be of this schema, with as many lanes as there are threads, or
+/// one more. Where there is no file, or one of no bytes, a whole image takes its place first, with a lane for each thread and one for the
+/// helper ([`lanes_for`]). No other process has it until they have ended. It tells what they leave, and what recovery kept and dropped
+/// before they began.
 ///
 /// It refuses as [`run_at`] does.
 pub fn run_file<F, W, R>(
@@ -34,7 +32,7 @@ pub fn run_file<F, W, R>(
     alloc: Global,
     path: &str,
     schema: Schema,
-    threads: u8,
+    plan: FilePlan,
     work: &W,
 ) -> Result<(Outcome, Report), FileRunError>
 where
@@ -42,21 +40,21 @@ where
     W: Work + Sync,
     R: Files<File = F> + Threads + Wait + Sync,
     // Threads on an image file go on with the heap that recovery gives of its bytes, or with one that was made for them.
-    ensures ok { IfOk result (λ r. HasRunAt (W.does work.now) (device_on {F = Seen F}) schema threads None None r.0 r.1) }
+    ensures ok { IfOk result (HasRunAt (W.does work.now) (device_on {F = Seen F}) schema plan None None) }
     // Threads on an image file are refused only as on the device that it is, or for want of the file.
-    ensures refused { IfErr result (RefusesAt (W.does work.now) (device_on {F = Seen F}) schema threads None None) }
+    ensures refused { IfErr result (RefusesAt (W.does work.now) (device_on {F = Seen F}) schema plan None None) }
 {
     let trouble = Trouble::none();
     let mut images = FileImages::new(rt, &trouble);
-    let ran = run_at(rt, &mut images, alloc, path, schema, threads, work);
+    let ran = run_at(rt, &mut images, alloc, path, schema, plan, work);
     drop(images);
     ran
 }
 
-/// Lets so many threads do this work on the image at this path, which has to be of this schema, with as many lanes or one more. Where
-/// there is none, or one of no bytes, a whole image takes its place first: it has lanes of 4,000 records, one for each thread and one for
-/// the helper ([`lanes_for`]). Nobody else has it until they have ended. It tells what they leave, and what recovery kept and dropped
-/// before they began.
+/// Lets threads do this work on the image at this path, which has to be of this schema, with as many lanes as there are threads, or one
+/// more. Where there is none, or one of no bytes, a whole image takes its place first, with a lane for each thread and one for the helper
+/// ([`lanes_for`]). Nobody else has it until they have ended. It tells what they leave, and what recovery kept and dropped before they
+/// began.
 ///
 /// Refusals, in this order:
 /// - `File`: the file can't be opened for reading and writing (`Fault`), another process has it (`InUse`), or it has bytes and doesn't
@@ -69,7 +67,7 @@ pub fn run_at<D, P, W, R>(
     alloc: Global,
     path: &str,
     schema: Schema,
-    threads: u8,
+    plan: FilePlan,
     work: &W,
 ) -> Result<(Outcome, Report), FileRunError>
 where
@@ -79,20 +77,20 @@ where
     R: Threads + Wait + Sync,
     // Threads begin with the image at that path, or with one that was made for them where there was none. What they
     // leave is there afterwards.
-    ensures ok { IfOk result (λ r. HasRunAt (W.does work.now) D.device schema threads (P.holds images.old path.now) (P.holds images.new path.now) r.0 r.1) }
+    ensures ok { IfOk result (HasRunAt (W.does work.now) D.device schema plan (P.holds images.old path.now) (P.holds images.new path.now)) }
     // A refusal of threads tells what is at the path.
-    ensures refused { IfErr result (RefusesAt (W.does work.now) D.device schema threads (P.holds images.old path.now) (P.holds images.new path.now)) }
+    ensures refused { IfErr result (RefusesAt (W.does work.now) D.device schema plan (P.holds images.old path.now) (P.holds images.new path.now)) }
     // Nothing beside the path is lost.
     ensures beside { KeepsBeside false path.now (P.holds images.old) (P.holds images.new) }
 {
-    let disk = match disk_at(images, alloc, path, &schema, threads) {
+    let disk = match disk_at(images, alloc, path, &schema, plan) {
         Ok(disk) => disk,
         Err(fault) => {
             drop(schema);
             return Err(fault);
         }
     };
-    match run_on(rt, alloc, disk, schema, threads, work) {
+    match run_on(rt, alloc, disk, schema, plan.threads, work) {
         Ok((ran, report)) => {
             let Ran { recovered, outcome } = ran;
             give_back(images, path, recovered);
@@ -123,13 +121,13 @@ fn disk_at<D, P>(
     alloc: Global,
     path: &str,
     schema: &Schema,
-    threads: u8,
+    plan: FilePlan,
 ) -> Result<D, FileRunError>
 where
     D: Disk + Drop,
     P: Images<Medium = D>,
-    ensures ok { IfOk result (λ disk. BeginsAt schema.now threads (P.holds images.old path.now) (D.device disk)) }
-    ensures refused { IfErr result (HasNoDisk schema.now threads (P.holds images.old path.now) (P.holds images.new path.now)) }
+    ensures ok { IfOk result (BeginsAt D.device schema.now plan (P.holds images.old path.now)) }
+    ensures refused { IfErr result (HasNoDisk schema.now plan (P.holds images.old path.now) (P.holds images.new path.now)) }
     ensures beside { KeepsBeside false path.now (P.holds images.old) (P.holds images.new) }
 {
     let vacant = match images.is_vacant(path) {
@@ -137,7 +135,7 @@ where
         Err(fault) => return Err(FileRunError::File(fault)),
     };
     if vacant {
-        return made_at(images, alloc, path, schema, lanes_for(threads));
+        return made_at(images, alloc, path, schema, plan);
     }
     match images.open(alloc, path) {
         Ok(disk) => Ok(disk),
@@ -145,24 +143,24 @@ where
     }
 }
 
-// The disk of an image of this schema with so many lanes, which takes its place at this path whole.
+// The disk of an image for these threads, which takes its place at this path whole.
 fn made_at<D, P>(
     images: &mut P,
     alloc: Global,
     path: &str,
     schema: &Schema,
-    lanes: u8,
+    plan: FilePlan,
 ) -> Result<D, FileRunError>
 where
     D: Disk + Drop,
     P: Images<Medium = D>,
-    ensures ok { IfOk result (λ disk. IsMadeAt schema.now lanes (D.device disk)) }
-    ensures refused { IfErr result (HasNoImage schema.now lanes (P.holds images.old path.now) (P.holds images.new path.now)) }
+    ensures ok { IfOk result (λ disk. IsMadeAt schema.now plan (D.device disk)) }
+    ensures refused { IfErr result (HasNoImage schema.now plan (P.holds images.old path.now) (P.holds images.new path.now)) }
     ensures beside { KeepsBeside false path.now (P.holds images.old) (P.holds images.new) }
 {
     let new = NewImage {
-        lanes,
-        capacity: CAPACITY,
+        lanes: lanes_for(plan.threads),
+        capacity: plan.lane_records,
         sectors: None,
         is_kept: false,
     };

@@ -2,12 +2,13 @@
 
 use crate::room::{TABLE, TURN, schema};
 use disk_file::BackingFile;
+use std::fs;
 use std::fs::OpenFile;
 use std::io::Read;
 use std::rt::Files;
 use std::sync::Wait;
 use std::thread::Threads;
-use thread_files::{HeapThread, Joint, SessionError, Work, run_file};
+use thread_files::{FilePlan, HeapThread, Joint, SessionError, Work, run_file};
 
 // Each lane adds one to the turn.
 #[derive(Drop)]
@@ -33,7 +34,7 @@ where
     R: Files<File = F> + AllocGlobal + Threads + Wait + Sync,
 {
     let schema = schema(rt.alloc())?;
-    match run_file(rt, rt.alloc(), path, schema, 2, &Adds) {
+    match run_file(rt, rt.alloc(), path, schema, FilePlan::of(2), &Adds) {
         Ok((outcome, report)) => {
             drop(report);
             let left = outcome.heap.first().copied();
@@ -61,6 +62,25 @@ where
 #[test]
 fn each_file_has_its_own_heap(rt: HostRuntime) {
     assert!(rt; turns_left(&rt) == Some([2, 2, 4, 4]));
+}
+
+// Whether threads on one file leave another one, and a file beside theirs, as they were.
+fn leaves_others(rt: &HostRuntime) -> Option<bool> {
+    turn_left(rt, "other.heap")?;
+    fs::write(rt, "own.heap~", b"kept").ok()?;
+    let before = fs::read(rt, "other.heap").ok()?;
+    let left = turn_left(rt, "own.heap");
+    let other = fs::read(rt, "other.heap").ok()?;
+    let stays = other.as_slice() == before.as_slice();
+    drop(other);
+    drop(before);
+    let kept = fs::read(rt, "own.heap~").ok()?;
+    Some(stays && left == Some(2) && kept.as_slice() == b"kept")
+}
+
+#[test]
+fn another_file_stays_as_it_was(rt: HostRuntime) {
+    assert!(rt; leaves_others(&rt) == Some(true));
 }
 
 // What they leave in a file that is moved then, where it is, and where another has taken its place.

@@ -3,7 +3,7 @@
 use block_disk::MemDisk;
 use image::Layout;
 use std::alloc::Global;
-use thread_work::{FieldId, ObjectId, Schema, SchemaBuilder, lanes_for};
+use thread_work::{FieldId, ObjectId, Schema, SchemaBuilder, SchemaError, lanes_for};
 
 pub const TABLE: ObjectId = ObjectId(0);
 
@@ -17,10 +17,10 @@ pub const CAPACITY: u32 = 4_000;
 /// A table with its turn, and a chair with its count.
 pub fn schema(alloc: Global) -> Option<Schema> {
     let mut builder = SchemaBuilder::new(alloc);
-    let table = builder.object("table").ok()?;
-    builder.field(table, "turn", table, 0).ok()?;
-    let chair = builder.object("chair").ok()?;
-    builder.field(chair, "count", chair, 7).ok()?;
+    if declare(&mut builder).is_err() {
+        drop(builder);
+        return None;
+    }
     match builder.build() {
         Ok(schema) => Some(schema),
         Err((builder, _)) => {
@@ -28,6 +28,15 @@ pub fn schema(alloc: Global) -> Option<Schema> {
             None
         }
     }
+}
+
+// Declares both.
+fn declare(builder: &mut SchemaBuilder) -> Result<(), SchemaError> {
+    let table = builder.object("table")?;
+    builder.field(table, "turn", table, 0)?;
+    let chair = builder.object("chair")?;
+    builder.field(chair, "count", chair, 7)?;
+    Ok(())
 }
 
 /// A disk for an image of this schema for so many threads.
