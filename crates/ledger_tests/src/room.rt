@@ -3,7 +3,7 @@
 use block_disk::MemDisk;
 use image::Layout;
 use std::alloc::Global;
-use thread_work::{Schema, SchemaBuilder, lanes_for};
+use thread_work::{Schema, SchemaBuilder, SchemaError, lanes_for};
 
 /// How many records a lane has room for.
 pub const CAPACITY: u32 = 4_000;
@@ -17,15 +17,10 @@ pub const SECOND: u64 = u64::MAX - 4;
 /// Two accounts; an object whose field is under the monitor of another one, numbered 2; and one without a field, numbered 3.
 pub fn schema(alloc: Global) -> Option<Schema> {
     let mut builder = SchemaBuilder::new(alloc);
-    let first = builder.object("first").ok()?;
-    builder.field(first, "balance of first", first, FIRST).ok()?;
-    let second = builder.object("second").ok()?;
-    builder
-        .field(second, "balance of second", second, SECOND)
-        .ok()?;
-    let third = builder.object("third").ok()?;
-    builder.field(third, "balance of third", second, 0).ok()?;
-    let _ = builder.object("fourth").ok()?;
+    if declare(&mut builder).is_err() {
+        drop(builder);
+        return None;
+    }
     match builder.build() {
         Ok(schema) => Some(schema),
         Err((builder, _)) => {
@@ -33,6 +28,18 @@ pub fn schema(alloc: Global) -> Option<Schema> {
             None
         }
     }
+}
+
+// Declares them.
+fn declare(builder: &mut SchemaBuilder) -> Result<(), SchemaError> {
+    let first = builder.object("first")?;
+    builder.field(first, "balance of first", first, FIRST)?;
+    let second = builder.object("second")?;
+    builder.field(second, "balance of second", second, SECOND)?;
+    let third = builder.object("third")?;
+    builder.field(third, "balance of third", second, 0)?;
+    builder.object("fourth")?;
+    Ok(())
 }
 
 /// A disk for an image of this schema, for one thread.
