@@ -3,9 +3,9 @@ use Rattle.std.proofs.Common.{ℕ, ◌≡◌, ◌+◌, ◌≤◌, Ok, Err, inl, 
 use Rattle.block_disk.specs.Device.{Device}
 use Rattle.guards.specs.Schema.{Declarations}
 use Rattle.thread_work.specs.Bodies.{Answer, WereCalled}
-use Rattle.thread_work.specs.Crashes.{KeepsSome}
+use Rattle.thread_work.specs.Crashes.{HaveLeft}
 use Rattle.thread_work.specs.Outcomes.{HasRunFrom}
-use Rattle.thread_work.specs.Returns.{HasReturned}
+use Rattle.thread_work.specs.Returns.{HasReturned, LeavesBack}
 use Rattle.thread_work.specs.Stops as threads
 use Rattle.thread_work.specs.declared.error.RunError.{RunError}
 use Rattle.thread_work.specs.declared.error.RunError.TheVariants as run
@@ -51,15 +51,15 @@ module _ {D : Type 0} (device : D → Device) where
   said_stops schema n was new run.NoThread s = inr (record { shared = s.shared; plan = s.plan; stops = tt; crashes = inl s.crashes })
   said_stops schema n was new (run.Image e) s = absurd s.stops
   said_stops schema n was new (run.Helper e) s = record { shared = s.shared; plan = s.plan; stops = s.stops; crashes = s.crashes }
-  said_stops schema n was new run.Unfinished s = absurd (never_open s.shared s.stops)
+  said_stops schema n was new run.Unfinished s = absurd (never_open s.shared was.layout (device was.disk) new s.crashes)
   said_stops schema n was new (run.Close e) s = record { shared = s.shared; plan = s.plan; stops = s.stops; crashes = s.crashes }
   said_stops schema n was new (run.Recover e) s = record { shared = s.shared; plan = s.plan; stops = s.stops; crashes = s.crashes }
   said_stops schema n was new run.OtherSchema s = absurd s.stops
 
   -- since a worker has ended early
-  pub session_stops : (schema : Declarations) (n : ℕ) (was : Parts D) (r : Returned D) (new : Device) (e : SessionError) → HasReturned HasCounted device schema n was r → r.answer ≡ Err e → new ≡ device r.helper.store.disk
+  pub session_stops : (schema : Declarations) (n : ℕ) (was : Parts D) (r : Returned D) (new : Device) (e : SessionError) → HasReturned HasCounted device schema n was r → r.answer ≡ Err e → LeavesBack HasCounted device r new
       → StopsRun device schema n was new (Session e)
-  session_stops schema n was r new e returned is same =
+  session_stops schema n was r new e returned is leaves =
       let back = returned.back in
       let called = subst (λ (a : Answer). WereCalled HasCounted r.shared r.helper.store.known.layout.capacity a r.ended.items) is back.called in
       let first = first_stops r.shared r.helper.store.known.layout.capacity 0 r.shared.plan.lanes e r.ended.items back.lanes called.1 in
@@ -70,5 +70,5 @@ module _ {D : Type 0} (device : D → Device) where
         shared = r.shared;
         plan = returned.plan;
         stops = subst (λ (k : Layout). StopsWorker r.shared k.capacity e) returned.layout stops;
-        crashes = subst (λ (d : Device). KeepsSome r.shared was.layout (device was.disk) d) (sym same) returned.crashes;
+        crashes = (r.ended.items, subst (λ (k : Layout). HaveLeft HasCounted r.shared k r.ended.items (device was.disk) new) returned.layout (leaves (device was.disk) returned.past returned.living));
       }

@@ -21,7 +21,7 @@ RefusesSize workers (Schema e) = e ≡ schemas.NoMemory
 RefusesSize workers (Image e) = (e ≡ images.BadHeader) × (MayHaveImage workers → ⊥)
 RefusesSize workers _ = ⊥
 
--- Where objects and fields are the workers' own, a session refuses only since the helper is behind, or since numbers have come to their end.
+-- Where objects and fields are the workers' own, a session refuses only as `Behind`, or because numbers have come to their end.
 abbrev pub IsOwnStop : DriveError → Type 0
 IsOwnStop (Session e) = (e ≡ sessions.Behind) ⊎ (e ≡ sessions.Worn)
 IsOwnStop _ = Unit {0}

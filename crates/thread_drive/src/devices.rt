@@ -134,7 +134,7 @@ pub fn drive_new<D: Disk + Drop, M: Meet + Sync, R: Threads + Wait + Sync>(
 /// - `Recover`: the image is refused by [`study`](recover::study);
 /// - `OtherSchema`: it isn't one of so many workers, with as many lanes or one more;
 /// - `Recover`: it wasn't recovered, for want of memory, by a fault, since it is of version 1, or since its control is worn. It is as it
-///   was then, but that a sync was made; or behind a fault, maybe on recovery's way;
+///   was then, but that a sync was made; or after a fault, maybe on recovery's way;
 /// - those of [`drive_heap`].
 pub fn drive_on<D: Disk + Drop, M: Meet + Sync, R: Threads + Wait + Sync>(
     rt: &R,

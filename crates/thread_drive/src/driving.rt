@@ -15,27 +15,28 @@ use image::Recovered;
 use std::alloc::Global;
 use std::sync::Wait;
 use std::thread::Threads;
-use thread_work::{Outcome, Returned, RunError, SessionError, close_returned, work_on};
+use thread_work::{
+    Outcome, Returned, RunError, SessionError, close_returned, leave_returned, work_on,
+};
 
-/// Lets so many workers work so many rounds, or as many as [`Meet::goes_on`] lets them, on a heap of this schema that was recovered,
-/// each with a lane of its own, closes the heap, and recovers the device: what is told is what recovery finds there. Where the image has
+/// Lets so many workers work so many rounds, or as many as [`Meet::goes_on`] lets them, on a heap of this schema that was recovered.
+/// Each has a lane of its own. Then it closes the heap, recovers the device, and answers what recovery finds there. Where the image has
 /// one lane more, the last one is the helper's, and a round takes two syncs in place of four.
 ///
-/// A crash may come at any moment of it: recovery takes what that leaves, and keeps whole sections, each with all that it depends on.
-/// Where the heap is closed at last, they are of the one history in which each session's answers stand; where a round was refused, or
-/// a worker, or memory was wanting before the closing, of one that the helper had seen. A closing that is stopped leaves what calls of the
-/// store have made, and what comes behind it what a recovery leaves, which may be cut off.
+/// A crash may come at any moment of it. Recovery accepts what the crash leaves, and keeps whole sections, each with all that it depends
+/// on. Where the heap is closed, or a round or a worker is refused, they are of the one history in which each session's answers stand.
+/// Once the workers have ended, and there was memory for what they left, no crash takes back what a worker had read as stable.
 ///
 /// Refusals, in this order, each with the device as a stop leaves it; it may be recovered:
 /// - `NoMemory`: there was no room for what the threads share, or some worker got no thread. No worker has worked then;
 /// - `Helper`: a round of the helper was refused, by `Worn`, with the control's sequence at its last value, or by `Fault`, after a
 ///   failure of the device. Never by `Failed`: the first fault ends the rounds;
 /// - `NoMemory`: there was no room for what the workers leave;
-/// - `Session`: a worker's call was refused. Where each worker has its object and its field, as in a schema of [`declare`](crate::declare), that is by
-///   `Behind`, after the helper has stopped, or by `Worn`;
+/// - `Session`: a worker's call was refused. Where each worker has its object and its field, as in a schema of
+///   [`declare`](crate::declare), that is by `Behind`, after the helper has stopped, or by `Worn`;
 /// - `Close`: the heap wasn't closed, by `Worn` or by `Fault`. No session is missing, and none holds a monitor;
-/// - `Recover`: the device wasn't recovered: a call of it failed, memory was wanting, or its control is at its last sequence.
-///   Never because of what the closing left: recovery takes that;
+/// - `Recover`: the device wasn't recovered: a call of it failed, memory ran out, or its control is at its last sequence.
+///   Never because of what the closing left: recovery accepts that;
 /// - `NoMemory`: there was no room for what is told. The device is recovered.
 pub fn drive_heap<D: Disk + Drop, M: Meet + Sync, R: Threads + Wait + Sync>(
     rt: &R,
@@ -61,7 +62,8 @@ pub fn drive_heap<D: Disk + Drop, M: Meet + Sync, R: Threads + Wait + Sync>(
         Err((disk, refusal)) => return Err((disk, said(refusal))),
     };
     if let Err(refusal) = answer_of(&returned) {
-        return Err((returned.into_disk(), DriveError::Session(refusal)));
+        let disk = leave_returned(&work, returned);
+        return Err((disk, DriveError::Session(refusal)));
     }
     match close_returned(alloc, &work, returned) {
         Ok((recovered, outcome)) => Ok((recovered, told(outcome))),

@@ -16,9 +16,9 @@ const ALL: ObjectId = ObjectId(0);
 
 const TOTAL: FieldId = FieldId(0);
 
-/// Workers, as the work of a heap's threads: in each of so many rounds, or as many as it goes on for, a worker, in a section of its own,
-/// adds one to its own field, meets the others, and adds one to the field for all. After `Behind` it tries again, unless the helper has
-/// stopped.
+/// Workers, as the work of a heap's threads. There are so many rounds, or as many as [`Meet::goes_on`] lets there be. In each a worker, in a
+/// section of its own, adds one to its own field, meets the others, and adds one to the field for all. After `Behind` it tries again, unless
+/// the helper has stopped.
 #[derive(Drop)]
 pub struct Workers<'m, M: Meet> {
     pub meet: &'m M,
@@ -70,7 +70,7 @@ fn work_all<J: Joint, R: Wait, M: Meet>(
     Ok(())
 }
 
-// One round, which is tried until the helper isn't behind, or has stopped.
+// One round, which is tried until it isn't refused as `Behind`, or the helper has stopped.
 fn work_round<J: Joint, R: Wait, M: Meet>(
     rt: &R,
     meet: &M,
@@ -153,9 +153,7 @@ fn take<J: Joint, R: Wait>(
     requires seat { IsSessionOf J.home thread.old }
     ensures seat { IsSessionOf J.home thread.new }
     ensures ring { SameRing thread.old thread.new }
-    ensures taken { (objects : List ℕ) (records : ℕ) → MayTake objects records object.0 → HoldsJust (view_of thread.old) objects records
-        → MatchResult result (λ done. (object.0 < (plan J.home).objects) × HoldsJust (view_of thread.new) (object.0 ∷ objects) (records + 1))
-        (λ e. RefusesEnter J.home (capacity_of thread.old) object e × HoldsJust (view_of thread.new) objects records) }
+    ensures taken { TakesOne J.home thread.old thread.new object result }
 {
     thread.enter(rt, object)
 }
@@ -165,8 +163,8 @@ fn count<J: Joint>(thread: &mut HeapThread<'_, J>, field: FieldId) -> Result<(),
     requires seat { IsSessionOf J.home thread.old }
     ensures seat { IsSessionOf J.home thread.new }
     ensures ring { SameRing thread.old thread.new }
-    ensures held { (objects : List ℕ) (records : ℕ) → 0 < length objects → HoldsJust (view_of thread.old) objects records → HoldsJust (view_of thread.new) objects (records + 1) }
-    ensures refused { (objects : List ℕ) (records : ℕ) → records + length objects < SECTION_RECORDS → HoldsJust (view_of thread.old) objects records → IfErr result (RefusesCount J.home field objects) }
+    ensures held { AddsRecord thread.old thread.new }
+    ensures refused { RefusesToCount J.home thread.old field result }
 {
     match thread.load(field) {
         Ok(value) => thread.store(field, value.wrapping_add(1)),
@@ -182,11 +180,11 @@ fn leave<J: Joint>(
 ) -> Result<(), SessionError>
     requires seat { IsSessionOf J.home thread.old }
     requires object { object.0 < (plan J.home).objects }
-    requires held { (objects : List ℕ) × (records : ℕ) × HoldsJust (view_of thread.old) (object.0 ∷ objects) records }
+    requires held { HoldsLast thread.old object.0 }
     ensures seat { IsSessionOf J.home thread.new }
     ensures ring { SameRing thread.old thread.new }
     ensures same { result ≡ answer }
-    ensures held { (objects : List ℕ) (records : ℕ) → locks_of objects object.0 ≡ None → HoldsJust (view_of thread.old) (object.0 ∷ objects) records → HoldsJust (view_of thread.new) objects (records + 1) }
+    ensures held { GivesBack thread.old thread.new object.0 }
 {
     let left = thread.exit(object);
     match answer {

@@ -1,6 +1,5 @@
--- What the threads of some lanes leave, with that of the next lane behind it.
+-- What the threads of some lanes leave, with what the next lane's thread leaves.
 use Rattle.std.proofs.Common.{ℕ, ◌≡◌, ◌<◌, length, arith, List, [], ◌∷◌, ◌++◌, All, Option, Some, None, Result, Ok, Err, IfOk, IfSome, inl, inr, sym, ap, ◌∙◌, subst}
-use Rattle.std.specs.List.{slice_index_or}
 use Rattle.std.proofs.lemmas.List.{map-append}
 use Rattle.std.proofs.lemmas.List.Elements.{All-head, All-nil, All-pop, All-push, All-tail, All-weaker}
 use Rattle.std.specs.declared.alloc.AllocError.{AllocError}
@@ -13,8 +12,9 @@ use Rattle.session.specs.declared.session.Session.{Session}
 use Rattle.trim_helper.specs.Endings.{IsEnded, Rings, lanes_ended}
 use Rattle.trim_helper.specs.Parts.{Parts}
 use Rattle.trim_helper.specs.declared.ended.Ended.{Ended}
-use Rattle.thread_work.specs.Beside.{HasServed, HaveWorkedBeside, JoinsOne}
-use Rattle.thread_work.specs.Bodies.{Answer, AreWorked, HasWorked, HaveWorked, IsFirst, IsFirstRefusal, LeftOpen, WasCalled, WereCalled, both_of, lanes_opened}
+use Rattle.thread_work.specs.Beside.{HaveWorkedBeside, JoinsOne}
+use Rattle.thread_work.specs.Serving.{HasServed}
+use Rattle.thread_work.specs.Bodies.{Answer, AreWorked, HasWorked, HaveWorked, IsFirst, IsFirstRefusal, WasCalled, WereCalled, both_of, lanes_opened}
 use Rattle.thread_work.specs.declared.beside.Beside.{Beside}
 use Rattle.thread_work.specs.declared.body.AllWorked.{AllWorked}
 use Rattle.thread_work.specs.declared.body.Worked.{Worked}
@@ -34,7 +34,7 @@ module _ (does : Home → Session → Session → Answer → Type 0) (h : Home) 
   refused_last n r (x ∷ es) e all here = inr (All-head (λ y. WasCalled does h n y (Ok tt)) x es all, refused_last n r es e (All-tail (λ y. WasCalled does h n y (Ok tt)) x es all) here)
 
   -- each was called, with some answer
-  some_answer : (n : ℕ) (a : Answer) (es : List Ended) → WereCalled does h n a es → All (λ e. (x : Answer) × WasCalled does h n e x) es
+  pub some_answer : (n : ℕ) (a : Answer) (es : List Ended) → WereCalled does h n a es → All (λ e. (x : Answer) × WasCalled does h n e x) es
   some_answer n (Ok done) es all = All-weaker (λ e. WasCalled does h n e (Ok tt)) (λ e. (x : Answer) × WasCalled does h n e x) (λ e one. (Ok tt, one)) es all
   some_answer n (Err r) es all = all.0
 
@@ -84,14 +84,6 @@ module _ (does : Home → Session → Session → Answer → Type 0) (h : Home) 
     called = subst (λ a. IfSome a (λ x. WereCalled does h capacity x w.ended.items)) (sym answer) (subst (λ es. All (λ e. WasCalled does h capacity e (Ok tt)) es) (sym items) (All-nil (λ e. WasCalled does h capacity e (Ok tt))));
   }
 
-  -- one that holds a monitor was called, and has left it open
-  pub left_open : (capacity : ℕ) (rings : Rings) (es : List Ended) (a : Answer) (k : ℕ) → k < length es → All (IsEnded h capacity rings) es → WereCalled does h capacity a es
-      → ((d : Ended) → (slice_index_or es k d).held ≡ 0 → ⊥) → LeftOpen does h
-  left_open capacity rings [] a k low ended called holds = absurd (omega (arith, low))
-  left_open capacity rings (e ∷ es) a k low ended called holds =
-      let one = some_answer capacity a (e ∷ es) called k e low in
-      record { ended = slice_index_or (e ∷ es) k e; answer = one.0; called = one.1; capacity = capacity; rings = rings; is_ended = ended k e low; holds = holds e }
-
   -- with what a further thread leaves
   pub have_one : (sessions rest : List Session) (s : Session) (before answer : Result AllWorked AllocError) (one : Worked) → sessions ≡ rest ++ s ∷ [] → All (IsFirst h) sessions → HaveWorked does h rest before → HasWorked does h s one
       → IfOk answer (λ all. JoinsOne before one all) → HaveWorked does h sessions answer
@@ -108,7 +100,7 @@ module _ (does : Home → Session → Session → Answer → Type 0) (h : Home) 
   have_none sessions (Ok w) is nobody capacity rings joined = subst (λ (ss : List Session). AreWorked does h capacity rings ss w) (sym is) (none_worked capacity rings w nobody.0 nobody.1)
 
   -- so where only a helper has served
-  pub have_nobody : {D : Type 0} (device : D → Device) (sessions : List Session) (helper : Parts D) (answer : Result (Beside D) (Parts D)) → sessions ≡ [] → IfOk answer (λ b. HasServed device h helper b.served)
+  pub have_nobody : {D : Type 0} (device : D → Device) (sessions : List Session) (helper : Parts D) (answer : Result (Beside D) (Parts D)) → sessions ≡ [] → IfOk answer (λ b. HasServed device h helper b.served.helper b.served.answer)
       → IfOk answer (λ b. IfOk b.worked (λ w. (w.ended.items ≡ []) × (w.answer ≡ Some (Ok tt)))) → IfOk answer (HaveWorkedBeside does device h sessions helper)
   have_nobody device sessions helper (Err back) is served nobody = tt
   have_nobody device sessions helper (Ok b) is served nobody = record { worked = have_none sessions b.worked is nobody; served = served }

@@ -1,6 +1,7 @@
 pub mod Served
 pub mod Taken
 pub mod Durables
+pub mod Left
 pub mod Ends
 pub mod Returning
 pub mod Joining

@@ -6,7 +6,6 @@ use Rattle.block_disk.proofs.Images.{and_then, stays}
 use Rattle.guards.specs.Schema.{Declarations}
 use Rattle.image_parts.specs.Calls.{Call, Write, Sync, after, after_one}
 use Rattle.image_parts.specs.Recovered.{Parts}
-use Rattle.image_parts.specs.declared.layout.Layout.{Layout}
 use Rattle.monitor.specs.Seats.{Home}
 use Rattle.recover.specs.Reading.{IsOfOldVersion, RefusesImage}
 use Rattle.recover.specs.Recovery.{IsCutOff, IsOnTheWay, IsWorn, RefusesRecovery, StudiedLaw}
@@ -129,17 +128,17 @@ looked schema threads old new OtherSchema same refused = (refused, same)
 
 module _ (does : Home → Session → Session → Answer → Type 0) {D : Type 0} (device : D → Device) where
   -- a run by the words of a heap, as the heap's
-  pub run_stops : (schema : Declarations) (n : ℕ) (was : Parts D) (h : Home) (l : Layout) (old new : Device) (e : RunError) → IsHomeOf schema was.heap n h → l ≡ was.layout → old ≡ device was.disk → CrashesOf h was.layout (device was.disk) new e → StopsBy does h l old new e → StopsRun does device schema n was new e
-  run_stops schema n was h l old new NoMemory home layouts devices crashes stops = inr (record { shared = h; plan = home; crashes = crashes; stops = tt })
-  run_stops schema n was h l old new NoThread home layouts devices crashes stops = record { shared = h; plan = home; crashes = crashes; stops = subst (λ (d : Device). StopsBy does h was.layout d new NoThread) devices (subst (λ (k : Layout). StopsBy does h k old new NoThread) layouts stops) }
-  run_stops schema n was h l old new (Image e) home layouts devices crashes stops = absurd stops
-  run_stops schema n was h l old new (Helper e) home layouts devices crashes stops = record { shared = h; plan = home; crashes = crashes; stops = subst (λ (d : Device). StopsBy does h was.layout d new (Helper e)) devices (subst (λ (k : Layout). StopsBy does h k old new (Helper e)) layouts stops) }
-  run_stops schema n was h l old new Unfinished home layouts devices crashes stops = record { shared = h; plan = home; crashes = crashes; stops = subst (λ (d : Device). StopsBy does h was.layout d new Unfinished) devices (subst (λ (k : Layout). StopsBy does h k old new Unfinished) layouts stops) }
-  run_stops schema n was h l old new (Close e) home layouts devices crashes stops = record { shared = h; plan = home; crashes = crashes; stops = subst (λ (d : Device). StopsBy does h was.layout d new (Close e)) devices (subst (λ (k : Layout). StopsBy does h k old new (Close e)) layouts stops) }
-  run_stops schema n was h l old new (Recover e) home layouts devices crashes stops = record { shared = h; plan = home; crashes = crashes; stops = subst (λ (d : Device). StopsBy does h was.layout d new (Recover e)) devices (subst (λ (k : Layout). StopsBy does h k old new (Recover e)) layouts stops) }
-  run_stops schema n was h l old new OtherSchema home layouts devices crashes stops = absurd stops
+  pub run_stops : (schema : Declarations) (n : ℕ) (was : Parts D) (h : Home) (new : Device) (e : RunError) → IsHomeOf schema was.heap n h → CrashesOf does h was.layout (device was.disk) new e → StopsBy (device was.disk) new e → StopsRun does device schema n was new e
+  run_stops schema n was h new NoMemory home crashes stops = inr (record { shared = h; plan = home; crashes = crashes; stops = tt })
+  run_stops schema n was h new NoThread home crashes stops = record { shared = h; plan = home; crashes = crashes; stops = stops }
+  run_stops schema n was h new (Image e) home crashes stops = absurd stops
+  run_stops schema n was h new (Helper e) home crashes stops = record { shared = h; plan = home; crashes = crashes; stops = stops }
+  run_stops schema n was h new Unfinished home crashes stops = record { shared = h; plan = home; crashes = crashes; stops = stops }
+  run_stops schema n was h new (Close e) home crashes stops = record { shared = h; plan = home; crashes = crashes; stops = stops }
+  run_stops schema n was h new (Recover e) home crashes stops = record { shared = h; plan = home; crashes = crashes; stops = stops }
+  run_stops schema n was h new OtherSchema home crashes stops = absurd stops
 
-  -- behind the image that was found
+  -- after the image was found
   pub stopped_on : (schema : Declarations) (threads : ℕ) (old : Device) (was : Parts D) (report : Report) (new : Device) (e : RunError) → Holds schema threads old.now.bytes → HasFound device schema threads old report was
       → StopsRun does device schema threads was new e → RefusesOn does device schema threads old new e
   stopped_on schema threads old was report new NoMemory holds found stops = (holds, record { was = was; report = report; found = found.found; theirs = found.theirs; stopped = record { later = found.later; stops = stops } })
@@ -165,7 +164,7 @@ module _ (does : Home → Session → Session → Answer → Type 0) {D : Type 0
   ]
   unfound_on schema threads old new OtherSchema refused = refused
 
-  -- behind the image that was made
+  -- after the image was made
   pub made_new : (schema : Declarations) (threads capacity : ℕ) (old : Device) (was : Parts D) (new : Device) (e : RunError) → IsMadeOf device schema (lanes_for threads) capacity old was → old.failures ≤ (device was.disk).failures → StopsRun does device schema threads was new e → RefusesNew does device schema threads capacity old new e
   made_new schema threads capacity old was new NoMemory made later stops = record { was = was; made = made; stopped = record { later = later; stops = stops } }
   made_new schema threads capacity old was new NoThread made later stops = record { was = was; made = made; stopped = record { later = later; stops = stops } }

@@ -1,5 +1,5 @@
 -- A helper goes on over rounds, whatever they answer.
-use Rattle.std.proofs.Common.{ℕ, ◌≡◌, ◌++◌, [], false, List, Result, Ok, Err, OnOk, append_assoc, refl, sym, ap, ◌∙◌, arith}
+use Rattle.std.proofs.Common.{ℕ, ◌≡◌, ◌++◌, [], false, List, Result, Ok, Err, OnErr, OnOk, append_assoc, refl, sym, ap, ◌∙◌, arith}
 use Rattle.std.proofs.lemmas.List.{append-nil}
 use Rattle.heap_model.specs.declared.event.Event.{Event}
 use Rattle.heap_model.specs.Setting.{Setting}
@@ -19,6 +19,11 @@ use Rattle.thread_work.specs.Serving.{CrashesSince, HasStayed, IsLiving, LivesOn
 pub on_ok : {A E : Type 0} (r : Result A E) (P Q : Type 0) → (P → Q) → OnOk r P → OnOk r Q
 on_ok (Ok n) P Q step is = step is
 on_ok (Err e) P Q step is = tt
+
+-- of what is refused
+pub on_err : {A E : Type 0} (r : Result A E) (P : Type 0) → P → OnErr r P
+on_err (Ok n) P is = tt
+on_err (Err e) P is = is
 
 -- after a round that answers Ok the store hasn't failed
 pub runs_on : {D : Type 0} (device : D → Device) (s : Setting) (p : Past) (x y : Parts D) (r : Result ℕ StoreError) → Rounds device s p x y r → OnOk r (y.store.known.has_failed ≡ false)

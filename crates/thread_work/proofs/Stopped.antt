@@ -22,9 +22,8 @@ use Rattle.trim_helper.specs.Settled.{RefusesRound}
 use Rattle.trim_helper.specs.declared.close_error.CloseError.{CloseError}
 use Rattle.trim_helper.specs.declared.close_error.CloseError.TheVariants as close
 use Rattle.trim_helper.specs.declared.ended.Ended.{Ended}
-use Rattle.session.specs.declared.session.Session.{Session}
-use Rattle.thread_work.specs.Bodies.{Answer}
-use Rattle.thread_work.specs.Stops.{LosesClosed, RefusesTelling, StopsBy, StopsClosing, StopsEnd, StopsRound, StopsTelling}
+use Rattle.thread_work.specs.Crashes.{LosesClosed}
+use Rattle.thread_work.specs.Stops.{RefusesTelling, StopsBy, StopsClosing, StopsEnd, StopsRound, StopsTelling}
 use Rattle.thread_work.specs.declared.error.RunError.{RunError}
 use Rattle.thread_work.specs.declared.error.RunError.TheVariants.{NoMemory, NoThread, Image, Helper, Unfinished, Close, Recover, OtherSchema}
 
@@ -107,7 +106,7 @@ telling_stops closed new (recover.IllegalLog lane place) refused cause = refused
 telling_stops closed new recover.NoMemory refused cause = refused
 
 -- recovery takes what a good closing gave back
-closed_taken : RoundLaw → (h : Home) (l : Layout) (es : List Ended) (closed : Device) → IsClosed h l es closed → IsTaken closed.now.bytes
+pub closed_taken : RoundLaw → (h : Home) (l : Layout) (es : List Ended) (closed : Device) → IsClosed h l es closed → IsTaken closed.now.bytes
 closed_taken law h l es closed ran =
     let shown = ran.left closed.now.bytes (image_now closed) in
     (law l h.plan.lanes (plan h) ran.now.logged ran.now.cut shown.sections closed.now.bytes shown.round shown.shows).accepted
@@ -116,7 +115,7 @@ closed_taken law h l es closed ran =
 no_other : (image : List ℕ) (e : RecoverError) → CannotRecover image e → (e ≡ recover.Fault → ⊥) → (e ≡ recover.NoMemory → ⊥) → (e ≡ recover.Worn → ⊥) → ⊥
 no_other image e cannot fault memory worn = ⊎_elim fault (λ more. ⊎_elim memory (λ is. worn is.0) more) cannot
 
-loses_closed : (closed new : Device) (e : RecoverError) → IsTaken closed.now.bytes → RefusesTelling closed new e → LosesClosed closed new e
+pub loses_closed : (closed new : Device) (e : RecoverError) → IsTaken closed.now.bytes → RefusesTelling closed new e → LosesClosed closed new e
 loses_closed closed new recover.Fault is refused = refused
 loses_closed closed new recover.NotFormatted is refused = no_other closed.now.bytes recover.NotFormatted (is.taken recover.NotFormatted refused) (λ is. absurd cc) (λ is. absurd cc) (λ is. absurd cc)
 loses_closed closed new recover.BadHeader is refused = no_other closed.now.bytes recover.BadHeader (is.taken recover.BadHeader refused) (λ is. absurd cc) (λ is. absurd cc) (λ is. absurd cc)
@@ -129,25 +128,23 @@ loses_closed closed new (recover.BadRecord lane place) is refused = no_other clo
 loses_closed closed new (recover.IllegalLog lane place) is refused = no_other closed.now.bytes (recover.IllegalLog lane place) (is.taken (recover.IllegalLog lane place) refused) (λ is. absurd cc) (λ is. absurd cc) (λ is. absurd cc)
 loses_closed closed new recover.NoMemory is refused = tt
 
-pub told_stops : (does : Home → Session → Session → Answer → Type 0) (h : Home) (l : Layout) (old closed new : Device) (es : List Ended) (e : RunError) → HoldNone es → IsComplete h.plan.lanes es → old.failures ≤ closed.failures → IsClosed h l es closed → RoundLaw → StopsTelling closed new e → StopsEnd does h l old new e
-told_stops does h l old closed new es NoMemory none complete later ran law stops = tt
-told_stops does h l old closed new es NoThread none complete later ran law stops = absurd stops
-told_stops does h l old closed new es (Image e) none complete later ran law stops = absurd stops
-told_stops does h l old closed new es (Helper e) none complete later ran law stops = absurd stops
-told_stops does h l old closed new es Unfinished none complete later ran law stops = absurd stops
-told_stops does h l old closed new es (Close e) none complete later ran law stops = absurd stops
-told_stops does h l old closed new es (Recover e) none complete later ran law stops = record { ended = es; none = none; complete = complete; closed = closed; later = later; ran = ran; refused = loses_closed closed new e (closed_taken law h l es closed ran) stops }
-told_stops does h l old closed new es OtherSchema none complete later ran law stops = absurd stops
+pub told_stops : (old closed new : Device) (e : RunError) → StopsTelling closed new e → StopsEnd old new e
+told_stops old closed new NoMemory stops = tt
+told_stops old closed new NoThread stops = absurd stops
+told_stops old closed new (Image e) stops = absurd stops
+told_stops old closed new (Helper e) stops = absurd stops
+told_stops old closed new Unfinished stops = absurd stops
+told_stops old closed new (Close e) stops = absurd stops
+told_stops old closed new (Recover e) stops = tt
+told_stops old closed new OtherSchema stops = absurd stops
 
 -- a run's stop since a later moment is one since an earlier one
-pub stops_since : (does : Home → Session → Session → Answer → Type 0) (h : Home) (l : Layout) (first old new : Device) (e : RunError) → first.failures ≤ old.failures → StopsEnd does h l old new e → StopsBy does h l first new e
-stops_since does h l first old new NoMemory low stops = tt
-stops_since does h l first old new NoThread low stops = absurd stops
-stops_since does h l first old new (Image e) low stops = absurd stops
-stops_since does h l first old new (Helper e) low stops = round_since first old new e low stops
-stops_since does h l first old new Unfinished low stops = stops
-stops_since does h l first old new (Close e) low stops = closing_since first old new e low stops
-stops_since does h l first old new (Recover e) low stops =
-    let before = stops.later in
-    record { ended = stops.ended; none = stops.none; complete = stops.complete; closed = stops.closed; later = omega (arith, low, before); ran = stops.ran; refused = stops.refused }
-stops_since does h l first old new OtherSchema low stops = absurd stops
+pub stops_since : (first old new : Device) (e : RunError) → first.failures ≤ old.failures → StopsEnd old new e → StopsBy first new e
+stops_since first old new NoMemory low stops = tt
+stops_since first old new NoThread low stops = absurd stops
+stops_since first old new (Image e) low stops = absurd stops
+stops_since first old new (Helper e) low stops = round_since first old new e low stops
+stops_since first old new Unfinished low stops = tt
+stops_since first old new (Close e) low stops = closing_since first old new e low stops
+stops_since first old new (Recover e) low stops = tt
+stops_since first old new OtherSchema low stops = absurd stops

@@ -64,16 +64,6 @@ module _ (does : Home → Session → Session → Answer → Type 0) (h : Home) 
     pub lanes : lanes_ended w.ended.items ≡ lanes_opened sessions
     pub called : IfSome w.answer (λ answer. WereCalled capacity answer w.ended.items)
 
-  -- so it is of what they answer, unless memory was wanting
+  -- So it is of what they answer, unless memory ran out.
   abbrev pub HaveWorked : List Session → Result AllWorked AllocError → Type 0
   HaveWorked sessions answer = (capacity : ℕ) (rings : Rings) → All (IsJoined h capacity rings) sessions → IfOk answer (AreWorked capacity rings sessions)
-
-  -- A body has ended while its thread held a monitor.
-  pub record LeftOpen : Type 0 where
-    pub ended : Ended
-    pub answer : Answer
-    pub capacity : ℕ
-    pub rings : Rings
-    pub called : WasCalled capacity ended answer
-    pub is_ended : IsEnded h capacity rings ended
-    pub holds : (ended.held ≡ 0) → ⊥

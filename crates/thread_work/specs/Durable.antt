@@ -28,8 +28,8 @@ module _ {D : Type 0} (device : D → Device) where
     pub no_more : HasPublishedNoMore helper x.seat
     pub seated : IsSeated moment (seat_of t)
 
-  -- Store calls have gone on from that past, and the helper had seen all that they applied when a crash came. Of whatever that left, of any moment since,
-  -- recovery keeps each section that the thread had ended.
+  -- Store calls have gone on from that past, and the helper had seen all that they applied when a crash came. Whatever the crash left, of any
+  -- moment since, recovery keeps each section that the thread had ended.
   abbrev pub KeepsDurableLaw : Type 0
   KeepsDurableLaw = (h : Home) (p : Past) (x y : Parts D) (s t : Session) (now : Moment) (helper : Helping) (image : List ℕ)
       → WasDurable h p x s t → y.store.known.layout ≡ x.store.known.layout → RunsOn device h p (device x.store.disk) y helper.view.history

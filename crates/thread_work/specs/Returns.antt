@@ -1,5 +1,5 @@
 -- What is known of a heap whose threads have come back (this project's own).
-use Rattle.std.specs.Prelude.{ℕ, ◌≡◌, ◌≤◌, All, Some, false}
+use Rattle.std.specs.Prelude.{ℕ, ◌≡◌, ◌≤◌, All, false}
 use Rattle.std.specs.List.{range_with_len}
 use Rattle.block_disk.specs.Device.{Device}
 use Rattle.guards.specs.Schema.{Declarations}
@@ -11,15 +11,10 @@ use Rattle.heap_model.specs.Past.{Past}
 use Rattle.trim_helper.specs.Parts as helpers
 use Rattle.trim_helper.specs.Endings.{IsEnded, lanes_ended}
 use Rattle.thread_work.specs.Bodies.{Answer, WereCalled}
-use Rattle.thread_work.specs.Crashes.{KeepsSome}
+use Rattle.thread_work.specs.Crashes.{HaveLeft, KeepsLater}
 use Rattle.thread_work.specs.Serving.{HasStayed, IsLiving, LivesOn}
 use Rattle.thread_work.specs.Stops.{IsHomeOf}
-use Rattle.thread_work.specs.declared.body.AllWorked.{AllWorked}
 use Rattle.thread_work.specs.declared.returned.Returned.{Returned}
-
--- the words, what the threads leave, and the helper, handed over, where each body was called
-abbrev pub IsHanded : {D : Type 0} → Home → AllWorked → helpers.Parts D → Returned D → Type 0
-IsHanded h w y r = (a : Answer) × (w.answer ≡ Some a) × (r ≡ record { shared = h; ended = w.ended; answer = a; helper = y })
 
 -- what a body does, and the device of a disk
 module _ (does : Home → Session → Session → Answer → Type 0) {D : Type 0} (device : D → Device) where
@@ -33,6 +28,10 @@ module _ (does : Home → Session → Session → Answer → Type 0) {D : Type 0
     -- A body was called for each thread of a heap whose threads have come back, and has done with its session what its
     -- `Work` says. What is answered is the refusal of the least lane whose body has answered one.
     pub called : WereCalled does r.shared r.helper.store.known.layout.capacity r.answer r.ended.items
+
+  -- They leave their heap as it is, and this is the device that is given back, whatever the helper had lived through.
+  abbrev pub LeavesBack : (r : Returned D) → (new : Device) → Type 0
+  LeavesBack r new = (opened : Device) (p : Past) → IsLiving device r.shared opened r.helper p → HaveLeft does r.shared r.helper.store.known.layout r.ended.items opened new
 
   -- they have come back to these words and what this helper has become
   pub record HaveReturned (h : Home) (helper : helpers.Parts D) (r : Returned D) : Type 0 where
@@ -50,5 +49,5 @@ module _ (does : Home → Session → Session → Answer → Type 0) {D : Type 0
     pub living : IsLiving device r.shared (device was.disk) r.helper past
     -- Whatever a crash left until threads had come back, recovery accepts. It keeps one set of sections: whole ones of
     -- each legal history that goes on from what the helper has seen.
-    pub crashes : KeepsSome r.shared was.layout (device was.disk) (device r.helper.store.disk)
+    pub crashes : KeepsLater r.shared was.layout r.helper.seat.view.history (device was.disk) (device r.helper.store.disk)
     pub back : IsBack r

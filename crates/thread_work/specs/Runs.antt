@@ -31,11 +31,11 @@ pub record IsOf (schema : Declarations) (threads : ℕ) (layout : Layout) (guard
   pub lanes : HasLanesFor threads layout.lanes
   pub fits : FitsSchema schema layout guards
 
--- this is such an image
+-- this is an image of this schema, with lanes for so many threads
 abbrev pub Holds : (schema : Declarations) (threads : ℕ) (image : List ℕ) → Type 0
 Holds schema threads image = (s : Study) × IsStudyOf image s × IsOf schema threads s.layout s.guards.items
 
--- this is an image, and none of these
+-- this is an image of another schema, or with other lanes
 abbrev pub HoldsAnother : (schema : Declarations) (threads : ℕ) (image : List ℕ) → Type 0
 HoldsAnother schema threads image = (s : Study) × IsStudyOf image s × (IsOf schema threads s.layout s.guards.items → ⊥)
 
@@ -141,3 +141,11 @@ module _ (does : Home → Session → Session → Answer → Type 0) {D : Type 0
   RefusesOn schema threads old new OtherSchema = HoldsAnother schema threads old.now.bytes × SameMoments old new
   RefusesOn schema threads old new (Recover e) = (RefusesStudy old new e × SameMoments old new) ⊎ (Holds schema threads old.now.bytes × RefusesGoingOn schema threads old new (Recover e))
   RefusesOn schema threads old new e = Holds schema threads old.now.bytes × RefusesGoingOn schema threads old new e
+
+  -- No image of this disk is made for threads, or their run was stopped, and this is given back.
+  abbrev pub RefusesNewOf : (schema : Declarations) (threads capacity : ℕ) (disk : D) → D × RunError → Type 0
+  RefusesNewOf schema threads capacity disk back = RefusesNew schema threads capacity (device disk) (device back.0) back.1
+
+  -- Threads don't go on with the image on this disk, and this is given back.
+  abbrev pub RefusesOnOf : (schema : Declarations) (threads : ℕ) (disk : D) → D × RunError → Type 0
+  RefusesOnOf schema threads disk back = RefusesOn schema threads (device disk) (device back.0) back.1

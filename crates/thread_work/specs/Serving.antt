@@ -1,17 +1,22 @@
 -- What a helper keeps while it serves.
-use Rattle.std.specs.Prelude.{ℕ, ◌≡◌, ◌≤◌, List, length}
+use Rattle.std.specs.Prelude.{ℕ, ◌≡◌, ◌≤◌, false, IfErr, List, OnErr, OnOk, Result, length}
 use Rattle.heap_model.specs.declared.event.Event.{Event}
 use Rattle.heap_model.specs.History.{IsLegalHistory}
 use Rattle.block_disk.specs.Device.{Device}
 use Rattle.monitor.specs.Seats.{Home}
 use Rattle.monitor.specs.Views.{GoesOn}
+use Rattle.thread_heap.specs.Joined.{IsHelping}
 use Rattle.thread_heap.specs.Life.{HasLived}
+use Rattle.session.specs.declared.session.Session.{Session}
+use Rattle.heap_model.specs.declared.store_error.StoreError.{StoreError}
 use Rattle.thread_steps.specs.Views.{plan}
 use Rattle.heap_model.specs.Past.{Past}
-use Rattle.trim_helper.specs.Heard.{IsSeenOf}
+use Rattle.trim_helper.specs.Heard.{HasSeen, IsSeenOf}
 use Rattle.trim_helper.specs.Moves.{SameRings}
 use Rattle.trim_helper.specs.Parts.{Parts}
+use Rattle.thread_work.specs.Bodies.{Answer}
 use Rattle.thread_work.specs.Crashes.{CrashesOf, KeepsSeen}
+use Rattle.thread_work.specs.Stops.{StopsRound}
 use Rattle.thread_work.specs.declared.error.RunError.{RunError}
 
 module _ {D : Type 0} (device : D → Device) where
@@ -36,11 +41,30 @@ module _ {D : Type 0} (device : D → Device) where
   abbrev pub LivesOn : Home → (old new : Parts D) → Type 0
   LivesOn h old new = (opened : Device) (p : Past) → IsLiving h opened old p → (q : Past) × IsLiving h opened new q
 
-  -- And whatever a crash left at any moment since the opening, up to now, recovery takes, and keeps of it one set of sections, of each history that goes on from the
-  -- one that the helper has seen now.
+  -- Recovery accepts whatever a crash left at any moment from the opening up to now. It keeps one set of sections, of each history that goes on
+  -- from the one that the helper has seen now.
   abbrev pub CrashesSince : Home → (old new : Parts D) → Type 0
   CrashesSince h old new = (opened : Device) (p : Past) → IsLiving h opened old p → KeepsSeen h new.store.known.layout new.seat.view.history opened (device new.store.disk)
 
-  -- Of whatever a crash left at any moment since the opening, recovery makes this, where the run was stopped so, on this device.
-  abbrev pub CrashesBy : Home → (helper : Parts D) → (new : Device) → RunError → Type 0
-  CrashesBy h x new e = (opened : Device) (p : Past) → IsLiving h opened x p → CrashesOf h x.store.known.layout opened new e
+  -- What recovery makes of whatever a crash left at any moment since the opening, where the run was stopped so, on this device.
+  abbrev pub CrashesBy : (does : Home → Session → Session → Answer → Type 0) → Home → (helper : Parts D) → (new : Device) → RunError → Type 0
+  CrashesBy does h x new e = (opened : Device) (p : Past) → IsLiving h opened x p → CrashesOf does h x.store.known.layout opened new e
+
+  -- So it is of what is given back.
+  abbrev pub CrashesBack : (does : Home → Session → Session → Answer → Type 0) → Home → (helper : Parts D) → D × RunError → Type 0
+  CrashesBack does h x back = CrashesBy does h x (device back.0) back.1
+
+  -- This helper has gone on, and this is the answer of its last round. It has the rings that it had. After Ok it has lived on, and its store
+  -- hasn't failed. A round was refused only for this cause; the helper had seen what it took of its rings by then.
+  pub record HasServed {A : Type 0} (h : Home) (old new : Parts D) (answer : Result A StoreError) : Type 0 where
+    pub helping : IsHelping device h new
+    pub stayed : HasStayed old new
+    pub running : OnOk answer (new.store.known.has_failed ≡ false)
+    pub lives : OnOk answer (LivesOn h old new)
+    pub seen : OnErr answer (HasSeen h new)
+    -- What a crash leaves at any moment since the opening, up to the end of a round that was refused, keeps whole sections of each legal
+    -- history that goes on from what the helper has seen.
+    pub crashes : OnErr answer (CrashesSince h old new)
+    -- A round of the helper beside threads is refused only because the device has failed since, or because its control is at its last
+    -- sequence.
+    pub cause : IfErr answer (StopsRound (device old.store.disk) (device new.store.disk))

@@ -39,7 +39,7 @@ pub record IsUnsettled (x y : Session) : Type 0 where
   pub looked : (view_of x).stable_looks < (view_of y).stable_looks
   pub left : (view_of y).stable < sections_ended (view_of y)
 
--- the session behind a wait, and its refusal where there was one, as the wait answers them
+-- the session after a wait, and its refusal where there was one, as the wait answers them
 abbrev pub waited : Session → Result (Unit {0}) SessionError → Result Session (Session × SessionError)
 waited y (Ok done) = Ok y
 waited y (Err e) = Err (y, e)

@@ -1,6 +1,7 @@
 //! Threads and helper side by side.
 ghost use Rattle.std.specs.Prelude.{◌≡◌, All, IfErr, IfOk, [], Some, Ok, false};
-ghost use Rattle.thread_work.specs.Beside.{HasServed, HaveWorkedBeside, JoinsOne};
+ghost use Rattle.thread_work.specs.Beside.{HaveWorkedBeside, JoinsOne};
+ghost use Rattle.thread_work.specs.Serving.{HasServed};
 ghost use Rattle.thread_work.specs.Bodies.{HasWorked, IsFirst};
 ghost use Rattle.thread_heap.specs.Joined.{IsHelping};
 
@@ -117,7 +118,7 @@ fn serve_begun<D: Disk, R: Wait>(
 ) -> Result<Beside<D>, Helper<D>>
     requires helping { IsHelping D.device shared.now helper }
     requires running { helper.store.known.has_failed ≡ false }
-    ensures served { IfOk result (λ b. HasServed D.device shared.now helper b.served) }
+    ensures served { IfOk result (λ b. HasServed D.device shared.now helper b.served.helper b.served.answer) }
     ensures nobody { IfOk result (λ b. IfOk b.worked (λ w. (w.ended.items ≡ []) × (w.answer ≡ Some (Ok tt)))) }
     ensures no_room { IfErr result (λ back. back ≡ helper) }
 {

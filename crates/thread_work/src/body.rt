@@ -99,7 +99,7 @@ fn call_body<J: Joint, R: Wait, W: Work>(
     (thread.into_session(), answer)
 }
 
-/// What the threads of the first lanes leave, with that of the next lane behind them.
+/// What the threads of the first lanes leave, and then what the next lane's leaves.
 pub fn and_worked(
     before: Result<AllWorked, AllocError>,
     one: Worked,
@@ -115,7 +115,7 @@ pub fn and_worked(
     })
 }
 
-// Of the answers of the first lanes and that of the next the first refusal. `None` where one is wanting.
+// The first refusal among the answers of the first lanes and the next lane's. `None` where a body wasn't called.
 fn both(first: Option<Answer>, next: Option<Answer>) -> Option<Answer>
     ensures { result ≡ both_of first next }
 {

@@ -8,14 +8,14 @@ use law_running::stable_law;
 use law_survival::has_study_law;
 use recover::{one_study_law, studied_law};
 
-/// Recovery takes whatever a crash left of a device that was recovered, at any moment of a run of its store behind that, and at any
+/// Recovery accepts whatever a crash left of a device that was recovered, at any moment of a run of its store after that, and at any
 /// moment of a recovery of what the run left.
 pub fn taken_law()
     // Recovery accepts whatever a crash leaves of a device that was recovered, and on which nothing was done since.
     ensures recovered { RecoveredLaw }
     // Recovery accepts whatever a crash left at any moment of a run of a store.
     ensures run { RunTakenLaw }
-    // Recovery accepts whatever a crash left of a recovery of what such a run left, wherever that ended.
+    // Recovery accepts whatever a crash left of a recovery after a store's run, wherever that ended.
     ensures recovery { RecoveryTakenLaw }
 {
     has_study_law();

@@ -2,8 +2,8 @@
 ghost use Rattle.std.specs.Prelude.{◌≡◌, ◌≤◌, ◌↔◌, IfErr, IfOk, IsTrue, OnOk, length};
 ghost use Rattle.block_disk.specs.Device.{SameMoments};
 ghost use Rattle.thread_work.specs.Outcomes.{HasRunFrom};
-ghost use Rattle.thread_work.specs.Runs.{HasFound, HasRunNew, HasRunOn, Holds, IsMadeOf, IsNotFound, IsOf, RefusesFound, RefusesLook, RefusesNew, RefusesOn};
-ghost use Rattle.thread_work.specs.Stops.{StopsRun};
+ghost use Rattle.thread_work.specs.Runs.{HasFound, HasRunNew, HasRunOn, Holds, IsMadeOf, IsNotFound, IsOf, RefusesFound, RefusesLook, RefusesNewOf, RefusesOnOf};
+ghost use Rattle.thread_work.specs.Stops.{StopsBack};
 ghost use Rattle.image_parts.specs.Recovered.{Parts};
 ghost use Rattle.recover.specs.Recovery.{IsRecovery};
 ghost use Rattle.recover.specs.declared.report.Report.{Report};
@@ -51,7 +51,7 @@ pub fn run_new<D: Disk + Drop, W: Work + Sync, R: Threads + Wait + Sync>(
     // Threads that begin on a new image run on what formatting the given device has made.
     ensures ok { IfOk result (λ r. HasRunNew (W.does work.now) D.device schema threads capacity (D.device disk) r.recovered r.outcome) }
     // Threads get no new image only where `Store::format` refuses it. Else they are stopped only as their heap's run is.
-    ensures refused { IfErr result (λ back. RefusesNew (W.does work.now) D.device schema threads capacity (D.device disk) (D.device back.0) back.1) }
+    ensures refused { IfErr result (RefusesNewOf (W.does work.now) D.device schema threads capacity disk) }
 {
     let lanes = lanes_for(threads);
     match make_heap(alloc, disk, &schema, lanes, capacity) {
@@ -108,7 +108,7 @@ pub fn run_on<D: Disk + Drop, W: Work + Sync, R: Threads + Wait + Sync>(
     ensures theirs { IfOk result (λ r. Holds schema threads (D.device disk).now.bytes) }
     // A device that holds no image is refused by the reason of its study, and one that holds another image as of another
     // schema. Either is only read.
-    ensures refused { IfErr result (λ back. RefusesOn (W.does work.now) D.device schema threads (D.device disk) (D.device back.0) back.1) }
+    ensures refused { IfErr result (RefusesOnOf (W.does work.now) D.device schema threads disk) }
 {
     let (found, report) = match find_heap(alloc, disk, &schema, threads) {
         Ok(found) => found,
@@ -217,7 +217,7 @@ fn run_there<D: Disk + Drop, W: Work + Sync, R: Threads + Wait + Sync>(
 ) -> Result<Ran<D>, (D, RunError)>
     requires theirs { IsOf schema threads made.layout made.guards }
     ensures ok { IfOk result (λ r. HasRunFrom (W.does work.now) D.device schema threads made r.recovered r.outcome) }
-    ensures cause { IfErr result (λ back. StopsRun (W.does work.now) D.device schema threads made (D.device back.0) back.1) }
+    ensures cause { IfErr result (StopsBack (W.does work.now) D.device schema threads made) }
 {
     match run_heap(rt, alloc, work, schema, made, threads) {
         Ok((recovered, outcome)) => Ok(Ran { recovered, outcome }),

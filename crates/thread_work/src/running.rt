@@ -1,12 +1,12 @@
 //! Threads on a heap, from its opening to its end, in one call or in two halves.
-ghost use Rattle.std.specs.Prelude.{◌≡◌, ◌<◌, All, IfErr, IfNone, IfOk, IfSome, false, length, take};
-ghost use Rattle.thread_work.specs.Returns.{HasReturned, HaveReturned, IsBack, IsHanded};
+ghost use Rattle.std.specs.Prelude.{◌≡◌, ◌<◌, All, IfErr, IfNone, IfOk, IfSome, Ok, Some, false, length, take};
+ghost use Rattle.thread_work.specs.Returns.{HasReturned, HaveReturned, IsBack};
 ghost use Rattle.std.specs.List.{range_with_len, slice_index_or};
 ghost use Rattle.thread_work.specs.Bodies.{WereCalled};
 ghost use Rattle.thread_work.specs.ImageLanes.{HasLanesFor};
 ghost use Rattle.thread_work.specs.Outcomes.{EndsRun, HasRunFrom, IsTold};
-ghost use Rattle.thread_work.specs.Serving.{CrashesBy};
-ghost use Rattle.thread_work.specs.Stops.{StopsBy, StopsEnd, StopsRun, StopsTelling};
+ghost use Rattle.thread_work.specs.Serving.{CrashesBack};
+ghost use Rattle.thread_work.specs.Stops.{StopsBack, StopsBy, StopsEnd, StopsTelling};
 ghost use Rattle.recover.specs.Recovery.{IsCutOff};
 ghost use Rattle.thread_heap.specs.Joined.{AreNew, IsHelping, IsJoined};
 ghost use Rattle.trim_helper.specs.Endings.{HoldNone, IsComplete, IsEnded, lanes_ended};
@@ -29,18 +29,18 @@ use law_rounds::two_syncs_law;
 use law_running::{crash_law, round_law};
 use monitor::Shared;
 use recover::recover;
-use std::alloc::Global;
+use std::alloc::{AllocError, Global};
 use std::sync::Wait;
 use std::thread::Threads;
 use thread_heap::{RunningHeap, close, joined_law, life_law, open};
-use thread_rings::RingRecords;
-use trim_helper::{Ended, Helper};
+use trim_helper::{Ended, Helper, leave, seen_law};
 
 /// Lets so many threads do this work on a heap of this schema that was recovered, each with a lane of its own, closes the heap, and
-/// recovers the device: what is told is what recovery finds there. Where the image has one lane more, the last one is the helper's, and
+/// recovers the device: what recovery finds there is answered. Where the image has one lane more, the last one is the helper's, and
 /// a round takes two syncs in place of four.
 ///
-/// A crash may come at any moment of it: recovery takes what that leaves, and keeps whole sections, each with all that it depends on.
+/// A crash may come at any moment of it. Recovery accepts what the crash leaves, and keeps whole sections, each with all that it depends
+/// on.
 ///
 /// Refusals, in this order, each with the device as a stop leaves it; it may be recovered: those of [`work_on`], and then those of
 /// [`close_returned`].
@@ -59,7 +59,7 @@ pub fn run_heap<D: Disk + Drop, W: Work + Sync, R: Threads + Wait + Sync>(
     ensures ok { IfOk result (λ r. HasRunFrom (W.does work.now) D.device schema threads recovered r.0 r.1) }
     // A run of threads is refused only for the cause that it names, and recovery accepts whatever a crash left since it
     // began.
-    ensures cause { IfErr result (λ back. StopsRun (W.does work.now) D.device schema threads recovered (D.device back.0) back.1) }
+    ensures cause { IfErr result (StopsBack (W.does work.now) D.device schema threads recovered) }
 {
     match work_on(rt, alloc, work, schema, recovered, threads) {
         Ok(returned) => close_returned(alloc, work, returned),
@@ -73,9 +73,9 @@ pub fn run_heap<D: Disk + Drop, W: Work + Sync, R: Threads + Wait + Sync>(
 /// Refusals, in this order, each with the device as a stop leaves it; it may be recovered:
 /// - `NoMemory`: there was no room for what the threads share. No body was called;
 /// - `NoThread`: some lane got no thread. No body was called, and the device is as it was;
+/// - `NoMemory`: there was no room for what the threads leave;
 /// - `Helper`: a round of the helper was refused, by `Worn`, with the control's sequence at its last value, or by `Fault`, after a
-///   failure of the device. Never by `Failed`: the first fault ends the rounds;
-/// - `NoMemory`: there was no room for what the threads leave.
+///   failure of the device. Never by `Failed`: the first fault ends the rounds. No crash takes back what a thread had read as stable.
 pub fn work_on<D: Disk + Drop, W: Work + Sync, R: Threads + Wait + Sync>(
     rt: &R,
     alloc: Global,
@@ -90,7 +90,7 @@ pub fn work_on<D: Disk + Drop, W: Work + Sync, R: Threads + Wait + Sync>(
     ensures ok { IfOk result (HasReturned (W.does work.now) D.device schema threads recovered) }
     // Threads that don't come back are stopped only for the cause that is named, and recovery accepts whatever a crash
     // left since they began.
-    ensures cause { IfErr result (λ back. StopsRun (W.does work.now) D.device schema threads recovered (D.device back.0) back.1) }
+    ensures cause { IfErr result (StopsBack (W.does work.now) D.device schema threads recovered) }
 {
     taken_law();
     life_law::<D>();
@@ -102,7 +102,7 @@ pub fn work_on<D: Disk + Drop, W: Work + Sync, R: Threads + Wait + Sync>(
         recovered,
         threads,
         LAST_NUMBER,
-        RingRecords::usual(),
+        work.ring_records(),
     ) {
         Ok(heap) => run(rt, alloc, work, heap),
         Err((disk, _)) => Err((disk, RunError::NoMemory)),
@@ -122,11 +122,12 @@ fn run<D: Disk + Drop, W: Work + Sync, R: Threads + Wait + Sync>(
     requires helping { IsHelping D.device heap.shared heap.helper }
     requires running { heap.helper.store.known.has_failed ≡ false }
     ensures ok { IfOk result (HaveReturned (W.does work.now) D.device heap.shared heap.helper) }
-    ensures cause { IfErr result (λ back. StopsBy (W.does work.now) heap.shared heap.helper.store.known.layout (D.device heap.helper.store.disk) (D.device back.0) back.1) }
-    ensures crashes { IfErr result (λ back. CrashesBy D.device heap.shared heap.helper (D.device back.0) back.1) }
+    ensures cause { IfErr result (λ back. StopsBy (D.device heap.helper.store.disk) (D.device back.0) back.1) }
+    ensures crashes { IfErr result (CrashesBack (W.does work.now) D.device heap.shared heap.helper) }
 {
     joined_law();
     round_law::<D>();
+    seen_law::<D>();
     let RunningHeap {
         shared,
         sessions,
@@ -140,51 +141,51 @@ fn run<D: Disk + Drop, W: Work + Sync, R: Threads + Wait + Sync>(
         }
     };
     let Served { helper, answer } = served;
-    if let Err(reason) = answer {
-        drop(worked);
-        drop(shared);
-        return Err((disk_of(helper), RunError::Helper(reason)));
-    }
-    match worked {
-        Ok(worked) => hand_over(shared, worked, helper),
-        Err(_) => {
-            drop(shared);
-            Err((disk_of(helper), RunError::NoMemory))
-        }
-    }
-}
-
-// Hands over what the threads leave, where each body was called.
-fn hand_over<D: Disk>(
-    shared: Shared,
-    worked: AllWorked,
-    helper: Helper<D>,
-) -> Result<Returned<D>, (D, RunError)>
-    ensures ok { IfOk result (IsHanded shared worked helper) }
-    ensures disk { IfErr result (λ back. back.0 ≡ helper.store.disk) }
-    ensures memory { IfErr result (λ back. back.1 ≡ RunError.NoMemory) }
-{
-    let AllWorked { ended, answer } = worked;
-    let Some(answer) = answer else {
-        drop(ended);
+    let Some(all) = all_called(worked) else {
         drop(shared);
         return Err((disk_of(helper), RunError::NoMemory));
     };
+    let AllCalled { ended, answered } = all;
+    if let Err(reason) = answer {
+        return Err((leave(shared, ended, helper), RunError::Helper(reason)));
+    }
     Ok(Returned {
         shared,
         ended,
-        answer,
+        answer: answered,
         helper,
     })
 }
 
-/// Closes a heap whose threads have come back, and recovers the device: what is told is what recovery finds there.
+// What the threads leave where each body was called.
+#[derive(Drop)]
+struct AllCalled {
+    ended: Vec<Ended>,
+    answered: Answer,
+}
+
+// So it is, unless there was no room for it.
+fn all_called(worked: Result<AllWorked, AllocError>) -> Option<AllCalled>
+    ensures { IfSome result (λ all. worked ≡ Ok (record { ended = all.ended; answer = Some all.answered })) }
+{
+    let Ok(worked) = worked else {
+        return None;
+    };
+    let AllWorked { ended, answer } = worked;
+    let Some(answered) = answer else {
+        drop(ended);
+        return None;
+    };
+    Some(AllCalled { ended, answered })
+}
+
+/// Closes a heap whose threads have come back, and recovers the device: what recovery finds there is answered.
 ///
 /// Refusals, in this order, each with the device as a stop leaves it; it may be recovered:
 /// - `Unfinished`: a body has ended with a monitor held;
 /// - `Close`: the heap wasn't closed, by `Worn` or by `Fault`;
-/// - `Recover`: the device wasn't recovered: a call of it failed, memory was wanting, or its control is at its last sequence.
-///   Never because of what the closing left: recovery takes that;
+/// - `Recover`: the device wasn't recovered: a call of it failed, memory ran out, or its control is at its last sequence.
+///   Never because of what the closing left: recovery accepts that;
 /// - `NoMemory`: there was no room for what is told. The device is recovered.
 pub fn close_returned<D: Disk, W: Work>(
     alloc: Global,
@@ -197,9 +198,10 @@ pub fn close_returned<D: Disk, W: Work>(
     // What a closing after threads tells of their bodies is what they have answered.
     ensures answer { IfOk result (λ r. r.1.answer ≡ returned.answer) }
     // A closing after threads is refused only for the cause that it names.
-    ensures cause { IfErr result (λ back. StopsEnd (W.does work.now) returned.shared returned.helper.store.known.layout (D.device returned.helper.store.disk) (D.device back.0) back.1) }
-    // Where a closing after threads is refused, recovery accepts whatever a crash left since the heap was opened.
-    ensures crashes { IfErr result (λ back. CrashesBy D.device returned.shared returned.helper (D.device back.0) back.1) }
+    ensures cause { IfErr result (λ back. StopsEnd (D.device returned.helper.store.disk) (D.device back.0) back.1) }
+    // Where a closing after threads is refused, recovery accepts whatever a crash left since the heap was opened, and no
+    // crash takes back what a thread had read as stable.
+    ensures crashes { IfErr result (CrashesBack (W.does work.now) D.device returned.shared returned.helper) }
 {
     round_law::<D>();
     let Returned {
@@ -210,11 +212,7 @@ pub fn close_returned<D: Disk, W: Work>(
     } = returned;
     match holder(&ended) {
         None => close_all(alloc, work, shared, ended, answer, helper),
-        Some(_holder) => {
-            drop(ended);
-            drop(shared);
-            Err((disk_of(helper), RunError::Unfinished))
-        }
+        Some(_holder) => Err((leave(shared, ended, helper), RunError::Unfinished)),
     }
 }
 
@@ -244,8 +242,8 @@ fn close_all<D: Disk, W: Work>(
     requires complete { IsComplete shared.plan.lanes ended.items }
     ensures ok { IfOk result (λ r. EndsRun (W.does work.now) D.device shared helper r.0 r.1) }
     ensures answer { IfOk result (λ r. r.1.answer ≡ answer) }
-    ensures cause { IfErr result (λ back. StopsEnd (W.does work.now) shared helper.store.known.layout (D.device helper.store.disk) (D.device back.0) back.1) }
-    ensures crashes { IfErr result (λ back. CrashesBy D.device shared helper (D.device back.0) back.1) }
+    ensures cause { IfErr result (λ back. StopsEnd (D.device helper.store.disk) (D.device back.0) back.1) }
+    ensures crashes { IfErr result (CrashesBack (W.does work.now) D.device shared helper) }
 {
     two_syncs_law();
     crash_law::<D>();

@@ -1,9 +1,7 @@
 //! What the helper does beside the threads.
-ghost use Rattle.std.specs.Prelude.{◌≡◌, IfErr, OnErr, OnOk, false};
-ghost use Rattle.thread_work.specs.Serving.{CrashesSince, HasStayed, LivesOn};
-ghost use Rattle.thread_work.specs.Stops.{StopsRound};
+ghost use Rattle.std.specs.Prelude.{◌≡◌, false};
+ghost use Rattle.thread_work.specs.Serving.{HasServed};
 ghost use Rattle.thread_heap.specs.Joined.{IsHelping};
-ghost use Rattle.trim_helper.specs.Heard.{HasSeen};
 
 use crate::bell::Bell;
 use block_disk::Disk;
@@ -26,12 +24,7 @@ pub struct Served<D: Disk> {
 pub fn serve<D: Disk, R: Wait>(rt: &R, shared: &Shared, bell: &Bell, helper: Helper<D>) -> Served<D>
     requires helping { IsHelping D.device shared.now helper }
     requires running { helper.store.known.has_failed ≡ false }
-    ensures helping { IsHelping D.device shared.now result.helper }
-    ensures stayed { HasStayed D.device helper result.helper }
-    ensures running { OnOk result.answer (result.helper.store.known.has_failed ≡ false) }
-    ensures lives { OnOk result.answer (LivesOn D.device shared.now helper result.helper) }
-    ensures crashes { OnErr result.answer (CrashesSince D.device shared.now helper result.helper) }
-    ensures cause { IfErr result.answer (StopsRound (D.device helper.store.disk) (D.device result.helper.store.disk)) }
+    ensures { HasServed D.device shared.now helper result.helper result.answer }
 {
     let mut helper = helper;
     let answer = make_rounds(rt, shared, bell, &mut helper);
@@ -49,12 +42,7 @@ fn make_rounds<D: Disk, R: Wait>(
 ) -> Result<(), StoreError>
     requires helping { IsHelping D.device shared.now helper.old }
     requires running { helper.old.store.known.has_failed ≡ false }
-    ensures helping { IsHelping D.device shared.now helper.new }
-    ensures stayed { HasStayed D.device helper.old helper.new }
-    ensures running { OnOk result (helper.new.store.known.has_failed ≡ false) }
-    ensures lives { OnOk result (LivesOn D.device shared.now helper.old helper.new) }
-    ensures crashes { OnErr result (CrashesSince D.device shared.now helper.old helper.new) }
-    ensures cause { IfErr result (StopsRound (D.device helper.old.store.disk) (D.device helper.new.store.disk)) }
+    ensures { HasServed D.device shared.now helper.old helper.new result }
 {
     for _ in rt.forever() {
         let asked = bell.asks();
@@ -85,15 +73,7 @@ fn hand_on<R: Wait>(rt: &R, bell: &Bell, asked: u32, applied: u64) {
 fn make_round<D: Disk>(shared: &Shared, helper: &mut Helper<D>) -> Result<u64, StoreError>
     requires helping { IsHelping D.device shared.now helper.old }
     requires running { helper.old.store.known.has_failed ≡ false }
-    ensures helping { IsHelping D.device shared.now helper.new }
-    ensures stayed { HasStayed D.device helper.old helper.new }
-    ensures running { OnOk result (helper.new.store.known.has_failed ≡ false) }
-    ensures lives { OnOk result (LivesOn D.device shared.now helper.old helper.new) }
-    ensures seen { HasSeen shared.now helper.new }
-    // What a crash leaves at any moment since the opening, up to the end of a round, keeps whole sections of each legal
-    // history that goes on from what the helper has seen.
-    ensures crashes { CrashesSince D.device shared.now helper.old helper.new }
-    ensures cause { IfErr result (StopsRound (D.device helper.old.store.disk) (D.device helper.new.store.disk)) }
+    ensures { HasServed D.device shared.now helper.old helper.new result }
 {
     helping_law::<D>();
     life_law::<D>();

@@ -217,14 +217,14 @@ impl<'a, J: Joint> HeapThread<'a, J> {
     }
 }
 
-// Wakes the helper where a call was refused since that is behind.
+// Wakes the helper where a call was refused as `Behind`.
 fn wake_if_behind(bell: &Bell, answer: &Result<(), SessionError>) {
     if let Err(SessionError::Behind) = answer {
         bell.ask();
     }
 }
 
-// Waits on the monitor, with the session in its place again behind it.
+// Waits on the monitor, after which the session is in its place again.
 fn wait_there<R: Wait>(
     rt: &R,
     shared: &Shared,

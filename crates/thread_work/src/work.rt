@@ -9,6 +9,7 @@ use crate::joint::Joint;
 use crate::thread::HeapThread;
 use session::SessionError;
 use std::sync::Wait;
+use thread_rings::RingRecords;
 
 /// What each thread of a heap does, with a session of its own.
 pub trait Work {
@@ -30,5 +31,14 @@ pub trait Work {
     /// as `Behind`, or a body that returns). Where this says no it makes one round after another.
     fn lets_helper_rest(&self) -> bool {
         true
+    }
+
+    /// How many records each thread's ring has room for: a thread that is so many ahead of the helper is refused as `Behind`. By default
+    /// 16,384, of 24 bytes each.
+    fn ring_records(&self) -> RingRecords {
+        match RingRecords::of(16_384) {
+            Some(records) => records,
+            None => RingRecords::usual(),
+        }
     }
 }

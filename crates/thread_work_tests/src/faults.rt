@@ -3,15 +3,18 @@
 ghost use Rattle.std.specs.Prelude.{◌≤◌};
 
 use crate::room::{CAPACITY, TABLE, TURN, disk, schema};
+use block_disk::MemDisk;
+use recover::recover;
 use std::alloc::Global;
 use std::sync::Wait;
 use std::sync::atomic::{AtomicU64, Ordering};
 use std::thread::Threads;
 use thread_work::{HeapThread, Joint, RunError, SessionError, Work, run_new};
 
-// Adds to the turn, each time durably, and counts the threads to which the helper has stopped.
+// Adds to the turn, each time durably, and counts how often that was durable, and the threads to which the helper has stopped.
 #[derive(Drop)]
 struct Adds {
+    durable: AtomicU64,
     stopped: AtomicU64,
 }
 
@@ -30,8 +33,16 @@ impl Work for Adds {
                 self.stopped.fetch_add(1, Ordering::SeqCst);
                 return Ok(());
             }
+            self.durable.fetch_add(1, Ordering::SeqCst);
         }
         Ok(())
+    }
+}
+
+fn adds() -> Adds {
+    Adds {
+        durable: AtomicU64::new(0),
+        stopped: AtomicU64::new(0),
     }
 }
 
@@ -49,9 +60,7 @@ fn stopped_at<R: Threads + Wait + Sync>(
         return None;
     };
     disk.fail_call(call);
-    let adds = Adds {
-        stopped: AtomicU64::new(0),
-    };
+    let adds = adds();
     let refusal = match run_new(rt, alloc, disk, schema, 3, CAPACITY, &adds) {
         Ok(ran) => {
             drop(ran);
@@ -69,4 +78,49 @@ fn stopped_at<R: Threads + Wait + Sync>(
 fn durable_ends_with_the_helper(rt: HostRuntime) {
     let stopped = stopped_at(&rt, rt.alloc(), 300);
     assert!(rt; stopped == Some((Some(RunError::Helper(durable::StoreError::Fault)), 3)));
+}
+
+// The turn that recovery finds there.
+fn turn_on(alloc: Global, disk: MemDisk) -> Option<u64> {
+    match recover(alloc, disk) {
+        Ok((recovered, report)) => {
+            drop(report);
+            let turn = recovered.heap().first().copied();
+            drop(recovered);
+            turn
+        }
+        Err((disk, _)) => {
+            drop(disk);
+            None
+        }
+    }
+}
+
+// Whether recovery finds each of three threads' durable sections on a disk whose call of this number failed.
+fn keeps_durable<R: Threads + Wait + Sync>(rt: &R, alloc: Global, call: u64) -> Option<bool>
+    requires { 1 ≤ call }
+{
+    let schema = schema(alloc)?;
+    let Some(mut disk) = disk(alloc, &schema, 3) else {
+        drop(schema);
+        return None;
+    };
+    disk.fail_call(call);
+    let adds = adds();
+    let left = match run_new(rt, alloc, disk, schema, 3, CAPACITY, &adds) {
+        Ok(ran) => {
+            drop(ran);
+            None
+        }
+        Err((disk, _)) => turn_on(alloc, disk),
+    };
+    let durable = adds.durable.load(Ordering::SeqCst);
+    Some(durable > 0 && left? >= durable)
+}
+
+#[test]
+fn a_refused_run_keeps_what_was_durable(rt: HostRuntime) {
+    for call in [1_000, 1_001, 1_002, 1_003] {
+        assert!(rt; keeps_durable(&rt, rt.alloc(), call) == Some(true));
+    }
 }

@@ -1,4 +1,4 @@
-use Rattle.std.proofs.Common.{sym, ap, subst, ◌∙◌}
+use Rattle.std.proofs.Common.{sym, subst, ◌∙◌}
 use Rattle.thread_drive.specs.Driven.{IsDriven}
 use Rattle.thread_drive.specs.Stops.{StopsRun}
 use Rattle.thread_drive.specs.declared.driven.Driven.{Driven}
@@ -11,6 +11,9 @@ use Rattle.thread_drive.proofs.driving.drive_heap.Goals as goal
 pub close_returned-requires : goal.close_returned-requires
 close_returned-requires g c = c.in-Ok.ensures.ok.back
 
+pub leave_returned-disk-requires : goal.leave_returned-disk-requires
+leave_returned-disk-requires g c = c.in-Ok.ensures.ok.back
+
 pub returns-in-Err-clause-cause : goal.returns-in-Err-clause-cause
 returns-in-Err-clause-cause g c =
     let device = g.D.Disk.device in
@@ -20,7 +23,7 @@ returns-in-Err-clause-cause g c =
 pub returns-in-Err-answer_of-clause-cause : goal.returns-in-Err-answer_of-clause-cause
 returns-in-Err-answer_of-clause-cause g c =
     let device = g.D.Disk.device in
-    session_stops device c.args.schema c.args.workers c.args.recovered c.in-Ok.returned (device c.into_disk.result) c.in-Err-answer_of.refusal c.in-Ok.ensures.ok (sym c.answer_of.ensures ∙ c.in-Err-answer_of.is) (ap device c.into_disk.ensures)
+    session_stops device c.args.schema c.args.workers c.args.recovered c.in-Ok.returned (device c.leave_returned-disk.result) c.in-Err-answer_of.refusal c.in-Ok.ensures.ok (sym c.answer_of.ensures ∙ c.in-Err-answer_of.is) c.leave_returned-disk.ensures.left
 
 pub returns-in-Ok-close_returned-clause-ok : goal.returns-in-Ok-close_returned-clause-ok
 returns-in-Ok-close_returned-clause-ok g c =

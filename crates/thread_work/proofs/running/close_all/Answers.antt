@@ -1,14 +1,13 @@
-use Rattle.std.proofs.Common.{ℕ, ◌≤◌, length, subst, sym, ◌∙◌, arith}
-use Rattle.trim_helper.specs.Endings.{RefusesClosing}
-use Rattle.thread_work.specs.Bodies.{Answer, WereCalled}
-use Rattle.thread_work.proofs.Refused.{both_ok}
+use Rattle.std.proofs.Common.{ℕ, subst, sym, ◌∙◌}
 use Rattle.recover.specs.Recovery.{IsCutOff}
-use Rattle.thread_work.specs.Crashes.{IsLeftBehind, KeepsEach, TakesEach}
+use Rattle.trim_helper.specs.Endings.{IsComplete, RefusesClosing}
+use Rattle.thread_work.specs.Bodies.{Answer, WereCalled}
 use Rattle.thread_work.specs.Outcomes.{IsTold}
 use Rattle.thread_work.specs.Serving.{CrashesBy}
 use Rattle.thread_work.specs.Stops.{StopsEnd, StopsTelling}
-use Rattle.thread_work.proofs.Ends.{closing_left, kept_taken, telling_crashes}
-use Rattle.thread_work.proofs.Refused.{weaker, weaker_both}
+use Rattle.thread_work.proofs.Ends.{closed_left, closing_left, telling_crashes}
+use Rattle.thread_work.proofs.Left.{have_ended}
+use Rattle.thread_work.proofs.Refused.{both_ok, weaker, weaker_both}
 use Rattle.thread_work.proofs.Stopped.{close_stops, told_stops}
 use Rattle.thread_work.proofs.running.close_all.Goals as goal
 
@@ -32,38 +31,26 @@ returns-in-Ok-clause-ok g c =
 pub returns-in-Ok-clause-cause : goal.returns-in-Ok-clause-cause
 returns-in-Ok-clause-cause g c =
     let device = g.D.Disk.device in
-    let l = c.args.helper.store.known.layout in
+    let old = device c.args.helper.store.disk in
     let closed = device c.in-Ok.disk in
-    let closes = c.in-Ok.ensures.closes c.requires.helper.past c.requires.helper.serving in
-    weaker c.tell.result (λ back. StopsTelling closed (device back.0) back.1) (λ back. StopsEnd (g.W.Work.does c.args.work.now) c.args.shared l (device c.args.helper.store.disk) (device back.0) back.1)
-    (λ back stops. told_stops (g.W.Work.does c.args.work.now) c.args.shared l (device c.args.helper.store.disk) closed (device back.0) c.args.ended.items back.1 c.requires.none c.requires.complete closes.later c.in-Ok.ensures.ok c.two_syncs_law.ensures stops)
-    c.tell.ensures.cause
+    weaker c.tell.result (λ back. StopsTelling closed (device back.0) back.1) (λ back. StopsEnd old (device back.0) back.1) (λ back stops. told_stops old closed (device back.0) back.1 stops) c.tell.ensures.cause
 
 pub returns-in-Ok-clause-crashes : goal.returns-in-Ok-clause-crashes
 returns-in-Ok-clause-crashes g c =
     let device = g.D.Disk.device in
+    let does = g.W.Work.does c.args.work.now in
     let h = c.args.shared in
-    let l = c.args.helper.store.known.layout in
+    let x = c.args.helper in
+    let l = x.store.known.layout in
+    let es = c.args.ended.items in
     let closed = device c.in-Ok.disk in
-    weaker_both c.tell.result (λ back. IsCutOff closed (device back.0)) (λ back. StopsTelling closed (device back.0) back.1) (λ back. CrashesBy device h c.args.helper (device back.0) back.1)
+    let are = have_ended does h l x.rings es c.args.answer c.requires.ended c.requires.lanes c.requires.called in
+    weaker_both c.tell.result (λ back. IsCutOff closed (device back.0)) (λ back. StopsTelling closed (device back.0) back.1) (λ back. CrashesBy device does h x (device back.0) back.1)
     (λ back cut_off stops opened p was.
-    let from = c.in-Ok.ensures.from p was.lived.serving in
-    let first = was.lived.life.ran.shown.later in
-    let second = from.ran.shown.later in
-    let later : length opened.past ≤ length closed.past = omega (arith, first, second) in
-    let keeps : KeepsEach h l from.closed.history opened closed = c.crash_law.ensures h opened closed c.args.helper p c.args.ended.items was.lived from in
-    let takes : TakesEach opened closed = kept_taken h l from.closed.history opened closed keeps in
-    let left : IsLeftBehind h l opened (device back.0) = record {
-      ended = c.args.ended.items;
-      none = c.requires.none;
-      complete = c.requires.complete;
-      closed = closed;
-      ran = from.closed;
-      keeps = keeps;
-      cut_off = cut_off;
-      takes = c.taken_law.ensures.recovery opened closed (device back.0) later takes cut_off;
-    } in
-    telling_crashes h l opened closed (device back.0) back.1 left stops)
+    let serving = was.lived.serving in
+    let read = (c.in-Ok.ensures.closes p serving).read c.requires.none (subst (λ (n : ℕ). IsComplete n es) c.requires.helper.lanes c.requires.complete) in
+    let left = closed_left device does h opened closed x p es was.lived c.requires.helper c.requires.ended are c.two_syncs_law.ensures (device back.0) c.crash_law.ensures c.taken_law.ensures.recovery c.requires.none c.requires.complete (c.in-Ok.ensures.from p serving) read cut_off in
+    telling_crashes does c.two_syncs_law.ensures h l opened closed (device back.0) back.1 left stops)
     c.tell.ensures.cut_off c.tell.ensures.cause
 
 pub returns-in-Err-clause-cause : goal.returns-in-Err-clause-cause
@@ -78,4 +65,12 @@ returns-in-Err-clause-cause g c =
 
 pub returns-in-Err-clause-crashes : goal.returns-in-Err-clause-crashes
 returns-in-Err-clause-crashes g c = λ opened p was.
-    closing_left g.D.Disk.device c.args.shared opened (g.D.Disk.device c.in-Err.disk) c.args.helper p c.args.ended.items c.taken_law.ensures.run was.lived (c.in-Err.ensures.closes p was.lived.serving).stood
+    let device = g.D.Disk.device in
+    let does = g.W.Work.does c.args.work.now in
+    let h = c.args.shared in
+    let x = c.args.helper in
+    let es = c.args.ended.items in
+    let are = have_ended does h x.store.known.layout x.rings es c.args.answer c.requires.ended c.requires.lanes c.requires.called in
+    let closes = c.in-Err.ensures.closes p was.lived.serving in
+    closing_left device does h opened (device c.in-Err.disk) x p es was.lived c.requires.helper c.requires.ended are c.two_syncs_law.ensures c.taken_law.ensures.run closes.stood
+    (closes.read c.requires.none (subst (λ (n : ℕ). IsComplete n es) c.requires.helper.lanes c.requires.complete))

@@ -2,9 +2,11 @@ use Rattle.std.proofs.Common.{◌≡◌, ◌<◌, List, All, length, subst}
 use Rattle.std.specs.List.{slice_index_or}
 use Rattle.trim_helper.specs.declared.ended.Ended.{Ended}
 use Rattle.trim_helper.proofs.Completing.{complete_of}
-use Rattle.thread_work.proofs.Ending.{none_hold}
+use Rattle.thread_heap.proofs.Ending.{are_ended}
+use Rattle.thread_steps.specs.Views.{plan}
+use Rattle.thread_work.proofs.Ending.{none_hold, one_holds}
 use Rattle.thread_work.proofs.Ends.{back_open}
-use Rattle.thread_work.proofs.Joining.{left_open}
+use Rattle.thread_work.proofs.Left.{have_ended}
 use Rattle.thread_work.proofs.running.close_returned.Goals as goal
 
 pub close_all-requires-clause-helper : goal.close_all-requires-clause-helper
@@ -28,14 +30,19 @@ close_all-requires-clause-none g c = none_hold c.args.returned.ended.items (subs
 pub close_all-requires-clause-complete : goal.close_all-requires-clause-complete
 close_all-requires-clause-complete g c = complete_of c.args.returned.shared.plan.lanes c.args.returned.ended.items c.requires.lanes
 
-pub returns-in-Some-clause-crashes : goal.returns-in-Some-clause-crashes
-returns-in-Some-clause-crashes g c = back_open g.D.Disk.device c.args.returned.shared c.args.returned.helper c.disk_of.result c.round_law.ensures.between c.disk_of.ensures
-
-pub returns-in-Some-clause-cause : goal.returns-in-Some-clause-cause
-returns-in-Some-clause-cause g c =
+pub leave-requires-clause-ended : goal.leave-requires-clause-ended
+leave-requires-clause-ended g c =
     let r = c.args.returned in
-    let known = r.helper.store.known in
+    are_ended r.shared r.helper.store.known.layout.capacity r.helper.rings r.ended.items c.requires.ended
+
+pub returns-in-Some-clause-crashes : goal.returns-in-Some-clause-crashes
+returns-in-Some-clause-crashes g c =
+    let device = g.D.Disk.device in
+    let does = g.W.Work.does c.args.work.now in
+    let r = c.args.returned in
+    let x = r.helper in
+    let l = x.store.known.layout in
     let es = r.ended.items in
-    let k = c.in-Some._holder in
-    let holds = subst (λ (es : List Ended). (k < length es) × ((d : Ended) → (slice_index_or es k d).held ≡ 0 → ⊥)) c.deref.ensures.value c.in-Some.ensures.some in
-    left_open (g.W.Work.does c.args.work.now) r.shared known.layout.capacity r.helper.rings es r.answer k holds.0 c.requires.ended c.requires.called holds.1
+    let some = subst (λ (es : List Ended). (c.in-Some._holder < length es) × ((d : Ended) → (slice_index_or es c.in-Some._holder d).held ≡ 0 → ⊥)) c.deref.ensures.value c.in-Some.ensures.some in
+    back_open device does r.shared x c.leave.result es c.round_law.ensures.between c.round_law.ensures.now c.requires.helping c.requires.ended (have_ended does r.shared l x.rings es r.answer c.requires.ended c.requires.lanes c.requires.called)
+    (c.leave.ensures.history, λ p serving. c.leave.ensures.read (plan r.shared) p serving) (λ none. one_holds c.in-Some._holder es some.0 some.1 none) c.leave.ensures.disk

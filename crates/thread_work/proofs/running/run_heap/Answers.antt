@@ -18,7 +18,7 @@ returns-in-Ok-clause-cause g c =
     let device = g.D.Disk.device in
     let does = g.W.Work.does c.args.work.now in
     let x = c.in-Ok.returned in
-    weaker_both c.close_returned.result (λ back. StopsEnd does x.shared x.helper.store.known.layout (device x.helper.store.disk) (device back.0) back.1) (λ back. CrashesBy device x.shared x.helper (device back.0) back.1)
+    weaker_both c.close_returned.result (λ back. StopsEnd (device x.helper.store.disk) (device back.0) back.1) (λ back. CrashesBy device does x.shared x.helper (device back.0) back.1)
     (λ back. StopsRun does device c.args.schema c.args.threads c.args.recovered (device back.0) back.1)
     (λ back stops crashes. stopped_from does device c.args.schema c.args.threads c.args.recovered x (device back.0) back.1 c.in-Ok.ensures.ok stops crashes)
     c.close_returned.ensures.cause c.close_returned.ensures.crashes

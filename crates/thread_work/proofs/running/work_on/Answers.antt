@@ -42,15 +42,17 @@ returns-in-Ok-clause-ok g c =
 pub returns-in-Ok-clause-cause : goal.returns-in-Ok-clause-cause
 returns-in-Ok-clause-cause g c =
     let device = g.D.Disk.device in
+    let does = g.W.Work.does c.args.work.now in
     let heap = c.in-Ok.heap in
     let l = heap.helper.store.known.layout in
     let began = device heap.helper.store.disk in
     let living = begins_living device heap.shared heap.helper c.life_law.ensures.begins c.in-Ok.ensures.opened.helping.lanes c.in-Ok.ensures.opened.past c.in-Ok.ensures.opened.running in
     let same : began ≡ device c.args.recovered.disk = ap device c.in-Ok.ensures.opened.disk in
-    weaker_both c.run.result (λ back. StopsBy (g.W.Work.does c.args.work.now) heap.shared l began (device back.0) back.1) (λ back. CrashesBy device heap.shared heap.helper (device back.0) back.1) (λ back. StopsRun (g.W.Work.does c.args.work.now) device c.args.schema c.args.threads c.args.recovered (device back.0) back.1)
-    (λ back stops crashes. run_stops (g.W.Work.does c.args.work.now) device c.args.schema c.args.threads c.args.recovered heap.shared l began (device back.0) back.1 c.in-Ok.ensures.opened.plan_is c.in-Ok.ensures.opened.layout same
-    (subst (λ (d : Device). CrashesOf heap.shared c.args.recovered.layout d (device back.0) back.1) same
-    (subst (λ (k : Layout). CrashesOf heap.shared k began (device back.0) back.1) c.in-Ok.ensures.opened.layout (crashes began no_past living))) stops)
+    weaker_both c.run.result (λ back. StopsBy began (device back.0) back.1) (λ back. CrashesBy device does heap.shared heap.helper (device back.0) back.1) (λ back. StopsRun does device c.args.schema c.args.threads c.args.recovered (device back.0) back.1)
+    (λ back stops crashes. run_stops does device c.args.schema c.args.threads c.args.recovered heap.shared (device back.0) back.1 c.in-Ok.ensures.opened.plan_is
+    (subst (λ (d : Device). CrashesOf does heap.shared c.args.recovered.layout d (device back.0) back.1) same
+    (subst (λ (k : Layout). CrashesOf does heap.shared k began (device back.0) back.1) c.in-Ok.ensures.opened.layout (crashes began no_past living)))
+    (subst (λ (d : Device). StopsBy d (device back.0) back.1) same stops))
     c.run.ensures.cause c.run.ensures.crashes
 
 pub returns-in-Err-clause-cause : goal.returns-in-Err-clause-cause
