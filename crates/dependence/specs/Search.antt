@@ -127,6 +127,14 @@ TookInsideAt steps cut l k i = slice_index (lanes_in steps) i ≡ l → slice_in
 abbrev pub TookInsideUpTo : (steps : List Step) (cut : ℕ → ℕ) (lane section place : ℕ) → Type 0
 TookInsideUpTo steps cut l k n = (i : ℕ) → i < n → TookInsideAt steps cut l k i
 
+-- the step's section is one of the cut's, or the given one
+abbrev pub IsOwnOrInside : (cut : ℕ → ℕ) (lane section : ℕ) → Step → Type 0
+IsOwnOrInside cut l k step = (step.section ≤ cut step.lane.0) ⊎ ((step.lane.0 ≡ l) × (step.section ≡ k))
+
+-- the dependence is on the step's section, which is outside the cut, and isn't the given one
+abbrev pub IsOnOutside : (cut : ℕ → ℕ) (lane section : ℕ) → Step → Dependence → Type 0
+IsOnOutside cut l k step d = (d.lane.0 ≡ step.lane.0) × (d.section ≡ step.section) × (cut d.lane.0 < d.section) × (d.lane.0 ≡ l → d.section ≡ k → ⊥)
+
 -- the section took at a place from another that isn't one of the cut's
 pub record TookOutside (steps : List Step) (cut : ℕ → ℕ) (lane section place releaser released : ℕ) : Type 0 where
   pub lane_is : slice_index (lanes_in steps) place ≡ lane

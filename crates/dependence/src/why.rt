@@ -1,9 +1,9 @@
 //! Why a section is left out of a cut.
 
-ghost use Rattle.std.specs.Prelude.{◌≡◌, ◌+◌, ◌<◌, ◌≤◌, ◌⊎◌, ℕ, true, MatchOption, length, slice_index};
+ghost use Rattle.std.specs.Prelude.{◌≡◌, ◌+◌, ◌<◌, ℕ, true, MatchOption, length, slice_index};
 ghost use Rattle.heap_model.specs.Cuts.{counts_of};
 ghost use Rattle.dependence.specs.Kept.{IsLinked};
-ghost use Rattle.dependence.specs.Search.{Takes, TookInsideAt, TookInsideUpTo, TookOutside, IsFirstReleaser, IsLeftOutBy, HasNoReason};
+ghost use Rattle.dependence.specs.Search.{Takes, IsOwnOrInside, IsOnOutside, TookInsideAt, TookInsideUpTo, TookOutside, IsFirstReleaser, IsLeftOutBy, HasNoReason};
 
 use crate::lanes::is_left_out;
 use crate::links::Links;
@@ -99,8 +99,8 @@ pub fn release_of(steps: &[Step], links: &Links, place: usize) -> Option<usize>
 
 // The releaser's section, if it is outside the cut and not the given one.
 fn outside(cut: &Cut, releaser: Step, section: Dependence) -> Option<Dependence>
-    ensures { MatchOption result ((releaser.section ≤ counts_of cut.now releaser.lane.0) ⊎ ((releaser.lane.0 ≡ section.lane.0) × (releaser.section ≡ section.section)))
-        (λ d. (d.lane.0 ≡ releaser.lane.0) × (d.section ≡ releaser.section) × (counts_of cut.now d.lane.0 < d.section) × (d.lane.0 ≡ section.lane.0 → d.section ≡ section.section → ⊥)) }
+    ensures { MatchOption result (IsOwnOrInside (counts_of cut.now) section.lane.0 section.section releaser)
+        (IsOnOutside (counts_of cut.now) section.lane.0 section.section releaser) }
 {
     if is_counted(cut, releaser)
         || (releaser.lane.0 == section.lane.0 && releaser.section == section.section)
