@@ -53,7 +53,6 @@ impl HostedHeap {
     ghost use Rattle.std.specs.Prelude.{◌≡◌, ◌≢◌, ◌<◌, ◌≤◌, ◌+◌, ◌↔◌, [], None, Some, IsSome, Err, false, length, IfSome, IsErrOf, OnOk, MatchOption};
     ghost use Rattle.disk_deferred.specs.Handing.{IsSmall};
     ghost use Rattle.disk_deferred.specs.Host.{Fetches, HasLooked, HaveMet};
-    ghost use Rattle.disk_deferred.specs.declared.call.DeviceCall.{DeviceCall};
     ghost use Rattle.disk_deferred.specs.declared.disk.TheConstants.{SYNCS};
     ghost use Rattle.rtrb.specs.Ring.{known_items};
     ghost use Rattle.session.specs.Sessions.{view_of};
@@ -64,7 +63,6 @@ impl HostedHeap {
     ghost use Rattle.host_heap.specs.declared.error.FailedCall.TheVariants as FailedCalls;
     ghost use Rattle.host_heap.specs.declared.error.AcknowledgedError.TheVariants.{BadLane, CallsLeft};
     ghost use Rattle.image_parts.specs.Layout.{size_of};
-    ghost use Rattle.heap_model.specs.Past.{applied};
     ghost use Rattle.host_heap.specs.Handing.{GivesFirst, IsAwaitedOut, IsJoinedTo, IsOfNextLane, MakesFirst, SameButOut};
     ghost use Rattle.host_heap.specs.Meeting.{AreAllMade, FetchesAll, KeepsCut, SameButMet, TellsCut};
 

@@ -7,7 +7,7 @@ use Rattle.host_heap.specs.Stopping.{Stopping}
 use Rattle.host_heap.specs.declared.error.FailedCall.{FailedCall}
 use Rattle.host_heap.specs.declared.error.FailedCall.TheVariants.{Write, Sync}
 use Rattle.zelamiku.specs.Own.{Held}
-use Rattle.zelamiku.specs.Handles.{closed_held, heap_held, session_held, stopped_held, waiting_held}
+use Rattle.zelamiku.specs.Handles.{OfDevice, closed_held, heap_held, session_held, stopped_held, waiting_held}
 use Rattle.zelamiku.specs.declared.state.Open.{Open}
 use Rattle.zelamiku.specs.declared.status.TheConstants.{NONE_LEFT, OK, STOPPED}
 
