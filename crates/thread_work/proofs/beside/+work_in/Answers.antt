@@ -3,8 +3,8 @@ use Rattle.std.proofs.lemmas.List.{nil_from_length}
 use Rattle.std.proofs.lemmas.List.Elements.{All-pop}
 use Rattle.thread_work.proofs.Joining.{have_nobody, have_one}
 use Rattle.session.specs.declared.session.Session.{Session}
-use Rattle.thread_work.specs.Beside.{HasServed}
 use Rattle.thread_work.specs.Bodies.{HasWorked, IsFirst}
+use Rattle.thread_work.specs.Serving.{HasServed}
 use Rattle.thread_work.proofs.beside.+work_in.Goals as goal
 
 pub spawn_with-requires-clause-runs : goal.spawn_with-requires-clause-runs
@@ -33,5 +33,5 @@ returns-in-Ok-work_in-clause-beside g t c =
           (subst (λ (s : Session). HasWorked (g.W.Work.does c.args.work.now) c.args.shared.now s c.join.result) c.of.ensures
           (subst (λ p. HasWorked (g.W.Work.does p.work.now) p.shared.now p.first.value c.join.result) c.in-Ok.ensures.ok c.join.ensures))
           c.and_joined.ensures.worked;
-      served = subst (HasServed g.D.Disk.device c.args.shared.now c.args.helper) (sym c.and_joined.ensures.served) before.served;
+      served = subst (λ s. HasServed g.D.Disk.device c.args.shared.now c.args.helper s.helper s.answer) (sym c.and_joined.ensures.served) before.served;
     }
