@@ -1,6 +1,6 @@
-/* search small SECONDS [PROCESSOR [MOST [ONE]]]: each small program under all schedules with at most two preemptions, first without one and then
- * with one at most; until the time is over, or until that were more than MOST runs of it. ONE: that small program alone.
- * search programs FROM COUNT SECONDS [PROCESSOR]: a program and a schedule for each seed, for so many seconds at most, or of a processor.
+/* search small SECONDS [STEPS [MOST [ONE]]]: each small program under all schedules with at most two preemptions, first without one and then
+ * with one at most; until the time is over, or so many steps are made, or until that were more than MOST runs of it. ONE: that small program alone.
+ * search programs FROM COUNT SECONDS [STEPS]: a program and a schedule for each seed, for so many seconds or steps at most.
  * search one SEED TRIES [LEFT-OUT] [CHOICES]: the program of a seed under its own schedule (TRIES 0) or under so many others, without the deeds
  * of that list, or with these choices (PLACE:TASK,..). It tells the program, and the choices of what has failed.
  * A fault is told in a line, and the status is 3. tools/search builds and calls this. */
@@ -19,6 +19,7 @@
 static program now;
 static uint64_t seed_now;
 static bool tells;
+static uint64_t steps, most_steps; /* of all runs before this one */
 
 /* ---- faults ---- */
 
@@ -30,8 +31,8 @@ static void tell_choices(void) {
 }
 
 static void fail(const char *why) {
-    printf("FAULT seed %llu: %s; step %llu, time %llu us\n", (unsigned long long)seed_now, why, (unsigned long long)search_steps(),
-           (unsigned long long)(search_time() / 1000));
+    printf("FAULT seed %llu: %s; step %llu of %llu, time %llu us\n", (unsigned long long)seed_now, why, (unsigned long long)search_steps(),
+           (unsigned long long)(steps + search_steps()), (unsigned long long)(search_time() / 1000));
     if (tells) tell_choices();
     fflush(stdout);
     _exit(3);
@@ -83,55 +84,59 @@ static double seconds_now(void) {
     return (double)time.tv_sec + (double)time.tv_usec / 1e6;
 }
 
-static double last_second, processor_seconds;
+static double last_second;
 
 static double used_seconds(void) {
     return (double)clock() / CLOCKS_PER_SEC;
 }
 
-/* Whether the time is over, that of the clock or the processor's, of which so many more have a part. */
-static bool is_over(double begun, double used, double parts) {
-    double now_ = seconds_now(), used_now = used_seconds();
-    return now_ - begun >= (last_second - begun) / parts || used_now - used >= (processor_seconds - used) / parts;
+static void run(const search_schedule *schedule) {
+    watch_run();
+    program_run(&now, schedule);
+    steps += search_steps();
+}
+
+/* Whether the time is over, or the steps, of which so many more have a part. By steps all machines try the same, however much else they do. */
+static bool is_over(double begun, uint64_t before, uint64_t parts) {
+    uint64_t left = before < most_steps ? most_steps - before : 0;
+    return seconds_now() - begun >= (last_second - begun) / (double)parts || steps - before >= left / parts;
 }
 
 static void run_programs(uint64_t from, uint64_t count) {
-    double begun = seconds_now(), used = used_seconds();
-    uint64_t all = 0, done = 0;
-    for (uint64_t seed = from; seed - from < count && !is_over(begun, used, 1); seed++) {
+    double begun = seconds_now();
+    uint64_t done = 0;
+    for (uint64_t seed = from; seed - from < count && !is_over(begun, 0, 1); seed++) {
         seed_now = seed;
-        watch_run();
         program_make(&now, seed);
         search_schedule schedule = schedule_of(&now, seed);
-        program_run(&now, &schedule);
-        all += search_steps();
+        run(&schedule);
         done++;
     }
     printf("%llu programs, %llu steps, %llu crashes looked at, %llu programs stopped where nobody could go on\n", (unsigned long long)done,
-           (unsigned long long)all, (unsigned long long)programs_crashes, (unsigned long long)programs_stuck);
+           (unsigned long long)steps, (unsigned long long)programs_crashes, (unsigned long long)programs_stuck);
 }
 
 /* ---- all schedules of a small program ---- */
 
 enum { MOST_PREEMPTIONS = 2 };
-static double program_begun, program_used, programs_left;
-static uint64_t most_runs;
+static double program_begun, program_used;
+static uint64_t steps_before, programs_left, most_runs;
 
 static void run_choices(const search_choice *path, size_t length) {
     search_schedule schedule = {0, TIMELESS, 1, 1, path, length};
-    watch_run();
-    program_run(&now, &schedule);
+    run(&schedule);
 }
 
 static bool is_program_over(void) {
-    return is_over(program_begun, program_used, programs_left);
+    return is_over(program_begun, steps_before, programs_left);
 }
 
 static void begin_small(uint64_t seed, uint64_t end) {
     seed_now = seed;
     program_begun = seconds_now();
     program_used = used_seconds();
-    programs_left = (double)(end - seed);
+    steps_before = steps;
+    programs_left = end - seed;
     program_make(&now, seed);
     order_forget();
 }
@@ -197,12 +202,10 @@ static void run_one(uint64_t seed, uint64_t tries, const char *left_out, const c
     search_schedule schedule = schedule_of(&now, seed);
     search_kind kind = seed < SMALL_PROGRAMS ? TIMELESS : AS_TOLD;
     if (choices != NULL) schedule = (search_schedule){0, kind, 1, 1, told, read_choices(choices, told)};
-    watch_run();
-    if (tries == 0) program_run(&now, &schedule);
+    if (tries == 0) run(&schedule);
     for (uint64_t i = 1; i <= tries; i++) {
-        watch_run();
         schedule = schedule_of(&now, seed + i * 1000003);
-        program_run(&now, &schedule);
+        run(&schedule);
     }
     puts("none wrong");
 }
@@ -211,9 +214,9 @@ static uint64_t number(int count, char **words, int at, uint64_t usual) {
     return at < count ? strtoull(words[at], NULL, 10) : usual;
 }
 
-static void bound_time(uint64_t seconds, uint64_t processor) {
+static void bound(uint64_t seconds, uint64_t most) {
     last_second = seconds_now() + (double)seconds;
-    processor_seconds = (double)processor;
+    most_steps = most;
 }
 
 int main(int count, char **words) {
@@ -224,10 +227,10 @@ int main(int count, char **words) {
     watch_signals();
     const char *what = count > 1 ? words[1] : "";
     if (strcmp(what, "programs") == 0) {
-        bound_time(number(count, words, 4, long_time), number(count, words, 5, long_time));
+        bound(number(count, words, 4, long_time), number(count, words, 5, UINT64_MAX));
         run_programs(number(count, words, 2, SMALL_PROGRAMS), number(count, words, 3, 1000));
     } else if (strcmp(what, "small") == 0) {
-        bound_time(number(count, words, 2, 60), number(count, words, 3, long_time));
+        bound(number(count, words, 2, 60), number(count, words, 3, UINT64_MAX));
         most_runs = number(count, words, 4, UINT64_MAX);
         uint64_t one = number(count, words, 5, SMALL_PROGRAMS);
         run_small(one < SMALL_PROGRAMS ? one : 0, one < SMALL_PROGRAMS ? one + 1 : SMALL_PROGRAMS);
