@@ -1,8 +1,8 @@
 -- What holds of both monitors of an order.
-use Rattle.std.proofs.Common.{ℕ, ◌≡◌, ◌≢◌, ◌+◌, ◌≤◌, ◌⊎◌, nat_lt, if◌then◌else◌, Bool, true, false, inl, inr, sym, ◌∙◌, arith}
+use Rattle.std.proofs.Common.{◌≡◌, ◌≢◌, ◌≤◌, ◌⊎◌, nat_lt, if◌then◌else◌, Bool, true, false, inl, inr, sym, arith}
 use Rattle.heap_model.specs.declared.ids.ObjectId.{ObjectId}
 use Rattle.monitor.specs.Seats.{Home}
-use Rattle.thread_steps.specs.Views.{plan, hold}
+use Rattle.thread_steps.specs.Views.{plan}
 use Rattle.session.specs.Logs.{actions_in, held_count}
 use Rattle.session.specs.Sessions.{view_of}
 use Rattle.session.specs.declared.session.Session.{Session}

@@ -1,5 +1,5 @@
 -- What each call of a transfer answers, and leaves.
-use Rattle.std.proofs.Common.{ℕ, zero, suc, if◌then◌else◌, true, false, ◌≡◌, ◌≢◌, ◌+◌, ◌<◌, ◌≤◌, ◌⊎◌, inl, inr, [], ◌∷◌, Option, Some, None, Result, Ok, Err, IfErr, IfOk, IfSome, refl, sym, ap, ◌∙◌, subst, arith}
+use Rattle.std.proofs.Common.{ℕ, zero, suc, if◌then◌else◌, true, false, ◌≡◌, ◌≢◌, ◌+◌, ◌<◌, ◌≤◌, inl, inr, Option, Some, None, Result, Ok, Err, IfErr, IfOk, IfSome, refl, sym, ap, ◌∙◌, arith}
 use Rattle.std.specs.Result.{result_ok}
 use Rattle.std.proofs.lemmas.Bool.{cases_lt}
 use Rattle.std.proofs.lemmas.Bool.Decides.{eqb_tells}
@@ -8,13 +8,13 @@ use Rattle.heap_model.specs.declared.ids.FieldId.{FieldId}
 use Rattle.heap_model.specs.declared.limits.TheConstants.{SECTION_RECORDS}
 use Rattle.heap_model.specs.Own.{Hold}
 use Rattle.monitor.specs.Seats.{Home}
-use Rattle.thread_steps.specs.Views.{View, Lengthens, hold, plan, IsHeld}
+use Rattle.thread_steps.specs.Views.{View, hold, plan}
 use Rattle.session.specs.declared.error.SessionError.{SessionError}
 use Rattle.session.specs.declared.error.SessionError.TheVariants.{UnknownObject, UnknownField, NotHeld, Behind, SectionFull, TooMany, TooDeep, NoFat, Worn, Held}
 use Rattle.session.specs.declared.session.Session.{Session}
-use Rattle.session.specs.Calls.{Begins, EntersAgain, EntersFirst, Exits, GoesOn, HoldsGuard, IsSettled, Loads, OnlyLooks, Stores, StoresAs, WaitsToEnter, LacksRoom, records_of}
+use Rattle.session.specs.Calls.{Begins, EntersAgain, EntersFirst, Exits, GoesOn, HoldsGuard, IsSettled, Loads, Stores, StoresAs, WaitsToEnter, LacksRoom, records_of}
 use Rattle.session.specs.Logs.{Rooms, held_count, section_records}
-use Rattle.session.specs.Sessions.{IsSessionOf, rooms_of, view_of}
+use Rattle.session.specs.Sessions.{rooms_of, view_of}
 use Rattle.ledger.specs.Transfers.{IsAccount, stores, balance_of, monitor_of}
 use Rattle.ledger.specs.Holding.{HasRead, IsTaken, KeepsOthers, Misses, SameHolds, Stays, Took, needs}
 use Rattle.ledger.proofs.Telling.{Entered, Exited, Same, Wrote, entered, entered_again, entered_later, exited, exited_nested, same_load, same_looks, same_quiet, same_both, wrote}

@@ -1,5 +1,5 @@
 -- Which response an answer is.
-use Rattle.std.proofs.Common.{ℕ, ◌≡◌, ◌<◌, ◌≤◌, ◌++◌, List, [], length, Option, None, Some, IfSome, MatchOption, Result, Ok, Err, OnOk, OnErr, inl, inr, ap, ◌∙◌, arith}
+use Rattle.std.proofs.Common.{ℕ, ◌≡◌, ◌≤◌, ◌++◌, List, [], length, Option, None, Some, IfSome, MatchOption, Result, Ok, Err, OnOk, OnErr, inl, inr, ap, ◌∙◌, arith}
 use Rattle.bytes.specs.Filled.{UsesSpare}
 use Rattle.http.specs.declared.request.Request.{Request}
 use Rattle.http_server.specs.declared.response.Response.{Response}

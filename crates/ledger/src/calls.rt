@@ -1,5 +1,5 @@
 //! A thread's calls, as a transfer makes them: which of them can't be refused.
-ghost use Rattle.std.specs.Prelude.{◌≡◌, ◌≢◌, ◌+◌, ◌<◌, ◌≤◌, IfErr, IfOk, IfSome, None, Ok};
+ghost use Rattle.std.specs.Prelude.{◌≡◌, ◌+◌, ◌<◌, ◌≤◌, IfErr, IfOk, IfSome, None, Ok};
 ghost use Rattle.heap_model.specs.declared.limits.TheConstants.{SECTION_RECORDS};
 ghost use Rattle.thread_steps.specs.Views.{plan};
 ghost use Rattle.session.specs.Calls.{Exits, HoldsGuard, StoresAs, WaitsToEnter};

@@ -1,5 +1,5 @@
 -- What workers leave, by what the heap's threads do.
-use Rattle.std.proofs.Common.{ℕ, ◌≡◌, ◌+◌, ◌≤◌, Ok, Err, inl, inr, refl, sym, subst, arith}
+use Rattle.std.proofs.Common.{ℕ, ◌≡◌, ◌+◌, Ok, Err, inl, inr, refl, subst, arith}
 use Rattle.block_disk.specs.Device.{Device}
 use Rattle.guards.specs.Schema.{Declarations}
 use Rattle.thread_work.specs.Bodies.{Answer, WereCalled}

@@ -1,7 +1,6 @@
 //! What a worker does.
-ghost use Rattle.std.specs.Prelude.{ℕ, ◌≡◌, ◌+◌, ◌<◌, ◌≤◌, ◌∷◌, [], List, None, IfErr, MatchResult, length};
-ghost use Rattle.thread_drive.specs.Working.{HasCounted, HoldsJust, MayTake, RefusesCount, RefusesEnter, StopsAt, locks_of};
-ghost use Rattle.heap_model.specs.declared.limits.TheConstants.{SECTION_RECORDS};
+ghost use Rattle.std.specs.Prelude.{◌≡◌, ◌+◌, ◌<◌, ◌∷◌, [], IfErr};
+ghost use Rattle.thread_drive.specs.Working.{AddsRecord, GivesBack, HasCounted, HoldsJust, HoldsLast, RefusesToCount, StopsAt, TakesOne};
 ghost use Rattle.session.specs.Sessions.{IsSessionOf, SameRing, capacity_of, view_of};
 ghost use Rattle.thread_steps.specs.Views.{plan};
 

@@ -1,5 +1,5 @@
 -- What a crash left by the end of a run of threads.
-use Rattle.std.proofs.Common.{ℕ, ◌≡◌, [], List, All, Result, Ok, Err, length, inl, inr, refl, sym, ap, ◌∙◌, subst, arith}
+use Rattle.std.proofs.Common.{ℕ, ◌≡◌, [], List, All, Result, Ok, Err, inl, inr, refl, sym, ap, ◌∙◌, subst, arith}
 use Rattle.heap_model.specs.Log.{IsLegal}
 use Rattle.heap_model.specs.declared.event.Event.{Event}
 use Rattle.heap_model.specs.declared.record.Record.{Record}
@@ -11,12 +11,12 @@ use Rattle.law_rounds.specs.Laws.{RoundLaw}
 use Rattle.monitor.specs.Seats.{Home}
 use Rattle.recover.specs.Recovery.{IsCutOff}
 use Rattle.session.specs.declared.session.Session.{Session}
-use Rattle.thread_heap.specs.Closed.{IsClosedFrom, WasTold}
+use Rattle.thread_heap.specs.Closed.{IsClosedFrom}
 use Rattle.thread_heap.specs.Joined.{IsHelping}
 use Rattle.thread_heap.specs.Life.{HasLived}
 use Rattle.law_running.specs.Crashes.{CrashLaw}
 use Rattle.law_running.specs.Running.{CrashBetweenLaw, CrashNowLaw}
-use Rattle.thread_steps.specs.Views.{plan, view}
+use Rattle.thread_steps.specs.Views.{plan}
 use Rattle.heap_model.specs.Past.{Past, no_past}
 use Rattle.heap_model.specs.declared.store_error.StoreError.{StoreError}
 use Rattle.trim_helper.specs.Closed.{Stood}
@@ -24,7 +24,6 @@ use Rattle.trim_helper.specs.Endings.{HoldNone, IsComplete, IsEnded, parts_of}
 use Rattle.trim_helper.specs.Heard.{HasSeen, SeenLaw}
 use Rattle.trim_helper.specs.Leaving.{HasLeft, ReadNoMore}
 use Rattle.trim_helper.specs.Parts.{IsServing, Parts}
-use Rattle.trim_helper.specs.declared.close_error.CloseError.{CloseError}
 use Rattle.trim_helper.specs.declared.ended.Ended.{Ended}
 use Rattle.thread_work.specs.Bodies.{Answer}
 use Rattle.thread_work.specs.Crashes.{CrashesOf, HaveEnded, HaveLeft, IsLeftBehind, IsLeftByCalls, KeepsEach, KeepsLater, KeepsReadsNow, KeepsSeen, KeepsSome, RecoveryTakenLaw, RunTakenLaw, TakesEach}

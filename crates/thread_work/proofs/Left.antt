@@ -17,7 +17,6 @@ use Rattle.law_running.specs.Running.{CrashNowLaw, GoesOnLegally, KeepsRunning, 
 use Rattle.law_running.specs.Runs.{RunsSince}
 use Rattle.law_running.proofs.Running.{kept_in}
 use Rattle.law_running.proofs.Shown.{run_shows}
-use Rattle.law_survival.specs.Running.{KeepsIn}
 use Rattle.law_survival.specs.WholeRun.{MayBeLeft}
 use Rattle.monitor.specs.Seats.{Helping, Home}
 use Rattle.monitor.specs.Views.{GoesOn}
@@ -29,8 +28,7 @@ use Rattle.thread_heap.specs.Joined.{IsHelping}
 use Rattle.thread_steps.specs.Views.{plan, view}
 use Rattle.trim_helper.specs.Endings.{IsEnded, Rings, lanes_ended, part_at, parts_of}
 use Rattle.trim_helper.specs.Leaving.{HasLeft, ReadNoMore}
-use Rattle.trim_helper.specs.Parts.{IsServing, Parts}
-use Rattle.trim_helper.specs.Serving.{Among}
+use Rattle.trim_helper.specs.Parts.{Parts}
 use Rattle.trim_helper.specs.declared.ended.Ended.{Ended}
 use Rattle.trim_helper.proofs.Gathering.{end_below}
 use Rattle.thread_work.specs.Bodies.{Answer, WereCalled}

@@ -1,5 +1,5 @@
 -- Why a run of threads is stopped, by the part of it that was refused.
-use Rattle.std.specs.Prelude.{ℕ, ◌≡◌, ◌⊎◌, ◌≤◌, List}
+use Rattle.std.specs.Prelude.{ℕ, ◌≡◌, ◌⊎◌, List}
 use Rattle.block_disk.specs.Device.{Device, HasFailed}
 use Rattle.guards.specs.Schema.{Declarations}
 use Rattle.heap_model.specs.declared.limits.TheConstants.{LAST_NUMBER}

@@ -4,7 +4,6 @@ ghost use Rattle.block_disk.specs.Device.{SameMoments};
 ghost use Rattle.thread_work.specs.Outcomes.{HasRunFrom};
 ghost use Rattle.thread_work.specs.Runs.{HasFound, HasRunNew, HasRunOn, Holds, IsMadeOf, IsNotFound, IsOf, RefusesFound, RefusesLook, RefusesNewOf, RefusesOnOf};
 ghost use Rattle.thread_work.specs.Stops.{StopsBack};
-ghost use Rattle.image_parts.specs.Recovered.{Parts};
 ghost use Rattle.recover.specs.Recovery.{IsRecovery};
 ghost use Rattle.recover.specs.declared.report.Report.{Report};
 ghost use Rattle.store_image.specs.Formatting.{AreLimits, RefusesFormat};

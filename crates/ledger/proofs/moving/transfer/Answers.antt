@@ -1,12 +1,11 @@
-use Rattle.std.proofs.Common.{◌≡◌, ◌≢◌, ◌≤◌, ◌⊎◌, inl, inr, refl, sym, ap, subst, Ok, Err, Result, ◌∙◌, arith}
+use Rattle.std.proofs.Common.{◌≡◌, ◌≢◌, ◌≤◌, inl, inr, sym, ap, subst, Ok, ◌∙◌, arith}
 use Rattle.heap_model.specs.declared.ids.ObjectId.{ObjectId}
-use Rattle.session.specs.declared.error.SessionError.{SessionError}
 use Rattle.session.specs.declared.error.SessionError.TheVariants.{UnknownObject}
 use Rattle.thread_steps.specs.Views.{plan}
-use Rattle.ledger.specs.Transfers.{First, HasMadeUnder, HasPaid, IsRefusedAMonitor, Second, monitors_of}
-use Rattle.ledger.specs.Holding.{HasBoth, IsTaken}
+use Rattle.ledger.specs.Transfers.{First, HasMadeUnder, HasPaid, IsRefusedAMonitor, Second}
+use Rattle.ledger.specs.Holding.{HasBoth}
 use Rattle.ledger.specs.declared.moving.Made.{Made}
-use Rattle.ledger.specs.declared.moving.Made.TheVariants.{Moved, NoAccount}
+use Rattle.ledger.specs.declared.moving.Made.TheVariants.{NoAccount}
 use Rattle.ledger.proofs.Both.{apart_of, held_on, lacks_of, no_needs}
 use Rattle.ledger.proofs.moving.transfer.Goals as goal
 

@@ -1,4 +1,4 @@
-use Rattle.std.proofs.Common.{◌≡◌, sym, subst}
+use Rattle.std.proofs.Common.{sym, subst}
 use Rattle.std.proofs.lemmas.Result.{IfOk-weaker}
 use Rattle.guards.specs.Schema.{Declarations}
 use Rattle.thread_work.proofs.Refused.{anyway, weaker_both}
