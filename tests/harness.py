@@ -1,7 +1,7 @@
 """What the cases share: the built programs and runs of them, a folder with an image, kills, refusals, and what is counted.
 
-A case tries more often where TRIES says so, and for longer where SECONDS does. HEAPCTL and BENCH name other programs to try, and
-TMPDIR the folder whose disk the images lie on. A case that can't run here is skipped and says why.
+A case tries more often where TRIES says so. HEAPCTL names another program to try, and TMPDIR the folder whose disk the images lie on. A
+case that can't run here is skipped and says why.
 """
 import collections
 import contextlib
@@ -20,7 +20,6 @@ from pathlib import Path
 sys.dont_write_bytecode = True
 TOP = Path(__file__).resolve().parent.parent
 HEAPCTL = os.environ.get("HEAPCTL", f"{TOP}/crates/heapctl/out/heapctl")
-BENCH = os.environ.get("BENCH", f"{TOP}/out/measure/bench/crates/bench/out/bench")
 # "root" or "user" in a namespace of mounts of its own, which tools/tests makes.
 ALONE = os.environ.get("TESTS_ALONE")
 SEED = int(os.environ.get("SEED", random.randrange(2**32)))
@@ -49,7 +48,6 @@ IN_USE = 3
 COUNTS = collections.defaultdict(collections.Counter)
 
 needs_heapctl = unittest.skipUnless(os.path.exists(HEAPCTL), "no crates/heapctl/out/heapctl (`rt ci` or `rt run` makes it)")
-needs_bench = unittest.skipUnless(os.path.exists(BENCH), "no bench (`tools/measure bench` makes it)")
 NO_MOUNTS = "no namespace of mounts (tools/tests makes one, where `unshare` may)"
 needs_mounts = unittest.skipUnless(ALONE, NO_MOUNTS)
 needs_root = unittest.skipUnless(ALONE == "root", "no root in a namespace of mounts (tools/tests makes one)")
@@ -59,10 +57,6 @@ needs_cc = unittest.skipUnless(shutil.which("cc"), "no cc")
 def tries(some):
     """How often a case tries, `some` where TRIES says nothing."""
     return int(os.environ.get("TRIES", some))
-
-
-def seconds(some):
-    return float(os.environ.get("SECONDS", some))
 
 
 Ran = collections.namedtuple("Ran", "status out told")

@@ -1,6 +1,6 @@
 """Words with standard streams closed. Descriptor 1 of a program that was started without one is the next file that it opens: what it
 prints must not go there. So each word of `heapctl` ends before it opens anything, by a fault, and leaves every byte (docs/SCRIPTS.md, "The
-program's fault texts"). `bench tell` makes its image as with all streams open, or leaves none.
+program's fault texts").
 
 Each case is tried TRIES times with each of the seven combinations of descriptors 0, 1 and 2 closed, on an image that a killed run of
 workers has left.
@@ -8,7 +8,7 @@ workers has left.
 import itertools
 from collections import namedtuple
 
-from .harness import BENCH, InFolder, WORKERS, bytes_of, each, made_old, needs_bench, tries
+from .harness import InFolder, WORKERS, bytes_of, each, made_old, tries
 
 SCRIPT = "format 2 4000\nt1 enter o0\nt1 store f0 1\nt1 exit o0\nlog\nhome\nsettle\nheap\n"
 OVER = "t1 enter o0\nt1 store f0 1\nt1 exit o0\nlog\nhome\nsettle\nt2 enter o1\nt2 store f1 2\nlog\nheap\n"
@@ -41,45 +41,21 @@ CASES = {
 }
 
 
-class Closing(InFolder):
-    def setUp(self):
-        super().setUp()
+@each(CASES)
+class ClosedStreams(InFolder):
+    def check(self, name, case):
         (self.folder / "workers").write_text(WORKERS)
-
-    def tried(self, case, before, fault_of, **how):
-        whole = None
+        before, _ = self.left_by_a_kill() if case.is_there else (None, None)
+        before = made_old(before) if name == "upgrade-old" else before
         for closed in ((), *CLOSED):
             for _ in range(tries(2) if closed else 1):
                 self.put(before)
-                ran = self.play(case.words, case.stdin, closed=closed, **how)
-                after = bytes_of(self.image)
+                ran = self.play(case.words, case.stdin, closed=closed)
                 if not closed:
                     self.assertEqual(ran.status, 0, ran)
-                    whole = after
                     continue
                 self.count(runs=1)
-                self.fault(fault_of(ran, before, after, whole), closed=closed)
-
-
-@each(CASES)
-class ClosedStreams(Closing):
-    def check(self, name, case):
-        before, _ = self.left_by_a_kill() if case.is_there else (None, None)
-
-        def fault_of(ran, before, after, whole):
-            if after != before:
-                return f"{ran}, and the image was changed"
-            # What it tells goes to standard error, where that is open.
-            is_so = ran.status == 1 and ran.out == "" and ran.told.splitlines()[:1] in ([], ["heapctl: fault"])
-            return None if is_so else f"not refused: {ran}"
-
-        self.tried(case, made_old(before) if name == "upgrade-old" else before, fault_of)
-
-
-@needs_bench
-class ClosedStreamsOfBench(Closing):
-    def test_bench_tell(self):
-        def fault_of(ran, before, after, whole):
-            return None if ran.status == 0 and after == whole or (ran.status or 0) > 0 and after == before else ran
-
-        self.tried(Case("tell 2000 100 {image}"), None, fault_of, program=BENCH)
+                # What it tells goes to standard error, where that is open.
+                is_so = ran.status == 1 and ran.out == "" and ran.told.splitlines()[:1] in ([], ["heapctl: fault"])
+                wrong = f"{ran}, and the image was changed" if bytes_of(self.image) != before else None if is_so else f"not refused: {ran}"
+                self.fault(wrong, closed=closed)

@@ -5,9 +5,6 @@ own count has grown by just the sections that are told as kept: or by all its ro
 each second kill `heapctl recover` tells the same cut and gives the same heap; after the others the next workers recover the image. Each
 tenth kill a new image is begun, so that making it is killed too. A file that no run has made an image of yet may be refused.
 
-A store that trims (`bench tell`) tells how many sections are acknowledged. Recovery succeeds once a section was told, gives each section
-whole, and has all sections that were told, and at most one group more; `heapctl` shows the image and recovers the same heap.
-
 Makers (`format`, `drive`, `run --image`, `set`), killed within the time that they take: the old image stands with each byte, or
 the new one.
 """
@@ -15,7 +12,7 @@ import random
 import signal
 import time
 
-from .harness import BENCH, InFolder, OVER, bytes_of, each, heap_of, kill, lines_by_word, needs_bench, run, seconds, start, tries
+from .harness import InFolder, OVER, bytes_of, each, heap_of, kill, lines_by_word, run, start, tries
 
 ROUNDS = 2000
 
@@ -77,38 +74,6 @@ class Workers(InFolder):
             if (recovered.get("kept"), recovered.get("heap")) != (cut, heap):
                 return f"shown as {cut}, {heap}, and recovered as {recovered}"
         return None
-
-
-@needs_bench
-class Store(InFolder):
-    def test_a_store_that_trims(self):
-        end_of_all, told, early = time.monotonic() + seconds(5), 0, 0
-        while time.monotonic() < end_of_all:
-            self.put(None)
-            group = random.choice([1, 3, 50, 400, 1000])
-            # Later where the program hadn't come so far.
-            killed = kill(start(["tell", 10**9, group, self.image], program=BENCH), random.uniform(0.001, 0.15) * 2 ** min(early, 6))
-            self.assertEqual(killed.status, -signal.SIGKILL, "it has ended by itself")
-            lines = killed.out.split("\n")[:-1]
-            last = int(lines[-1].split()[1]) if lines else None
-            told, early = told + (last or 0), early + 1 if last is None else 0
-            self.count(kills_of_a_store=1, before_a_section_was_told=last is None, sections_told=last or 0)
-            self.fault(self.image.exists() and self.fault_of(last, group), group=group)
-        self.assertGreater(told, 0, "no section was told, so nothing was tested")
-
-    def fault_of(self, last, group):
-        """What is wrong with the image that a kill left, or None."""
-        copy = self.folder / "copy"
-        copy.write_bytes(self.image.read_bytes())
-        ran, told = run(["recover", self.image], program=BENCH), last or 0
-        if ran.status != 0:
-            return None if last is None else f"not recovered, though {last} sections were told"
-        heap = [int(line) for line in ran.out.split()]
-        if sum(heap[:-1]) != heap[-1]:
-            return f"torn: {heap}"
-        if not told <= heap[-1] <= told + group:
-            return f"{told} sections were told, and {heap[-1]} were kept"
-        return None if heap_of(copy) is not None and heap_of(copy, "recover") == heap else f"heapctl differs from {heap}"
 
 
 # Words, whether there is an image before, and the heap of the new one.
