@@ -65,7 +65,11 @@ fn each_file_has_its_own_heap(rt: HostRuntime) {
 }
 
 // Whether threads on one file leave another one, and a file beside theirs, as they were.
-fn leaves_others(rt: &HostRuntime) -> Option<bool> {
+fn leaves_others<F, R>(rt: &R) -> Option<bool>
+where
+    F: BackingFile + OpenFile + Read + Drop,
+    R: Files<File = F> + AllocGlobal + Threads + Wait + Sync,
+{
     turn_left(rt, "other.heap")?;
     fs::write(rt, "own.heap~", b"kept").ok()?;
     let before = fs::read(rt, "other.heap").ok()?;
@@ -75,7 +79,9 @@ fn leaves_others(rt: &HostRuntime) -> Option<bool> {
     drop(other);
     drop(before);
     let kept = fs::read(rt, "own.heap~").ok()?;
-    Some(stays && left == Some(2) && kept.as_slice() == b"kept")
+    let keeps = kept.as_slice() == b"kept".as_slice();
+    drop(kept);
+    Some(stays && left == Some(2) && keeps)
 }
 
 #[test]
