@@ -123,7 +123,7 @@ fn run<D: Disk + Drop, W: Work + Sync, R: Threads + Wait + Sync>(
     requires running { heap.helper.store.known.has_failed ≡ false }
     ensures ok { IfOk result (HaveReturned (W.does work.now) D.device heap.shared heap.helper) }
     ensures cause { IfErr result (λ back. StopsBy (D.device heap.helper.store.disk) (D.device back.0) back.1) }
-    ensures crashes { IfErr result (CrashesBack (W.does work.now) D.device heap.shared heap.helper) }
+    ensures crashes { IfErr result (CrashesBack D.device (W.does work.now) heap.shared heap.helper) }
 {
     joined_law();
     round_law::<D>();
@@ -201,7 +201,7 @@ pub fn close_returned<D: Disk, W: Work>(
     ensures cause { IfErr result (λ back. StopsEnd (D.device returned.helper.store.disk) (D.device back.0) back.1) }
     // Where a closing after threads is refused, recovery accepts whatever a crash left since the heap was opened, and no
     // crash takes back what a thread had read as stable.
-    ensures crashes { IfErr result (CrashesBack (W.does work.now) D.device returned.shared returned.helper) }
+    ensures crashes { IfErr result (CrashesBack D.device (W.does work.now) returned.shared returned.helper) }
 {
     round_law::<D>();
     let Returned {
@@ -243,7 +243,7 @@ fn close_all<D: Disk, W: Work>(
     ensures ok { IfOk result (λ r. EndsRun (W.does work.now) D.device shared helper r.0 r.1) }
     ensures answer { IfOk result (λ r. r.1.answer ≡ answer) }
     ensures cause { IfErr result (λ back. StopsEnd (D.device helper.store.disk) (D.device back.0) back.1) }
-    ensures crashes { IfErr result (CrashesBack (W.does work.now) D.device shared helper) }
+    ensures crashes { IfErr result (CrashesBack D.device (W.does work.now) shared helper) }
 {
     two_syncs_law();
     crash_law::<D>();
