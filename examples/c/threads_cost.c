@@ -9,8 +9,13 @@
  *
  *     threads_cost FILE handles | threads | reverts GROUPS SECTIONS
  * lets one thread work, in so many groups of so many sections, that are made durable one after the other: by the bare handles the same
- * thread makes the round and its calls; with `reverts` the heap keeps what each section changes (zelamiku_thread_revert). Under valgrind --tool=callgrind --toggle-collect='by_handles*', or 'by_threads*', it counts the
- * instructions of the sections alone. */
+ * thread makes the round and its calls; with `reverts` the heap keeps what each section changes (zelamiku_thread_revert). Under
+ * valgrind --tool=callgrind --toggle-collect='by_handles*', or 'by_threads*', it counts the instructions of the sections alone, and with
+ * zelamiku_round those of the rounds. After `handles` a third number says how many lanes the heap has for threads (1): all but one are idle.
+ *
+ *     threads_cost FILE own THREADS SECONDS DISTANCE
+ * lets so many threads work for so long, of which none waits. Each has two monitors of its own, and all these lie so many numbers apart (1 to
+ * 32), as their fields do. */
 #define _GNU_SOURCE
 #include <fcntl.h>
 #include <pthread.h>
@@ -23,11 +28,13 @@
 #include <unistd.h>
 #include "zelamiku_core.h"
 
-enum { MOST = 32, SHARED = 0, OBJECTS = 2 * MOST + 1, MOST_WAITS = 1 << 20 };
+enum { MOST = 32, SHARED = 0, OBJECTS = 2 * MOST + 1, MOST_APART = 32, MOST_OBJECTS = 2 * MOST * MOST_APART, MOST_WAITS = 1 << 20 };
 
 static zelamiku_heap heap;
 static atomic_bool stopping;
-static uint64_t group = 1; /* sections, after which a thread waits; 0: none does */
+static uint64_t group = 1;   /* sections, after which a thread waits; 0: none does */
+static uint32_t distance;    /* of the monitors, where each thread has its own; 0: they have one in common */
+static uint32_t objects = OBJECTS;
 static bool is_one, is_apart, reverts;
 static double waited[MOST_WAITS]; /* microseconds, of the one that waits */
 static unsigned waits;
@@ -85,13 +92,17 @@ static void await(zelamiku_thread own) {
 }
 
 static void *work(void *data) {
-    uint32_t object = *(uint32_t *)data;
+    uint32_t object = *(uint32_t *)data, other = is_apart ? object + MOST : SHARED;
     uint64_t own_group = is_one ? object == 1 : group;
+    if (distance > 0) {
+        object = 2 * (object - 1) * distance;
+        other = object + distance;
+    }
     zelamiku_thread own;
     must(zelamiku_thread_begin(&own, heap), "begin");
     uint64_t count = 0;
     while (!atomic_load(&stopping)) {
-        by_threads(own, object, is_apart ? object + MOST : SHARED);
+        by_threads(own, object, other);
         if (++count % (own_group > 0 ? own_group : UINT64_MAX) == 0) await(own);
     }
     must(zelamiku_thread_end(own), "end");
@@ -108,13 +119,14 @@ static double processor_time(void) {
     return 1e6 * (double)(used.ru_utime.tv_sec + used.ru_stime.tv_sec) + (double)(used.ru_utime.tv_usec + used.ru_stime.tv_usec);
 }
 
-static zelamiku_field fields[OBJECTS];
+static zelamiku_field fields[MOST_OBJECTS];
 
-/* A new file at the path, for the bare handles. */
-static int make_file(zelamiku_handle *handle, const char *path) {
+/* A new file at the path, for the bare handles, with the helper's lane where there is one left. */
+static int make_file(zelamiku_handle *handle, const char *path, uint32_t threads) {
     uint64_t size = 0;
+    uint32_t lanes = threads < MOST ? threads + 1 : threads;
     int file = open(path, O_RDWR | O_CREAT | O_TRUNC | O_CLOEXEC, 0644);
-    must(zelamiku_format(handle, OBJECTS, fields, OBJECTS, 2, ZELAMIKU_DEFAULT_RING, 1, ZELAMIKU_DEFAULT_RING, &size), path);
+    must(zelamiku_format(handle, OBJECTS, fields, OBJECTS, lanes, ZELAMIKU_DEFAULT_RING, threads, ZELAMIKU_DEFAULT_RING, &size), path);
     if (file >= 0 && ftruncate(file, (off_t)size) == 0 && fsync(file) == 0) return file;
     perror(path);
     exit(2);
@@ -122,15 +134,15 @@ static int make_file(zelamiku_handle *handle, const char *path) {
 
 /* A heap of so many lanes in a file that is replaced. */
 static void make(const char *path, uint32_t lanes, uint32_t linger) {
-    zelamiku_plan plan = {.fields = fields, .count = OBJECTS, .objects = OBJECTS, .lanes = lanes, .linger = linger,
+    zelamiku_plan plan = {.fields = fields, .count = objects, .objects = objects, .lanes = lanes, .linger = linger,
                           .reverts = reverts};
     (void)unlink(path);
     must(zelamiku_heap_open(&heap, path, &plan, NULL), path);
 }
 
-static int groups_by_handles(const char *path, unsigned groups, unsigned sections) {
+static int groups_by_handles(const char *path, unsigned groups, unsigned sections, uint32_t threads) {
     zelamiku_handle handle = ZELAMIKU_NONE, session = ZELAMIKU_NONE;
-    int file = make_file(&handle, path);
+    int file = make_file(&handle, path, threads);
     uint64_t count = 0;
     must(zelamiku_make_calls(&handle, file, &count), "calls");
     must(zelamiku_session(&handle, &session), "session");
@@ -172,13 +184,14 @@ static void tell_waits(void) {
 }
 
 static int rate(const char *path, int threads, int seconds) {
-    uint32_t objects[MOST + 1];
-    for (uint32_t i = 0; i <= MOST; i++) objects[i] = i;
+    uint32_t numbers[MOST + 1];
+    if (threads < 1 || threads > MOST || seconds < 1) return 2;
+    for (uint32_t i = 0; i <= MOST; i++) numbers[i] = i;
     make(path, (uint32_t)threads, 0);
     pthread_t workers[MOST];
     double before = processor_time();
     for (int i = 0; i < threads; i++)
-        if (pthread_create(&workers[i], NULL, work, &objects[i + 1]) != 0) return 2;
+        if (pthread_create(&workers[i], NULL, work, &numbers[i + 1]) != 0) return 2;
     sleep((unsigned)seconds);
     atomic_store(&stopping, true);
     uint64_t sections = 0;
@@ -199,21 +212,29 @@ static int rate(const char *path, int threads, int seconds) {
 }
 
 int main(int count, char **words) {
-    if (count < 2) {
-        fprintf(stderr, "threads_cost FILE [THREADS [SECONDS [SECTIONS | none | one | apart]]], or "
-                        "threads_cost FILE handles | threads | reverts GROUPS SECTIONS\n");
+    const char *kind = count > 2 ? words[2] : "";
+    bool by_handles = strcmp(kind, "handles") == 0, is_own = strcmp(kind, "own") == 0;
+    reverts = strcmp(kind, "reverts") == 0;
+    for (uint32_t i = 0; i < MOST_OBJECTS; i++) fields[i] = (zelamiku_field){.owner = i, .guard = i};
+    if ((by_handles && (count == 5 || count == 6)) || (count == 5 && (reverts || strcmp(kind, "threads") == 0))) {
+        unsigned groups = (unsigned)atoi(words[3]), sections = (unsigned)atoi(words[4]), lanes = count > 5 ? (unsigned)atoi(words[5]) : 1;
+        if (lanes < 1 || lanes > MOST) return 2;
+        return by_handles ? groups_by_handles(words[1], groups, sections, lanes) : groups_by_threads(words[1], groups, sections);
+    }
+    if (count == 6 && is_own) {
+        distance = (uint32_t)atoi(words[5]);
+        if (distance < 1 || distance > MOST_APART) return 2;
+        group = 0;
+        objects = MOST_OBJECTS;
+        return rate(words[1], atoi(words[3]), atoi(words[4]));
+    }
+    if (count < 2 || count > 5 || is_own || by_handles) {
+        fprintf(stderr, "threads_cost FILE [THREADS [SECONDS [SECTIONS | none | one | apart]]],\n"
+                        "threads_cost FILE handles | threads | reverts GROUPS SECTIONS [LANES], or threads_cost FILE own THREADS SECONDS DISTANCE\n");
         return 2;
     }
-    for (uint32_t i = 0; i < OBJECTS; i++) fields[i] = (zelamiku_field){.owner = i, .guard = i};
     if (count > 4) group = (uint64_t)atoll(words[4]);
     is_apart = count > 4 && strcmp(words[4], "apart") == 0;
     is_one = is_apart || (count > 4 && strcmp(words[4], "one") == 0);
-    reverts = count == 5 && strcmp(words[2], "reverts") == 0;
-    if (count == 5 && (reverts || strcmp(words[2], "handles") == 0 || strcmp(words[2], "threads") == 0)) {
-        unsigned groups = (unsigned)atoi(words[3]), sections = (unsigned)atoi(words[4]);
-        return strcmp(words[2], "handles") == 0 ? groups_by_handles(words[1], groups, sections) : groups_by_threads(words[1], groups, sections);
-    }
-    int threads = count > 2 ? atoi(words[2]) : MOST, seconds = count > 3 ? atoi(words[3]) : 2;
-    if (threads < 1 || threads > MOST || seconds < 1) return 2;
-    return rate(words[1], threads, seconds);
+    return rate(words[1], count > 2 ? atoi(words[2]) : MOST, count > 3 ? atoi(words[3]) : 2);
 }
