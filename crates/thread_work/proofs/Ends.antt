@@ -114,7 +114,7 @@ module _ {D : Type 0} (device : D → Device) where
   -- for want of memory, whatever the last round answered
   pub back_served : {A : Type 0} (does : Home → Session → Session → Answer → Type 0) (h : Home) (x y : Parts D) (disk : D) (answer : Result A StoreError) → CrashBetweenLaw device → HasServed device h x y answer → disk ≡ y.store.disk
       → CrashesBy device does h x (device disk) NoMemory
-  back_served does h x y disk (Ok a) law served is = back_before does h x y (device disk) NoMemory served.stayed served.lives (back_wanting does h y disk law is)
+  back_served does h x y disk (Ok a) law served is opened p was = back_before does h x y (device disk) NoMemory served.stayed served.lives (back_wanting does h y disk law is) opened p was
   back_served does h x y disk (Err e) law served is opened p was =
       inl (subst (λ (d : Device). KeepsSome h x.store.known.layout opened d) (sym (ap device is))
       (subst (λ (l : Layout). KeepsSome h l opened (device y.store.disk)) served.stayed.layout (record { seen = y.seat.view.history; each = served.crashes opened p was })))

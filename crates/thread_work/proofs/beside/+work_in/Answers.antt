@@ -33,5 +33,5 @@ returns-in-Ok-work_in-clause-beside g t c =
           (subst (λ (s : Session). HasWorked (g.W.Work.does c.args.work.now) c.args.shared.now s c.join.result) c.of.ensures
           (subst (λ p. HasWorked (g.W.Work.does p.work.now) p.shared.now p.first.value c.join.result) c.in-Ok.ensures.ok c.join.ensures))
           c.and_joined.ensures.worked;
-      served = subst (λ s. HasServed g.D.Disk.device c.args.shared.now c.args.helper s.helper s.answer) (sym c.and_joined.ensures.served) before.served;
+      served = subst (λ s. HasServed g.D.Disk.device c.args.shared.now c.args.helper s.helper s.answer) {x = c.in-Ok-work_in.beside.served} (sym c.and_joined.ensures.served) before.served;
     }

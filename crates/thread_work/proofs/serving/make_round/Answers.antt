@@ -1,5 +1,9 @@
+use Rattle.heap_model.specs.Past.{Past}
+use Rattle.heap_model.specs.Setting.{Setting}
 use Rattle.thread_steps.specs.Views.{plan}
+use Rattle.trim_helper.specs.Calls.{Rounds}
 use Rattle.trim_helper.specs.Heard.{HasSeen}
+use Rattle.trim_helper.specs.Parts.{IsServing}
 use Rattle.thread_heap.specs.Joined.{IsHelping}
 use Rattle.thread_work.specs.Serving.{CrashesSince, LivesOn}
 use Rattle.thread_work.proofs.Served.{crashes_since, lives_on, on_err, on_ok, runs_on}
@@ -14,7 +18,7 @@ returns g c =
     let y = c.round.new.self in
     let was = c.requires.helping in
     let on = c.round.ensures.goes_on in
-    let works = λ s p serving. (c.round.ensures.rounds s p serving).works in
+    let works : (s : Setting) (p : Past) → IsServing device x s p → Rounds device s p x y c.round.result = λ s p serving. (c.round.ensures.rounds s p serving).works in
     let round = works (plan h) was.past was.serving in
     let seen : HasSeen h y = c.round.ensures.seen c.requires.running in
     let helping : IsHelping device h y = c.helping_law.ensures.round h was.past x y c.round.result was on round in
