@@ -122,15 +122,29 @@ static void add_turn(program *it, uint32_t thread, theme of) {
     }
 }
 
-/* Each thread sends so much that a round for one of them leaves some of it, and that no round comes for a full ring. */
+static void add_full_sections(program *it, uint32_t thread, uint64_t sections) {
+    for (; sections > 0; sections--) {
+        add(it, thread, ENTER, thread % OBJECTS, 0);
+        add(it, thread, FILL, thread % OBJECTS, 950 + below(40));
+        add(it, thread, EXIT, thread % OBJECTS, 0);
+    }
+}
+
+/* Each thread sends so much that a round for one of them leaves some of it, and that no round comes for a full ring. Or two do, and one that
+ * waits for a single section, and so makes that round itself. */
 static void add_leftovers(program *it) {
     it->linger = 5000;
+    if (one_in(2)) {
+        it->threads = it->lanes = 3;
+        it->ring = it->capacity = 16384;
+        add_full_sections(it, 0, 7);
+        add_full_sections(it, 1, 7);
+        add_full_sections(it, 2, 1);
+        add(it, 2, NAP, 0, 400000 + below(400000)); /* until the others have ended, and before the helper looks */
+        return add(it, 2, AWAIT, 0, 0);
+    }
     for (uint32_t thread = 0; thread < it->threads; thread++) {
-        for (uint64_t sections = 4 + below(2); sections > 0; sections--) {
-            add(it, thread, ENTER, thread % OBJECTS, 0);
-            add(it, thread, FILL, thread % OBJECTS, 950 + below(40));
-            add(it, thread, EXIT, thread % OBJECTS, 0);
-        }
+        add_full_sections(it, thread, 4 + below(2));
         if (!one_in(4)) add(it, thread, one_in(2) ? AWAIT_SOME : AWAIT_UNTIL, 0, some_time());
         if (one_in(2)) add(it, thread, one_in(2) ? AWAIT_ROUND : AWAIT, 0, 20000000);
     }

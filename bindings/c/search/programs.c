@@ -32,6 +32,7 @@ static uint32_t copying[COPIES_OF], copies_begun[COPIES_OF], opening, opens_begu
 static bool is_opened_again; /* the file: what is in it is another opening's */
 uint64_t programs_crashes, programs_stuck;
 extern long searched_processors;
+extern bool searched_is_bounded;
 
 /* ---- ends of heaps ---- */
 
@@ -482,11 +483,14 @@ static bool is_stuck(void) {
     return true;
 }
 
-/* The helper of a heap sleeps until a time, and nobody can go on before: no thread waits that a ring would have helped. */
+/* The helper of a heap sleeps until a time, and nobody can go on before: no thread waits that a ring would have helped, nor
+ * what a round has left. */
 static void time_goes_on(uint64_t nanoseconds) {
     for (uint32_t heap = 0; heap < current->heaps; heap++) {
         bool is_soon = nanoseconds < 150000, has_rounds = is_soon || devices[heap].in_call > 0 || judges[heap].has_trouble;
         judge_sleepers(&judges[heap], has_rounds);
+        if (current->heaps == 1 && searched_is_bounded && !has_rounds && judges[heap].ends == 0)
+            search_fail("a round has reached its bound, and the next one doesn't come at once");
     }
 }
 
@@ -546,7 +550,7 @@ void program_run(program *it, const search_schedule *schedule) {
     memset(workers, 0, sizeof workers);
     next_value = 100;
     left = it->threads;
-    is_stopping = is_forking = is_opened_again = false;
+    is_stopping = is_forking = is_opened_again = searched_is_bounded = false;
     for (uint32_t i = 0; i < MOST_THREADS * HEAPS; i++) workers[i / HEAPS].event[i % HEAPS] = -1;
     memset(copying, 0, sizeof copying);
     opening = 0;

@@ -58,6 +58,8 @@ STEP(zelamiku_session, &leads, true, (zelamiku_handle *heap, zelamiku_handle *se
 STEP(zelamiku_end, &leads, true, (zelamiku_handle *session), (session))
 STEP(zelamiku_close, &leads, true, (zelamiku_handle *heap), (heap))
 
+bool searched_is_bounded; /* the last round has taken as much as it might */
+
 /* A round takes some time for each record, by which the scheduler's C bounds the next one. */
 zelamiku_status __real_zelamiku_round(zelamiku_handle *heap, uint64_t most, uint64_t *applied);
 zelamiku_status __wrap_zelamiku_round(zelamiku_handle *heap, uint64_t most, uint64_t *applied);
@@ -66,6 +68,7 @@ zelamiku_status __wrap_zelamiku_round(zelamiku_handle *heap, uint64_t most, uint
     search_touch(&rings, true);
     search_touch(&leads, true);
     zelamiku_status status = __real_zelamiku_round(heap, most, applied);
+    searched_is_bounded = *applied == most;
     search_pass(*applied * (search_chance() % 100));
     search_step();
     return status;
