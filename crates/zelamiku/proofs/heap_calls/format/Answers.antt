@@ -4,8 +4,8 @@ use Rattle.image_parts.specs.declared.guard_row.GuardRow.{GuardRow}
 use Rattle.zelamiku.specs.HeapDoors.{NotMade, rows_of}
 use Rattle.zelamiku.proofs.heap_calls.format.Goals as goal
 
-pub returns-in-Err : goal.returns-in-Err
-returns-in-Err c =
+pub returns : goal.returns
+returns c =
     let lanes = c.in-Ok.ensures in
     let why = c.in-Err.refusal in
     let low : c.args.lanes ≤ 255 = omega (arith, lanes.0) in
