@@ -1,6 +1,6 @@
 -- The disk of an image file of either kind, as clauses see it (this project's own).
 use Rattle.std.specs.Int.{div_ceil}
-use Rattle.std.specs.Prelude.{ℕ, Option, None, Some}
+use Rattle.std.specs.Prelude.{ℕ, List, Option, None, Some, replicate}
 use Rattle.block_disk.specs.Device.{Device}
 use Rattle.disk_file.specs.Backing.{ReadsForGood}
 use Rattle.disk_sectors.specs.declared.size.SectorSize.{SectorSize}
@@ -31,3 +31,7 @@ sectors_for size len = div_ceil len (bytes_in size)
 abbrev pub room_for : Option SectorSize → ℕ → ℕ
 room_for None len = len
 room_for (Some size) len = place_of size (sectors_for size len)
+
+-- the bytes of a disk of zeros that is made for so many
+abbrev pub zeros_for : Option SectorSize → ℕ → List ℕ
+zeros_for sectors len = replicate (room_for sectors len) 0

@@ -1,11 +1,11 @@
 //! The sectors of a file.
 ghost use Rattle.std.specs.Prelude.{◌≡◌, ◌+◌, ◌^◌, ◌<◌, ◌≤◌, length, option_map, IfOk, IfSome, IsErrOf, OnErr, OnOk};
-ghost use Rattle.block_disk.specs.Device.{SameMoments, synced, written};
-ghost use Rattle.block_disk.specs.Since.{IsSameOrTorn};
-ghost use Rattle.disk_file.specs.Backing.{ReadsForGood, TornFile, Unsettled, put_at, settled};
-ghost use Rattle.disk_sectors.specs.Readable.{IsLost};
+ghost use Rattle.block_disk.specs.Device.{SameMoments, synced};
+ghost use Rattle.disk_file.specs.Backing.{ReadsForGood, Unsettled, settled};
 ghost use Rattle.disk_sectors.specs.Size.{bytes_in, place_of, sector};
 ghost use Rattle.disk_sectors.specs.declared.error.SectorError.TheVariants.{Unreadable};
+ghost use Rattle.disk_sector_file.specs.FileSectors.{PutsInFile, PutsOnDevice, TearsInFile, TearsOnDevice};
+ghost use Rattle.disk_sectors.specs.Access.{HasSector, Loses};
 
 use block_disk::{Fault, Trace, copy_out};
 use disk_file::{BackingFile, Claim, fill};
@@ -206,11 +206,9 @@ impl<F: BackingFile + Drop> Sectors for FileSectors<F> {
     /// Reads what was read as the file was opened, and leaves the file alone.
     fn read_sector(&mut self, number: u64, out: &mut [u8]) -> Result<(), SectorError>
         requires whole { length out.old ≡ bytes_in self.old.size }
-        requires fits { place_of self.old.size number + bytes_in self.old.size ≤ length
-            self.old.device.now.bytes }
+        requires fits { HasSector self.old.size number self.old.device }
         ensures ok { OnOk result (out.new ≡ sector self.old.size number self.old.device.now.bytes) }
-        ensures unreadable { IsErrOf result Unreadable
-            → IsLost (sector self.old.size number self.old.device.now.bytes) }
+        ensures unreadable { IsErrOf result Unreadable → Loses self.old.size number self.old.device }
         ensures same { SameMoments self.old.device self.new.device }
         ensures size { self.new.size ≡ self.old.size }
         // Reading a sector leaves the file as it is.
@@ -231,20 +229,14 @@ impl<F: BackingFile + Drop> Sectors for FileSectors<F> {
     /// Writes the file there, and no more of it.
     fn write_sector(&mut self, number: u64, bytes: &[u8]) -> Result<(), Fault>
         requires whole { length bytes.now ≡ bytes_in self.old.size }
-        requires fits { place_of self.old.size number + bytes_in self.old.size ≤ length
-            self.old.device.now.bytes }
-        ensures ok { OnOk result (self.new.device
-            ≡ written (place_of self.old.size number) bytes.now self.old.device) }
-        ensures fault { OnErr result
-            (IsSameOrTorn (place_of self.old.size number)
-            (length bytes.now) self.old.device self.new.device) }
+        requires fits { HasSector self.old.size number self.old.device }
+        ensures ok { OnOk result (PutsOnDevice number bytes.now self.old self.new) }
+        ensures fault { OnErr result (TearsOnDevice number bytes.now self.old self.new) }
         ensures size { self.new.size ≡ self.old.size }
         // A sector that is written is written in the file, and nothing else is.
-        ensures file { OnOk result (self.new.file
-            ≡ option_map (put_at (place_of self.old.size number) bytes.now) self.old.file) }
+        ensures file { OnOk result (PutsInFile number bytes.now self.old self.new) }
         // A failed write of a sector changes no byte of the file outside the sector.
-        ensures torn { OnErr result (TornFile (place_of self.old.size number)
-            (length bytes.now) self.old.file self.new.file) }
+        ensures torn { OnErr result (TearsInFile number bytes.now self.old self.new) }
     {
         let at = number * self.size.bytes() as u64;
         let answer = self.file.write_to(at, bytes);

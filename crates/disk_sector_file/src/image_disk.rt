@@ -1,8 +1,8 @@
 //! The disk of an image file of either kind.
-ghost use Rattle.std.specs.Prelude.{◌≡◌, IfOk, replicate};
+ghost use Rattle.std.specs.Prelude.{◌≡◌, IfOk};
 ghost use Rattle.block_disk.specs.Device.{new_device};
-ghost use Rattle.disk_sectors.specs.Size.{place_of};
-ghost use Rattle.disk_sector_file.specs.ImageDisks.{IsKeptAsFound, device_on, room_for, sectors_for, sectors_on};
+ghost use Rattle.disk_sector_file.specs.ImageDisks.{IsKeptAsFound, device_on, sectors_for, sectors_on, zeros_for};
+ghost use Rattle.disk_sectors.specs.Size.{zeros_in};
 
 use crate::file_sectors::FileSectors;
 use crate::labels::label_of;
@@ -56,7 +56,7 @@ impl<F: BackingFile + Drop> ImageDisk<F> {
         sectors: Option<SectorSize>,
         len: u64,
     ) -> Result<ImageDisk<F>, PlacesError>
-        ensures ok { IfOk result (λ disk. device_on disk ≡ new_device (replicate (room_for sectors len) 0)) }
+        ensures ok { IfOk result (λ disk. device_on disk ≡ new_device (zeros_for sectors len)) }
         ensures lies { IfOk result (λ disk. sectors_on disk ≡ sectors) }
     {
         match sectors {
@@ -109,7 +109,7 @@ fn make_places<F: BackingFile + Drop>(
     size: SectorSize,
     len: u64,
 ) -> Result<TwoPlaces<FileSectors<F>>, PlacesError>
-    ensures ok { IfOk result (λ disk. disk.device ≡ new_device (replicate (place_of size (sectors_for size len)) 0)) }
+    ensures ok { IfOk result (λ disk. disk.device ≡ new_device (zeros_in size (sectors_for size len))) }
     ensures size { IfOk result (λ disk. disk.size ≡ size) }
 {
     let count = sectors_in(size, len);

@@ -1,5 +1,5 @@
 -- How many bytes a sector has, and where the sectors of a device lie (this project's own).
-use Rattle.std.specs.Prelude.{ℕ, ◌*◌, List}
+use Rattle.std.specs.Prelude.{ℕ, ◌*◌, List, replicate}
 use Rattle.block_disk.specs.Bytes.{part}
 use Rattle.disk_sectors.specs.declared.size.SectorSize.{SectorSize}
 use Rattle.disk_sectors.specs.declared.size.SectorSize.TheVariants.{Bytes512, Bytes4096}
@@ -16,3 +16,7 @@ place_of size number = number * bytes_in size
 -- what a sector holds
 abbrev pub sector : SectorSize → ℕ → List ℕ → List ℕ
 sector size number image = part (place_of size number) (bytes_in size) image
+
+-- the bytes of so many sectors of zeros
+abbrev pub zeros_in : SectorSize → (count : ℕ) → List ℕ
+zeros_in size count = replicate (place_of size count) 0

@@ -1,12 +1,11 @@
 //! Calls of a device of sectors, by what a crash at any moment of them leaves.
-ghost use Rattle.std.specs.Prelude.{◌≡◌, ◌+◌, ◌≤◌, [], ◌∷◌, length, IsErrOf, OnErr, OnOk};
-ghost use Rattle.block_disk.specs.Device.{SameMoments, synced, written};
+ghost use Rattle.std.specs.Prelude.{◌≡◌, [], length, IsErrOf, OnErr, OnOk};
+ghost use Rattle.block_disk.specs.Device.{SameMoments, synced};
 ghost use Rattle.block_disk.specs.Since.{LeavesBut};
-ghost use Rattle.disk_sectors.specs.Frames.{ReadsOnly, WritesOnly};
-ghost use Rattle.disk_sectors.specs.Places.{one_sector};
-ghost use Rattle.disk_sectors.specs.Readable.{IsLost};
-ghost use Rattle.disk_sectors.specs.Size.{bytes_in, place_of, sector};
+ghost use Rattle.disk_sectors.specs.Size.{bytes_in, sector};
 ghost use Rattle.disk_sectors.specs.declared.error.SectorError.TheVariants.{Unreadable};
+ghost use Rattle.disk_sectors.specs.Access.{HasSector, Loses, PutsSector};
+ghost use Rattle.disk_sectors.specs.Frames.{OnlyReads, WritesSector};
 
 use crate::error::SectorError;
 use crate::sectors::Sectors;
@@ -22,11 +21,9 @@ pub(crate) fn put_sector<S: Sectors>(
 ) -> Result<(), Fault>
     requires size { S.of_size sectors.old ≡ size }
     requires whole { length bytes.now ≡ bytes_in size }
-    requires fits { place_of size number + bytes_in size ≤ length (S.device sectors.old).now.bytes }
-    ensures ok { OnOk result (S.device sectors.new
-        ≡ written (place_of size number) bytes.now (S.device sectors.old)) }
-    ensures writes_only { WritesOnly (one_sector size number ∷ []) size (S.of_size sectors.new)
-        (S.device sectors.old) (S.device sectors.new) }
+    requires fits { HasSector size number (S.device sectors.old) }
+    ensures ok { OnOk result (PutsSector S.device size number bytes.now sectors.old sectors.new) }
+    ensures writes_only { WritesSector S.device S.of_size size number sectors.old sectors.new }
 {
     match sectors.write_sector(number, bytes) {
         Ok(()) => Ok(()),
@@ -57,12 +54,10 @@ pub(crate) fn get_sector<S: Sectors>(
 ) -> Result<(), SectorError>
     requires size { S.of_size sectors.old ≡ size }
     requires whole { length out.old ≡ bytes_in size }
-    requires fits { place_of size number + bytes_in size ≤ length (S.device sectors.old).now.bytes }
+    requires fits { HasSector size number (S.device sectors.old) }
     ensures ok { OnOk result (out.new ≡ sector size number (S.device sectors.old).now.bytes) }
-    ensures unreadable { IsErrOf result Unreadable
-        → IsLost (sector size number (S.device sectors.old).now.bytes) }
-    ensures reads_only { ReadsOnly size (S.of_size sectors.new)
-        (S.device sectors.old) (S.device sectors.new) }
+    ensures unreadable { IsErrOf result Unreadable → Loses size number (S.device sectors.old) }
+    ensures reads_only { OnlyReads S.device S.of_size size sectors.old sectors.new }
 {
     sectors.read_sector(number, out)
 }

@@ -1,9 +1,9 @@
 //! An area: as many sectors as a disk has, one after the other.
-ghost use Rattle.std.specs.Prelude.{◌≡◌, ◌+◌, ◌<◌, ◌≤◌, ℕ, [], ◌∷◌, length, OnOk};
-ghost use Rattle.block_disk.specs.Bytes.{part};
-ghost use Rattle.disk_sectors.specs.Frames.{WritesOnly};
-ghost use Rattle.disk_sectors.specs.Places.{Matches, one_sector, sectors_from};
+ghost use Rattle.std.specs.Prelude.{◌≡◌, ◌+◌, ◌<◌, ◌≤◌, [], length, OnOk};
+ghost use Rattle.disk_sectors.specs.Places.{Matches};
 ghost use Rattle.disk_sectors.specs.Size.{bytes_in, place_of, sector};
+ghost use Rattle.disk_sectors.specs.Frames.{WritesArea, WritesSector};
+ghost use Rattle.disk_sectors.specs.Areas.{EachHas, IsFilled, SectorHas};
 
 use crate::access::{put_sector, settle};
 use crate::marks::Marks;
@@ -25,12 +25,10 @@ pub(crate) fn fill_area<S: Sectors>(
         (S.device sectors.old).now.bytes }
     requires matches { Matches size first marks.old image.now (S.device sectors.old).now.bytes }
     ensures count { length marks.new ≡ length marks.old }
-    ensures whole { OnOk result (part (place_of size first) (place_of size (length marks.old))
-        (S.device sectors.new).now.bytes ≡ image.now) }
+    ensures whole { OnOk result (IsFilled size first marks.old image.now (S.device sectors.new)) }
     ensures durable { OnOk result ((S.device sectors.new).now.pending ≡ []) }
     ensures matches { Matches size first marks.new image.now (S.device sectors.new).now.bytes }
-    ensures writes_only { WritesOnly (sectors_from size first (length marks.old) ∷ [])
-        size (S.of_size sectors.new) (S.device sectors.old) (S.device sectors.new) }
+    ensures writes_only { WritesArea S.device S.of_size size first marks.old sectors.old sectors.new }
 {
     write_area(sectors, size, first, marks, image)?;
     // The area has to be durable before the gate shows it, and its marks stay until it is.
@@ -52,11 +50,9 @@ fn write_area<S: Sectors>(
     requires fits { place_of size (first + length marks.now) ≤ length
         (S.device sectors.old).now.bytes }
     requires matches { Matches size first marks.now image.now (S.device sectors.old).now.bytes }
-    ensures all { OnOk result ((i : ℕ) → i < length marks.now
-        → sector size (first + i) (S.device sectors.new).now.bytes ≡ sector size i image.now) }
+    ensures all { OnOk result (EachHas size first marks.now image.now (S.device sectors.new)) }
     ensures matches { Matches size first marks.now image.now (S.device sectors.new).now.bytes }
-    ensures writes_only { WritesOnly (sectors_from size first (length marks.now) ∷ [])
-        size (S.of_size sectors.new) (S.device sectors.old) (S.device sectors.new) }
+    ensures writes_only { WritesArea S.device S.of_size size first marks.now sectors.old sectors.new }
 {
     for i in 0..marks.count() {
         write_marked(sectors, size, first, i, marks, image)?;
@@ -79,11 +75,9 @@ fn write_marked<S: Sectors>(
     requires fits { place_of size (first + length marks.now) ≤ length
         (S.device sectors.old).now.bytes }
     requires matches { Matches size first marks.now image.now (S.device sectors.old).now.bytes }
-    ensures this { OnOk result (sector size (first + i) (S.device sectors.new).now.bytes
-        ≡ sector size i image.now) }
+    ensures this { OnOk result (SectorHas size first i image.now (S.device sectors.new)) }
     ensures matches { Matches size first marks.now image.now (S.device sectors.new).now.bytes }
-    ensures writes_only { WritesOnly (one_sector size (first + i) ∷ []) size (S.of_size sectors.new)
-        (S.device sectors.old) (S.device sectors.new) }
+    ensures writes_only { WritesSector S.device S.of_size size (first + i) sectors.old sectors.new }
 {
     let is_marked = marks.has(i);
     if !is_marked {

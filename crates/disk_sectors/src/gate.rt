@@ -1,9 +1,9 @@
 //! The gate, which says whose turn it is of two areas.
-ghost use Rattle.std.specs.Prelude.{◌≡◌, ◌<◌, ◌≤◌, ℕ, [], ◌∷◌, true, false, length, nat_eq, slice_index, OnErr, OnOk};
-ghost use Rattle.disk_sectors.specs.Frames.{WritesOnly};
-ghost use Rattle.disk_sectors.specs.Places.{one_sector, turn_of};
+ghost use Rattle.std.specs.Prelude.{◌≡◌, ◌<◌, ◌≤◌, [], true, false, length, nat_eq, slice_index, OnErr, OnOk};
+ghost use Rattle.disk_sectors.specs.Places.{turn_of};
 ghost use Rattle.disk_sectors.specs.Size.{bytes_in, place_of};
-ghost use Rattle.disk_sectors.specs.Turns.{KeepsHolding, KeepsShowing};
+ghost use Rattle.disk_sectors.specs.Frames.{WritesGate};
+ghost use Rattle.disk_sectors.specs.Gates.{HoldsOn, ShowsOn, unsure};
 
 use crate::access::{put_sector, settle};
 use crate::sectors::Sectors;
@@ -30,13 +30,9 @@ pub(crate) fn confirm<S: Sectors>(
     requires fits { place_of size 2 ≤ length (S.device sectors.old).now.bytes }
     ensures ok { OnOk result (gate.new.is_firm ≡ true) }
     ensures turn { gate.new.turn ≡ gate.old.turn }
-    ensures writes_only { WritesOnly (one_sector size 1 ∷ []) size (S.of_size sectors.new)
-        (S.device sectors.old) (S.device sectors.new) }
-    ensures crash { KeepsHolding size gate.old.is_firm gate.old.turn gate.new.is_firm gate.new.turn
-        (S.device sectors.old) (S.device sectors.new) }
-    ensures any_moment { (count : ℕ)
-        → KeepsShowing size count gate.old.is_firm gate.old.turn
-        (S.device sectors.old) (S.device sectors.new) }
+    ensures writes_only { WritesGate S.device S.of_size size sectors.old sectors.new }
+    ensures crash { HoldsOn S.device size gate.old gate.new sectors.old sectors.new }
+    ensures any_moment { ShowsOn S.device size gate.old sectors.old sectors.new }
 {
     let is_firm = gate.is_firm;
     if is_firm {
@@ -58,13 +54,9 @@ pub(crate) fn turn_gate<S: Sectors>(
     ensures err { OnErr result (gate.new.is_firm ≡ false) }
     ensures turn { gate.new.turn ≡ gate.old.turn }
     ensures durable { OnOk result ((S.device sectors.new).now.pending ≡ []) }
-    ensures writes_only { WritesOnly (one_sector size 1 ∷ []) size (S.of_size sectors.new)
-        (S.device sectors.old) (S.device sectors.new) }
-    ensures crash { KeepsHolding size false gate.old.turn gate.new.is_firm gate.new.turn
-        (S.device sectors.old) (S.device sectors.new) }
-    ensures any_moment { (count : ℕ)
-        → KeepsShowing size count false gate.old.turn
-        (S.device sectors.old) (S.device sectors.new) }
+    ensures writes_only { WritesGate S.device S.of_size size sectors.old sectors.new }
+    ensures crash { HoldsOn S.device size (unsure gate.old) gate.new sectors.old sectors.new }
+    ensures any_moment { ShowsOn S.device size (unsure gate.old) sectors.old sectors.new }
 {
     put_gate(sectors, size, gate.turn)?;
     gate.is_firm = true;
@@ -82,8 +74,7 @@ pub(crate) fn put_gate<S: Sectors>(
     requires fits { place_of size 2 ≤ length (S.device sectors.old).now.bytes }
     ensures durable { OnOk result ((S.device sectors.new).now.pending ≡ []) }
     ensures turned { OnOk result (turn_of size (S.device sectors.new).now.bytes ≡ turn) }
-    ensures writes_only { WritesOnly (one_sector size 1 ∷ []) size (S.of_size sectors.new)
-        (S.device sectors.old) (S.device sectors.new) }
+    ensures writes_only { WritesGate S.device S.of_size size sectors.old sectors.new }
 {
     match put_gate_once(sectors, size, turn) {
         Ok(()) => Ok(()),
@@ -97,8 +88,7 @@ fn put_gate_once<S: Sectors>(sectors: &mut S, size: SectorSize, turn: bool) -> R
     requires fits { place_of size 2 ≤ length (S.device sectors.old).now.bytes }
     ensures durable { OnOk result ((S.device sectors.new).now.pending ≡ []) }
     ensures turned { OnOk result (turn_of size (S.device sectors.new).now.bytes ≡ turn) }
-    ensures writes_only { WritesOnly (one_sector size 1 ∷ []) size (S.of_size sectors.new)
-        (S.device sectors.old) (S.device sectors.new) }
+    ensures writes_only { WritesGate S.device S.of_size size sectors.old sectors.new }
 {
     say_gate(sectors, size, turn)?;
     // The gate has to be durable before an area is written that it may show.
@@ -110,8 +100,7 @@ fn say_gate<S: Sectors>(sectors: &mut S, size: SectorSize, turn: bool) -> Result
     requires size { S.of_size sectors.old ≡ size }
     requires fits { place_of size 2 ≤ length (S.device sectors.old).now.bytes }
     ensures turned { OnOk result (turn_of size (S.device sectors.new).now.bytes ≡ turn) }
-    ensures writes_only { WritesOnly (one_sector size 1 ∷ []) size (S.of_size sectors.new)
-        (S.device sectors.old) (S.device sectors.new) }
+    ensures writes_only { WritesGate S.device S.of_size size sectors.old sectors.new }
 {
     let mut room = [0u8; 4096];
     match size {
@@ -131,8 +120,7 @@ fn say_in<S: Sectors>(
     requires whole { length bytes.old ≡ bytes_in size }
     requires fits { place_of size 2 ≤ length (S.device sectors.old).now.bytes }
     ensures turned { OnOk result (turn_of size (S.device sectors.new).now.bytes ≡ turn) }
-    ensures writes_only { WritesOnly (one_sector size 1 ∷ []) size (S.of_size sectors.new)
-        (S.device sectors.old) (S.device sectors.new) }
+    ensures writes_only { WritesGate S.device S.of_size size sectors.old sectors.new }
 {
     say_turn(turn, bytes);
     put_sector(sectors, size, GATE, bytes)

@@ -1,10 +1,9 @@
 //! The label, with which a device of sectors in two places begins (docs/FORMAT.md, "Sectors in two places").
-ghost use Rattle.std.specs.Prelude.{◌≡◌, ◌^◌, ◌<◌, ◌≤◌, ℕ, [], ◌∷◌, IfNone, IfSome, length, take, OnOk};
+ghost use Rattle.std.specs.Prelude.{◌≡◌, ◌≤◌, [], ◌∷◌, IfNone, IfSome, length, take, OnOk};
 ghost use Rattle.block_disk.specs.Since.{ReadsSameBut};
-ghost use Rattle.disk_sectors.specs.Labels.{label_bytes};
+ghost use Rattle.disk_sectors.specs.Labels.{IsNoLabel, IsNoLabelOf, TellsCount, label_bytes};
 ghost use Rattle.disk_sectors.specs.Places.{one_sector};
 ghost use Rattle.disk_sectors.specs.Size.{bytes_in, place_of};
-ghost use Rattle.disk_sectors.specs.declared.size.SectorSize.{SectorSize as Size};
 
 use crate::access::{put_sector, settle};
 use crate::sectors::Sectors;
@@ -30,8 +29,7 @@ impl Label {
         // A label that is read is what the first bytes spell.
         ensures some { IfSome result (λ l. take 16 head.now ≡ label_bytes l.size l.count) }
         // Where no label is read, the first bytes spell none.
-        ensures none { IfNone result ((size : Size) (count : ℕ) → count < 2 ^ 64
-            → take 16 head.now ≡ label_bytes size count → ⊥) }
+        ensures none { IfNone result (IsNoLabel (take 16 head.now)) }
     {
         let Some(spelled) = head.first_chunk::<LABEL_BYTES>() else {
             return None;
@@ -61,8 +59,7 @@ impl Label {
 fn read_as(spelled: &[u8; 16], size: SectorSize) -> Option<Label>
     ensures some { IfSome result (λ l. (l.size ≡ size)
         × (spelled.now ≡ label_bytes l.size l.count)) }
-    ensures none { IfNone result ((count : ℕ) → count < 2 ^ 64
-        → spelled.now ≡ label_bytes size count → ⊥) }
+    ensures none { IfNone result (IsNoLabelOf size spelled.now) }
 {
     let label = Label {
         size,
@@ -76,8 +73,7 @@ fn read_as(spelled: &[u8; 16], size: SectorSize) -> Option<Label>
 
 // The number behind the name.
 fn count_in(label: &[u8; 16]) -> u64
-    ensures { (size : Size) (count : ℕ) → count < 2 ^ 64 → label.now ≡ label_bytes size count
-        → result ≡ count }
+    ensures { TellsCount label.now result }
 {
     u64::from_be_bytes([
         label[8], label[9], label[10], label[11], label[12], label[13], label[14], label[15],

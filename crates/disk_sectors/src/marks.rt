@@ -1,7 +1,7 @@
 //! Which sectors of an area may hold something else than the image does.
-ghost use Rattle.std.specs.Prelude.{◌≡◌, ◌⊎◌, ◌+◌, ◌^◌, ◌<◌, ◌≤◌, ℕ, [], ◌∷◌, true, false, length, replicate, slice_index_or, IfOk, List};
-ghost use Rattle.block_disk.specs.Images.{IsApart};
+ghost use Rattle.std.specs.Prelude.{◌≡◌, ◌+◌, ◌^◌, ◌<◌, ◌≤◌, true, false, length, replicate, slice_index_or, IfOk, List};
 ghost use Rattle.disk_sectors.specs.Size.{bytes_in, place_of};
+ghost use Rattle.disk_sectors.specs.Marks.{MarksBytes, MarksFrom};
 
 use crate::size::SectorSize;
 use std::alloc::{AllocError, Global};
@@ -50,9 +50,7 @@ impl Marks {
         requires fits { at + len ≤ place_of size (length self.old) }
         requires bound { place_of size (length self.old) < 2 ^ 63 }
         ensures count { length self.new ≡ length self.old }
-        ensures marked { (i : ℕ) → slice_index_or self.new i true ≡ false
-            → (slice_index_or self.old i true ≡ false)
-            × IsApart (place_of size i) (bytes_in size) (record { start = at; len = len } ∷ []) }
+        ensures marked { MarksBytes size at len self.old self.new }
     {
         let from = at / size.bytes();
         let to = sectors_of(at + len, size);
@@ -84,8 +82,7 @@ fn sectors_of(len: usize, size: SectorSize) -> usize
 fn mark_all(marks: &mut Vec<bool>, from: usize, to: usize)
     requires { to ≤ length marks.old.items }
     ensures count { length marks.new.items ≡ length marks.old.items }
-    ensures marked { (i : ℕ) → slice_index_or marks.new.items i true ≡ false
-        → (slice_index_or marks.old.items i true ≡ false) × ((i < from) ⊎ (to ≤ i)) }
+    ensures marked { MarksFrom from to marks.old.items marks.new.items }
 {
     for i in from..to {
         marks[i] = true;

@@ -1,8 +1,8 @@
 //! A device of sectors in memory.
 ghost use Rattle.std.specs.Prelude.{◌≡◌, ◌↔◌, ◌+◌, ◌≤◌, IsTrue, length, replicate, IfOk};
 ghost use Rattle.block_disk.specs.Bytes.{spliced};
-ghost use Rattle.block_disk.specs.Device.{new_device, written};
-ghost use Rattle.disk_sectors.specs.Size.{bytes_in, place_of};
+ghost use Rattle.block_disk.specs.Device.{new_device};
+ghost use Rattle.disk_sectors.specs.Access.{HasSector, sector_lost};
 
 use crate::error::SectorError;
 use crate::sectors::Sectors;
@@ -56,13 +56,10 @@ impl MemSectors {
     /// Makes a sector unreadable, until it is written. `false` where there is none of this number.
     pub fn lose(&mut self, number: u64) -> bool
         // Any sector in memory that there is can be made unreadable.
-        ensures there { IsTrue result
-            ↔ (place_of self.old.size number + bytes_in self.old.size ≤ length
-            self.old.device.now.bytes) }
+        ensures there { IsTrue result ↔ HasSector self.old.size number self.old.device }
         // A lost sector is unreadable until it is written.
         ensures lost { IsTrue result
-            → self.new.device ≡ written (place_of self.old.size number)
-            (replicate (bytes_in self.old.size) 256) self.old.device }
+            → self.new.device ≡ sector_lost self.old.size number self.old.device }
         ensures none { ¬ IsTrue result → self.new ≡ self.old }
         ensures size { self.new.size ≡ self.old.size }
     {

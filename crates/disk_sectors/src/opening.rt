@@ -1,13 +1,15 @@
 //! Reading what a device stands for, and making it stand for zeros.
-ghost use Rattle.std.specs.Prelude.{◌≡◌, ◌≢◌, ◌↔◌, ◌+◌, ◌^◌, ◌<◌, ◌≤◌, [], ◌∷◌, true, false, IsFalse, IsTrue, length, replicate, take, IfErr, IfOk, IsErrOf, OnOk};
-ghost use Rattle.block_disk.specs.Bytes.{part, spliced};
-ghost use Rattle.block_disk.specs.Since.{ReadsSameBut};
-ghost use Rattle.disk_sectors.specs.Frames.{ReadsOnly};
-ghost use Rattle.disk_sectors.specs.Labels.{label_bytes};
-ghost use Rattle.disk_sectors.specs.Places.{IsAsFound, shown, turn_of};
-ghost use Rattle.disk_sectors.specs.declared.error.PlacesError.TheVariants.{Fault as PlacesFault, TooSmall};
-ghost use Rattle.disk_sectors.specs.Size.{bytes_in, place_of, sector};
-ghost use Rattle.disk_sectors.specs.Turns.{IsKeptDurable, its_sectors, room_of};
+ghost use Rattle.std.specs.Prelude.{◌≡◌, ◌≢◌, ◌↔◌, ◌+◌, ◌^◌, ◌<◌, ◌≤◌, [], true, false, IsFalse, IsTrue, length, replicate, IfErr, IfOk, IsErrOf, OnOk};
+ghost use Rattle.disk_sectors.specs.Places.{IsAsFound, turn_of};
+ghost use Rattle.disk_sectors.specs.declared.error.PlacesError.TheVariants.{TooSmall};
+ghost use Rattle.disk_sectors.specs.Size.{bytes_in, place_of, zeros_in};
+ghost use Rattle.disk_sectors.specs.Opened.{IsLaid, IsShown, LiesOn};
+ghost use Rattle.disk_sectors.specs.Access.{HasSector};
+ghost use Rattle.disk_sectors.specs.Turns.{HasRoom, KeepsBeyond, LacksRoom};
+ghost use Rattle.disk_sectors.specs.Refusals.{IsUntouched};
+ghost use Rattle.disk_sectors.specs.Frames.{OnlyReads};
+ghost use Rattle.disk_sectors.specs.Areas.{IsRead, TakesSector};
+ghost use Rattle.disk_sectors.specs.Labels.{HasLabel};
 
 use crate::access::{get_sector, settle};
 use crate::area::fill_area;
@@ -56,13 +58,10 @@ pub(crate) fn find_places<S: Sectors>(
     count: usize,
 ) -> Result<Found, PlacesError>
     requires size { S.of_size sectors.old ≡ size }
-    ensures too_small { IsErrOf result TooSmall
-        ↔ (length (S.device sectors.old).now.bytes < room_of size count) }
-    ensures image { IfOk result (λ found. found.image.items
-        ≡ shown size count (S.device sectors.old).now.bytes) }
+    ensures too_small { IsErrOf result TooSmall ↔ LacksRoom size count (S.device sectors.old) }
+    ensures image { IfOk result (λ found. IsShown size count found.image.items (S.device sectors.old)) }
     ensures count { IfOk result (λ found. length found.fresh ≡ count) }
-    ensures kept { IfOk result (λ found. IsKeptDurable size found.gate.is_firm found.gate.turn
-        found.fresh found.stale found.image.items (S.device sectors.new)) }
+    ensures kept { IfOk result (λ found. LiesOn size found (S.device sectors.new)) }
     ensures left { IsAsFound (S.device sectors.old) (S.device sectors.new) }
     ensures size { S.of_size sectors.new ≡ size }
 {
@@ -83,12 +82,10 @@ fn read_places<S: Sectors>(
     count: usize,
 ) -> Result<Found, Halt>
     requires size { S.of_size sectors.old ≡ size }
-    requires fits { room_of size count ≤ length (S.device sectors.old).now.bytes }
-    ensures image { IfOk result (λ found. found.image.items
-        ≡ shown size count (S.device sectors.old).now.bytes) }
+    requires fits { HasRoom size count (S.device sectors.old) }
+    ensures image { IfOk result (λ found. IsShown size count found.image.items (S.device sectors.old)) }
     ensures count { IfOk result (λ found. length found.fresh ≡ count) }
-    ensures kept { IfOk result (λ found. IsKeptDurable size found.gate.is_firm found.gate.turn
-        found.fresh found.stale found.image.items (S.device sectors.new)) }
+    ensures kept { IfOk result (λ found. LiesOn size found (S.device sectors.new)) }
     ensures left { IsAsFound (S.device sectors.old) (S.device sectors.new) }
     ensures size { S.of_size sectors.new ≡ size }
 {
@@ -121,19 +118,14 @@ pub(crate) fn make_places<S: Sectors>(
     count: usize,
 ) -> Result<Found, PlacesError>
     requires size { S.of_size sectors.old ≡ size }
-    ensures too_small { IsErrOf result TooSmall
-        ↔ (length (S.device sectors.old).now.bytes < room_of size count) }
-    ensures image { IfOk result (λ found. found.image.items ≡ replicate (place_of size count) 0) }
+    ensures too_small { IsErrOf result TooSmall ↔ LacksRoom size count (S.device sectors.old) }
+    ensures image { IfOk result (λ found. found.image.items ≡ zeros_in size count) }
     ensures count { IfOk result (λ found. length found.fresh ≡ count) }
-    ensures kept { IfOk result (λ found. IsKeptDurable size found.gate.is_firm found.gate.turn
-        found.fresh found.stale found.image.items (S.device sectors.new)) }
-    ensures labelled { OnOk result
-        (take 16 (S.device sectors.new).now.bytes ≡ label_bytes size count) }
+    ensures kept { IfOk result (λ found. LiesOn size found (S.device sectors.new)) }
+    ensures labelled { OnOk result (HasLabel size count (S.device sectors.new)) }
     ensures durable { OnOk result ((S.device sectors.new).now.pending ≡ []) }
-    ensures untouched { IfErr result (λ why. why ≢ PlacesFault
-        → S.device sectors.new ≡ S.device sectors.old) }
-    ensures beyond { ReadsSameBut (its_sectors size count ∷ [])
-        (S.device sectors.old) (S.device sectors.new) }
+    ensures untouched { IfErr result (λ why. IsUntouched S.device why sectors.old sectors.new) }
+    ensures beyond { KeepsBeyond size count (S.device sectors.old) (S.device sectors.new) }
     ensures size { S.of_size sectors.new ≡ size }
 {
     if !has_room(sectors, size, count) {
@@ -160,7 +152,7 @@ pub(crate) fn make_places<S: Sectors>(
 // A disk of zeros, of which no area holds anything yet.
 fn begin_places(alloc: Global, size: SectorSize, count: usize) -> Result<Found, Halt>
     requires { place_of size count < 2 ^ 64 }
-    ensures image { IfOk result (λ found. found.image.items ≡ replicate (place_of size count) 0) }
+    ensures image { IfOk result (λ found. found.image.items ≡ zeros_in size count) }
     ensures fresh { IfOk result (λ found. found.fresh ≡ replicate count true) }
     ensures stale { IfOk result (λ found. found.stale ≡ replicate count true) }
     ensures gate { IfOk result (λ found. (found.gate.is_firm ≡ true) × (found.gate.turn ≡ false)) }
@@ -189,18 +181,15 @@ fn lay_places<S: Sectors>(
     image: &[u8],
 ) -> Result<(), Fault>
     requires size { S.of_size sectors.old ≡ size }
-    requires fits { room_of size count ≤ length (S.device sectors.old).now.bytes }
+    requires fits { HasRoom size count (S.device sectors.old) }
     requires long { length image.now ≡ place_of size count }
     requires fresh { fresh.old ≡ replicate count true }
     requires stale { stale.now ≡ replicate count true }
     ensures count { length fresh.new ≡ count }
-    ensures kept { OnOk result (IsKeptDurable size true false fresh.new stale.now image.now
-        (S.device sectors.new)) }
-    ensures labelled { OnOk result
-        (take 16 (S.device sectors.new).now.bytes ≡ label_bytes size count) }
+    ensures kept { OnOk result (IsLaid size fresh.new stale.now image.now (S.device sectors.new)) }
+    ensures labelled { OnOk result (HasLabel size count (S.device sectors.new)) }
     ensures durable { OnOk result ((S.device sectors.new).now.pending ≡ []) }
-    ensures beyond { ReadsSameBut (its_sectors size count ∷ [])
-        (S.device sectors.old) (S.device sectors.new) }
+    ensures beyond { KeepsBeyond size count (S.device sectors.old) (S.device sectors.new) }
     ensures size { S.of_size sectors.new ≡ size }
 {
     let label = Label {
@@ -217,9 +206,8 @@ fn lay_places<S: Sectors>(
 // Whether the device has sectors enough for a label, a gate and two areas of so many.
 fn has_room<S: Sectors>(sectors: &S, size: SectorSize, count: usize) -> bool
     requires size { S.of_size sectors.now ≡ size }
-    ensures enough { IsTrue result → room_of size count ≤ length (S.device sectors.now).now.bytes }
-    ensures wanting { IsFalse result
-        → length (S.device sectors.now).now.bytes < room_of size count }
+    ensures enough { IsTrue result → HasRoom size count (S.device sectors.now) }
+    ensures wanting { IsFalse result → LacksRoom size count (S.device sectors.now) }
 {
     let most = sectors.count();
     if most < 2 {
@@ -244,7 +232,7 @@ fn mark_each(alloc: Global, count: usize, are_marked: bool) -> Result<Marks, Hal
 
 fn zeros(alloc: Global, size: SectorSize, count: usize) -> Result<Vec<u8>, Halt>
     requires { place_of size count < 2 ^ 64 }
-    ensures { IfOk result (λ bytes. bytes.items ≡ replicate (place_of size count) 0) }
+    ensures { IfOk result (λ bytes. bytes.items ≡ zeros_in size count) }
 {
     let len = count * size.bytes();
     match vec![in alloc; 0u8; len] {
@@ -258,8 +246,7 @@ fn read_gate<S: Sectors>(sectors: &mut S, size: SectorSize) -> Result<bool, Halt
     requires size { S.of_size sectors.old ≡ size }
     requires fits { place_of size 2 ≤ length (S.device sectors.old).now.bytes }
     ensures turn { IfOk result (λ turn. turn ≡ turn_of size (S.device sectors.old).now.bytes) }
-    ensures reads_only { ReadsOnly size (S.of_size sectors.new)
-        (S.device sectors.old) (S.device sectors.new) }
+    ensures reads_only { OnlyReads S.device S.of_size size sectors.old sectors.new }
 {
     let mut room = [0u8; 4096];
     match size {
@@ -274,8 +261,7 @@ fn read_turn<S: Sectors>(sectors: &mut S, size: SectorSize, bytes: &mut [u8]) ->
     requires whole { length bytes.old ≡ bytes_in size }
     requires fits { place_of size 2 ≤ length (S.device sectors.old).now.bytes }
     ensures turn { IfOk result (λ turn. turn ≡ turn_of size (S.device sectors.old).now.bytes) }
-    ensures reads_only { ReadsOnly size (S.of_size sectors.new)
-        (S.device sectors.old) (S.device sectors.new) }
+    ensures reads_only { OnlyReads S.device S.of_size size sectors.old sectors.new }
 {
     match get_sector(sectors, size, 1, bytes) {
         Ok(()) => Ok(bytes[0] == 1),
@@ -294,10 +280,8 @@ fn read_area<S: Sectors>(
 ) -> Result<Vec<u8>, Halt>
     requires size { S.of_size sectors.old ≡ size }
     requires fits { place_of size (first + count) ≤ length (S.device sectors.old).now.bytes }
-    ensures area { IfOk result (λ image. image.items
-        ≡ part (place_of size first) (place_of size count) (S.device sectors.old).now.bytes) }
-    ensures reads_only { ReadsOnly size (S.of_size sectors.new)
-        (S.device sectors.old) (S.device sectors.new) }
+    ensures area { IfOk result (λ image. IsRead size first count image.items (S.device sectors.old)) }
+    ensures reads_only { OnlyReads S.device S.of_size size sectors.old sectors.new }
 {
     let _sectors = sectors.count();
     let mut image = zeros(alloc, size, count)?;
@@ -332,10 +316,8 @@ fn read_sectors<S: Sectors>(
     requires whole { length room.old ≡ bytes_in size }
     requires long { length image.old ≡ place_of size count }
     requires fits { place_of size (first + count) ≤ length (S.device sectors.old).now.bytes }
-    ensures area { OnOk result (image.new ≡ part (place_of size first) (place_of size count)
-        (S.device sectors.old).now.bytes) }
-    ensures reads_only { ReadsOnly size (S.of_size sectors.new)
-        (S.device sectors.old) (S.device sectors.new) }
+    ensures area { OnOk result (IsRead size first count image.new (S.device sectors.old)) }
+    ensures reads_only { OnlyReads S.device S.of_size size sectors.old sectors.new }
 {
     for i in 0..count {
         read_one(sectors, size, first, i, image, room)?;
@@ -355,13 +337,9 @@ fn read_one<S: Sectors>(
     requires size { S.of_size sectors.old ≡ size }
     requires whole { length room.old ≡ bytes_in size }
     requires within { place_of size i + bytes_in size ≤ length image.old }
-    requires fits { place_of size (first + i) + bytes_in size ≤ length
-        (S.device sectors.old).now.bytes }
-    ensures ok { OnOk result (image.new
-        ≡ spliced image.old (place_of size i)
-        (sector size (first + i) (S.device sectors.old).now.bytes)) }
-    ensures reads_only { ReadsOnly size (S.of_size sectors.new)
-        (S.device sectors.old) (S.device sectors.new) }
+    requires fits { HasSector size (first + i) (S.device sectors.old) }
+    ensures ok { OnOk result (TakesSector size first i image.old image.new (S.device sectors.old)) }
+    ensures reads_only { OnlyReads S.device S.of_size size sectors.old sectors.new }
 {
     let _sectors = sectors.count();
     let number = first + i as u64;

@@ -1,11 +1,11 @@
 //! Two areas by turns: what a sync makes of them.
-ghost use Rattle.std.specs.Prelude.{◌≡◌, ◌+◌, ◌^◌, ◌<◌, ◌≤◌, ℕ, List, [], ◌∷◌, Bool, true, false, length, OnOk};
+ghost use Rattle.std.specs.Prelude.{◌≡◌, ◌+◌, ◌^◌, ◌<◌, ◌≤◌, true, false, length, OnOk};
 ghost use Rattle.block_disk.specs.Bytes.{spliced};
-ghost use Rattle.block_disk.specs.Device.{Moment};
-ghost use Rattle.disk_sectors.specs.Frames.{WritesOnly};
-ghost use Rattle.disk_sectors.specs.Places.{Reads, area, first_sector};
+ghost use Rattle.disk_sectors.specs.Places.{first_sector};
 ghost use Rattle.disk_sectors.specs.Size.{place_of};
-ghost use Rattle.disk_sectors.specs.Turns.{KeepsImage, KeepsShowing, KeepsShowingImage, MakesDurable, its_sectors};
+ghost use Rattle.disk_sectors.specs.Marks.{StillRead};
+ghost use Rattle.disk_sectors.specs.Frames.{WritesPlaces};
+ghost use Rattle.disk_sectors.specs.Gates.{HasTurn, Keeps, LieOn, Settles, ShowsFirm, ShowsImage, Turns};
 
 use crate::area::fill_area;
 use crate::gate::{Gate, confirm, turn_gate};
@@ -27,24 +27,13 @@ pub(crate) fn sync_places<S: Sectors>(
 ) -> Result<(), Fault>
     requires size { S.of_size sectors.old ≡ size }
     requires count { length stale.old ≡ length fresh.old }
-    requires reads { Reads size (length fresh.old) gate.old.turn fresh.old stale.old image.now
-        (S.device sectors.old).now.bytes }
+    requires reads { LieOn size fresh.old gate.old fresh.old stale.old image.now (S.device sectors.old) }
     ensures count { (length fresh.new ≡ length fresh.old) × (length stale.new ≡ length fresh.old) }
-    ensures reads { Reads size (length fresh.old) gate.new.turn fresh.new stale.new image.now
-        (S.device sectors.new).now.bytes }
-    ensures crash { KeepsImage size
-        (length fresh.old) image.now gate.old.is_firm gate.old.turn gate.new.is_firm gate.new.turn
-        (S.device sectors.old) (S.device sectors.new) }
-    ensures durable { (label : List ℕ) (m : Moment)
-        → OnOk result (m.bytes ≡ image.now
-        → MakesDurable size
-        (length fresh.old) gate.old.is_firm gate.old.turn gate.new.is_firm gate.new.turn label m
-        (S.device sectors.old) (S.device sectors.new)) }
-    ensures any_moment { KeepsShowingImage size
-        (length fresh.old) image.now gate.old.is_firm gate.old.turn
-        (S.device sectors.old) (S.device sectors.new) }
-    ensures writes_only { WritesOnly (its_sectors size (length fresh.old) ∷ [])
-        size (S.of_size sectors.new) (S.device sectors.old) (S.device sectors.new) }
+    ensures reads { LieOn size fresh.old gate.new fresh.new stale.new image.now (S.device sectors.new) }
+    ensures crash { Keeps S.device size fresh.old image.now gate.old gate.new sectors.old sectors.new }
+    ensures durable { Settles S.device size fresh.old image.now gate.old gate.new sectors.old sectors.new result }
+    ensures any_moment { ShowsImage S.device size fresh.old image.now gate.old sectors.old sectors.new }
+    ensures writes_only { WritesPlaces S.device S.of_size size fresh.old sectors.old sectors.new }
 {
     // Where the gate may say either, both areas may be shown: it has to be firm before one of them is written.
     confirm(sectors, size, gate)?;
@@ -64,21 +53,14 @@ fn fill_other<S: Sectors>(
     requires size { S.of_size sectors.old ≡ size }
     requires firm { gate.old.is_firm ≡ true }
     requires count { length stale.old ≡ length fresh.old }
-    requires reads { Reads size (length fresh.old) gate.old.turn fresh.old stale.old image.now
-        (S.device sectors.old).now.bytes }
+    requires reads { LieOn size fresh.old gate.old fresh.old stale.old image.now (S.device sectors.old) }
     ensures ok { OnOk result (gate.new.is_firm ≡ false) }
     ensures count { (length fresh.new ≡ length fresh.old) × (length stale.new ≡ length fresh.old) }
-    ensures whole { OnOk result (area size (length fresh.old) gate.new.turn
-        (S.device sectors.new).now.bytes ≡ image.now) }
-    ensures reads { Reads size (length fresh.old) gate.new.turn fresh.new stale.new image.now
-        (S.device sectors.new).now.bytes }
-    ensures crash { KeepsImage size
-        (length fresh.old) image.now true gate.old.turn gate.new.is_firm gate.new.turn
-        (S.device sectors.old) (S.device sectors.new) }
-    ensures any_moment { KeepsShowing size (length fresh.old) true gate.old.turn
-        (S.device sectors.old) (S.device sectors.new) }
-    ensures writes_only { WritesOnly (its_sectors size (length fresh.old) ∷ [])
-        size (S.of_size sectors.new) (S.device sectors.old) (S.device sectors.new) }
+    ensures whole { OnOk result (HasTurn size fresh.old gate.new image.now (S.device sectors.new)) }
+    ensures reads { LieOn size fresh.old gate.new fresh.new stale.new image.now (S.device sectors.new) }
+    ensures crash { Turns S.device size fresh.old image.now gate.old gate.new sectors.old sectors.new }
+    ensures any_moment { ShowsFirm S.device size fresh.old gate.old sectors.old sectors.new }
+    ensures writes_only { WritesPlaces S.device S.of_size size fresh.old sectors.old sectors.new }
 {
     let _sectors = sectors.count();
     let count = stale.count();
@@ -113,9 +95,7 @@ pub(crate) fn write_image(
     requires count { length stale.old ≡ length fresh.old }
     ensures image { image.new.items ≡ spliced image.old.items at bytes.now }
     ensures count { (length fresh.new ≡ length fresh.old) × (length stale.new ≡ length fresh.old) }
-    ensures reads { (turn : Bool) (on : List ℕ)
-        → Reads size (length fresh.old) turn fresh.old stale.old image.old.items on
-        → Reads size (length fresh.old) turn fresh.new stale.new image.new.items on }
+    ensures reads { StillRead size fresh.old stale.old image.old fresh.new stale.new image.new }
 {
     fresh.mark(size, at as usize, bytes.len());
     stale.mark(size, at as usize, bytes.len());

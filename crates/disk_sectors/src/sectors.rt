@@ -1,11 +1,10 @@
 //! The contract of a device of sectors.
-ghost use Rattle.std.specs.Prelude.{◌≡◌, ◌+◌, ◌*◌, ◌^◌, ◌<◌, ◌≤◌, length, OnOk, OnErr, IsErrOf};
-ghost use Rattle.block_disk.specs.Device.{Device, SameMoments, synced, written};
-ghost use Rattle.block_disk.specs.Since.{IsSameOrTorn};
-ghost use Rattle.disk_sectors.specs.Size.{bytes_in, place_of, sector};
-ghost use Rattle.disk_sectors.specs.Readable.{IsLost};
+ghost use Rattle.std.specs.Prelude.{◌≡◌, ◌*◌, ◌^◌, ◌<◌, ◌≤◌, length, OnOk, OnErr, IsErrOf};
+ghost use Rattle.block_disk.specs.Device.{Device, SameMoments, synced};
+ghost use Rattle.disk_sectors.specs.Size.{bytes_in, sector};
 ghost use Rattle.disk_sectors.specs.declared.error.SectorError.TheVariants.{Unreadable};
 ghost use Rattle.disk_sectors.specs.declared.size.SectorSize.{SectorSize as Size};
+ghost use Rattle.disk_sectors.specs.Access.{HasNoMore, HasSector, Loses, PutsSector, Tears};
 
 use crate::error::SectorError;
 use crate::size::SectorSize;
@@ -31,19 +30,16 @@ pub trait Sectors {
     /// The number of whole sectors. No call changes it.
     fn count(&self) -> u64
         ensures within { result * bytes_in (of_size self.now) ≤ length (device self.now).now.bytes }
-        ensures whole { length (device self.now).now.bytes < result * bytes_in
-            (of_size self.now) + bytes_in (of_size self.now) }
+        ensures whole { HasNoMore (of_size self.now) result (device self.now) }
         ensures bound { length (device self.now).now.bytes < 2 ^ 64 };
 
     /// Reads a sector into `out`, whole. After an error any bytes may stand in `out`.
     fn read_sector(&mut self, number: u64, out: &mut [u8]) -> Result<(), SectorError>
         requires whole { length out.old ≡ bytes_in (of_size self.old) }
-        requires fits { place_of (of_size self.old) number + bytes_in (of_size self.old) ≤ length
-            (device self.old).now.bytes }
+        requires fits { HasSector (of_size self.old) number (device self.old) }
         ensures ok { OnOk result (out.new
             ≡ sector (of_size self.old) number (device self.old).now.bytes) }
-        ensures unreadable { IsErrOf result Unreadable
-            → IsLost (sector (of_size self.old) number (device self.old).now.bytes) }
+        ensures unreadable { IsErrOf result Unreadable → Loses (of_size self.old) number (device self.old) }
         ensures same { SameMoments (device self.old) (device self.new) }
         ensures size { of_size self.new ≡ of_size self.old };
 
@@ -51,15 +47,11 @@ pub trait Sectors {
     /// may a write that answers `Fault`.
     fn write_sector(&mut self, number: u64, bytes: &[u8]) -> Result<(), Fault>
         requires whole { length bytes.now ≡ bytes_in (of_size self.old) }
-        requires fits { place_of (of_size self.old) number + bytes_in (of_size self.old) ≤ length
-            (device self.old).now.bytes }
+        requires fits { HasSector (of_size self.old) number (device self.old) }
         // A sector that is written may hold any bytes after a crash, or be unreadable, until the next flush. Every
         // other sector stays.
-        ensures ok { OnOk result (device self.new
-            ≡ written (place_of (of_size self.old) number) bytes.now (device self.old)) }
-        ensures fault { OnErr result
-            (IsSameOrTorn (place_of (of_size self.old) number) (length bytes.now)
-            (device self.old) (device self.new)) }
+        ensures ok { OnOk result (PutsSector device (of_size self.old) number bytes.now self.old self.new) }
+        ensures fault { OnErr result (Tears device (of_size self.old) number bytes.now self.old self.new) }
         ensures size { of_size self.new ≡ of_size self.old };
 
     /// Makes what was written durable: from then on a crash leaves what a read gives. `Fault` fixes nothing.

@@ -1,15 +1,16 @@
 //! A disk in two places on a device of sectors.
-ghost use Rattle.std.specs.Prelude.{◌≡◌, ◌≢◌, ◌+◌, ◌*◌, ◌<◌, ◌≤◌, IfErr, IfOk, IsErrAnd, IsErrOf, IsOk, OnErr, OnOk, [], ◌∷◌, length, replicate, take};
+ghost use Rattle.std.specs.Prelude.{◌≡◌, ◌+◌, ◌*◌, ◌<◌, ◌≤◌, IfErr, IfOk, IsErrOf, IsOk, OnErr, OnOk, [], length};
 ghost use Rattle.block_disk.specs.Bytes.{part};
 ghost use Rattle.block_disk.specs.Device.{SameMoments, new_device, synced, unit_ranges, written, written_units};
 ghost use Rattle.block_disk.specs.Images.{Always, LeavesOnly};
-ghost use Rattle.block_disk.specs.Since.{CountsOneMore, HasFailedSince, IsSameOrTorn, LeavesBut, ReadsSameBut};
+ghost use Rattle.block_disk.specs.Since.{CountsOneMore, HasFailedSince, LeavesBut};
 ghost use Rattle.block_disk.specs.declared.error.DiskError.TheVariants.{Fault, OutOfRange};
-ghost use Rattle.disk_sectors.specs.Labels.{label_bytes};
-ghost use Rattle.disk_sectors.specs.Places.{IsAsFound, IsKept, Shows, shown};
-ghost use Rattle.disk_sectors.specs.Size.{place_of, sector};
-ghost use Rattle.disk_sectors.specs.Turns.{IsKeptDurable, its_sectors, room_of};
-ghost use Rattle.disk_sectors.specs.declared.error.PlacesError.TheVariants.{Fault as PlacesFault, TooSmall};
+ghost use Rattle.disk_sectors.specs.Places.{IsAsFound, IsKept};
+ghost use Rattle.disk_sectors.specs.Opened.{LiesOn};
+ghost use Rattle.disk_sectors.specs.Turns.{HasRoom, IsShownBy, KeepsBeyond, KeepsOthers, LacksRoom, LeavesBeyond, ShowsDisk};
+ghost use Rattle.disk_sectors.specs.Refusals.{IsNotTooSmall, IsSameOrTornBy, IsTooSmall, IsUntouched, RefusesRead, RefusesWrite};
+ghost use Rattle.disk_sectors.specs.Size.{zeros_in};
+ghost use Rattle.disk_sectors.specs.Labels.{HasLabel};
 
 use crate::error::PlacesError;
 use crate::gate::Gate;
@@ -69,19 +70,16 @@ impl<S: Sectors + Drop> TwoPlaces<S> {
         count: usize,
     ) -> Result<TwoPlaces<S>, (S, PlacesError)>
         // An opened disk is what the device stands for.
-        ensures ok { IfOk result (λ disk. disk.device
-            ≡ new_device (shown (S.of_size sectors) count (S.device sectors).now.bytes)) }
+        ensures ok { IfOk result (λ disk. IsShownBy S.device S.of_size count sectors disk.device) }
         ensures size { IfOk result (λ disk. (disk.size ≡ S.of_size sectors)
             × (disk.count ≡ count)) }
         // An opening flushes the device, and writes none of its sectors.
         ensures found { IfOk result (λ disk. IsAsFound (S.device sectors) disk.sectors) }
         // A device with fewer sectors than the label, the gate and two areas take is refused as too small, before all
         // else.
-        ensures too_small { length (S.device sectors).now.bytes < room_of (S.of_size sectors) count
-            → IsErrAnd result (λ back. back.1 ≡ TooSmall) }
+        ensures too_small { LacksRoom (S.of_size sectors) count (S.device sectors) → IsTooSmall result }
         // A device with room for the label, the gate and two areas isn't refused as too small.
-        ensures room { room_of (S.of_size sectors) count ≤ length (S.device sectors).now.bytes
-            → IfErr result (λ back. back.1 ≢ TooSmall) }
+        ensures room { HasRoom (S.of_size sectors) count (S.device sectors) → IsNotTooSmall result }
         // A refused opening has written none of the sectors, and at most flushed them.
         ensures err { IfErr result (λ back. IsAsFound (S.device sectors) (S.device back.0)) }
         // A refusal gives the sectors back, of the same size.
@@ -106,29 +104,22 @@ impl<S: Sectors + Drop> TwoPlaces<S> {
         count: usize,
     ) -> Result<TwoPlaces<S>, (S, PlacesError)>
         // A new disk has zeros.
-        ensures ok { IfOk result (λ disk. disk.device
-            ≡ new_device (replicate (place_of (S.of_size sectors) count) 0)) }
+        ensures ok { IfOk result (λ disk. disk.device ≡ new_device (zeros_in (S.of_size sectors) count)) }
         ensures size { IfOk result (λ disk. (disk.size ≡ S.of_size sectors)
             × (disk.count ≡ count)) }
         // A new disk begins with the label that tells the size and the number of its sectors.
-        ensures labelled { IfOk result
-            (λ disk. take 16 disk.sectors.now.bytes ≡ label_bytes (S.of_size sectors) count) }
+        ensures labelled { IfOk result (λ disk. HasLabel (S.of_size sectors) count disk.sectors) }
         // A new disk has nothing pending on its device.
         ensures durable { IfOk result (λ disk. disk.sectors.now.pending ≡ []) }
         // A device with fewer sectors than the label, the gate and two areas take is refused as too small, before all
         // else.
-        ensures too_small { length (S.device sectors).now.bytes < room_of (S.of_size sectors) count
-            → IsErrAnd result (λ back. back.1 ≡ TooSmall) }
+        ensures too_small { LacksRoom (S.of_size sectors) count (S.device sectors) → IsTooSmall result }
         // A device with room for the label, the gate and two areas isn't refused as too small.
-        ensures room { room_of (S.of_size sectors) count ≤ length (S.device sectors).now.bytes
-            → IfErr result (λ back. back.1 ≢ TooSmall) }
+        ensures room { HasRoom (S.of_size sectors) count (S.device sectors) → IsNotTooSmall result }
         // A refused making has changed nothing, but where it answers `Fault`.
-        ensures untouched { IfErr result (λ back. back.1 ≢ PlacesFault
-            → S.device back.0 ≡ S.device sectors) }
+        ensures untouched { IfErr result (λ back. IsUntouched S.device back.1 sectors back.0) }
         // A refused making has changed no byte after those that the disk was to have.
-        ensures beyond { IfErr result
-            (λ back. ReadsSameBut (its_sectors (S.of_size sectors) count ∷ []) (S.device sectors)
-            (S.device back.0)) }
+        ensures beyond { IfErr result (λ back. KeepsOthers S.device S.of_size count sectors back.0) }
         // A refusal gives the sectors back, of the same size.
         ensures back { IfErr result (λ back. S.of_size back.0 ≡ S.of_size sectors) }
     {
@@ -142,8 +133,7 @@ impl<S: Sectors + Drop> TwoPlaces<S> {
     // The disk of these bytes, which lie on the device as is said.
     fn holding(sectors: S, size: SectorSize, found: Found) -> TwoPlaces<S>
         requires size { S.of_size sectors ≡ size }
-        requires kept { IsKeptDurable size found.gate.is_firm found.gate.turn found.fresh
-            found.stale found.image.items (S.device sectors) }
+        requires kept { LiesOn size found (S.device sectors) }
         ensures device { result.device ≡ new_device found.image.items }
         ensures sectors { result.sectors ≡ S.device sectors }
         ensures size { (result.size ≡ size) × (result.count ≡ length found.fresh) }
@@ -172,9 +162,7 @@ impl<S: Sectors + Drop> TwoPlaces<S> {
     pub fn possible_law(&self)
         // Whatever a crash may leave of the device now stands for what a crash may leave of the disk now, under the
         // device's own label.
-        ensures { Always self.now.sectors
-            (Shows self.now.size self.now.count
-            (sector self.now.size 0 self.now.sectors.now.bytes) self.now.device.now) }
+        ensures { Always self.now.sectors (ShowsDisk self.now) }
     {
         let _ = &self.image;
     }
@@ -192,9 +180,7 @@ impl<S: Sectors + Drop> Disk for TwoPlaces<S> {
         ensures in_range { OnOk result (at + length out.old ≤ length self.old.device.now.bytes) }
         ensures ok { OnOk result (out.new ≡ part at (length out.old) self.old.device.now.bytes) }
         ensures same { OnOk result (self.new.device ≡ self.old.device) }
-        ensures out_of_range { IsErrOf result OutOfRange
-            → (length self.old.device.now.bytes < at + length out.old) × (out.new ≡ out.old)
-            × (self.new.device ≡ self.old.device) }
+        ensures out_of_range { RefusesRead at out.old out.new self.old.device self.new.device result }
         ensures fault { IsErrOf result Fault → SameMoments self.old.device self.new.device }
         ensures cause { IsErrOf result Fault → HasFailedSince self.old.device self.new.device }
         ensures counted { IsErrOf result Fault → CountsOneMore self.old.device self.new.device }
@@ -213,11 +199,8 @@ impl<S: Sectors + Drop> Disk for TwoPlaces<S> {
     fn write_at(&mut self, at: u64, bytes: &[u8]) -> Result<(), DiskError>
         ensures in_range { OnOk result (at + length bytes.now ≤ length self.old.device.now.bytes) }
         ensures ok { OnOk result (self.new.device ≡ written at bytes.now self.old.device) }
-        ensures out_of_range { IsErrOf result OutOfRange
-            → (length self.old.device.now.bytes < at + length bytes.now)
-            × (self.new.device ≡ self.old.device) }
-        ensures fault { IsErrOf result Fault
-            → IsSameOrTorn at (length bytes.now) self.old.device self.new.device }
+        ensures out_of_range { RefusesWrite at bytes.now self.old.device self.new.device result }
+        ensures fault { IsErrOf result Fault → IsSameOrTornBy at bytes.now self.old.device self.new.device }
         ensures cause { IsErrOf result Fault → HasFailedSince self.old.device self.new.device }
         ensures counted { IsErrOf result Fault → CountsOneMore self.old.device self.new.device }
         // A write never answers a fault.
@@ -278,16 +261,12 @@ impl<S: Sectors + Drop> Disk for TwoPlaces<S> {
         ensures counted { IsErrOf result Fault → CountsOneMore self.old.device self.new.device }
         // Whatever a crash leaves at any moment of a sync stands for what a crash of the disk might have left before
         // the sync, whatever the sync answers.
-        ensures any_moment { LeavesOnly self.old.sectors self.new.sectors
-            (Shows self.old.size self.old.count
-            (sector self.old.size 0 self.old.sectors.now.bytes) self.old.device.now) }
+        ensures any_moment { LeavesOnly self.old.sectors self.new.sectors (ShowsDisk self.old) }
         // Whatever a crash leaves at any moment of a sync differs from what one before might have left in the label,
         // the gate and the areas alone.
-        ensures within { LeavesBut (its_sectors self.old.size self.old.count ∷ []) self.old.sectors
-            self.new.sectors }
+        ensures within { LeavesBeyond self.old.size self.old.count self.old.sectors self.new.sectors }
         // A sync writes no sector after the areas.
-        ensures beyond { ReadsSameBut
-            (its_sectors self.old.size self.old.count ∷ []) self.old.sectors self.new.sectors }
+        ensures beyond { KeepsBeyond self.old.size self.old.count self.old.sectors self.new.sectors }
         ensures count { (self.new.size ≡ self.old.size) × (self.new.count ≡ self.old.count) }
     {
         match sync_places(
