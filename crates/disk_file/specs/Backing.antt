@@ -1,7 +1,7 @@
 -- The file behind a disk, as far as it is known what it holds (this project's own).
-use Rattle.std.specs.Prelude.{◌≡◌, ℕ, List, [], ◌∷◌, length, Option, IfSome, IsSomeAnd}
-use Rattle.block_disk.specs.Bytes.{spliced}
-use Rattle.block_disk.specs.Device.{Range, Moment, Image, IsClear, SameOutside, range_of}
+use Rattle.std.specs.Prelude.{◌≡◌, ℕ, List, [], ◌∷◌, ◌++◌, length, Option, IfSome, IsSomeAnd}
+use Rattle.block_disk.specs.Bytes.{part, spliced}
+use Rattle.block_disk.specs.Device.{Range, Moment, Image, IsClear, IsOutside, SameOutside, range_of}
 
 -- What a file holds: the bytes that it reads, and what its device keeps of it: the bytes that it has there once a sync succeeds, and the ranges
 -- that were written since the last one. A file that was found may read bytes that its device hasn't: where a sync of another process has failed,
@@ -69,3 +69,24 @@ ReadsOverAny bytes file = IfSome file (λ h. (h.reads ≡ bytes) × (length h.ke
 -- whatever a crash leaves of it now, a crash may leave of a device at this moment
 abbrev pub CrashesAs : Moment → Option Held → Type 0
 CrashesAs m file = IfSome file (λ h. (image : List ℕ) → Image h.kept image → Image m image)
+
+-- the file, if it is known, reads these bytes at this place, so many from there on
+abbrev pub GivesPart : (at len : ℕ) → (bytes : List ℕ) → Option Held → Type 0
+GivesPart at len bytes file = IfSome file (λ h. bytes ≡ part at len h.reads)
+
+-- a file that had the bytes but for some ranges, this one among them, has them but for the others
+abbrev pub Mends : Range → List ℕ → (old new : Option Held) → Type 0
+Mends span bytes old new = (ranges : List Range) → HasBut (span ∷ ranges) bytes old → HasBut ranges bytes new
+
+-- a file that had the bytes but for some ranges, this one among them, still has them but for these
+abbrev pub StaysBut : Range → List ℕ → (old new : Option Held) → Type 0
+StaysBut span bytes old new = (ranges : List Range) → HasBut (span ∷ ranges) bytes old → HasBut (span ∷ ranges) bytes new
+
+-- where nothing was pending outside of some ranges that take this one in, nothing is
+abbrev pub WaitsWithin : Range → (old new : Option Held) → Type 0
+WaitsWithin span old new =
+    (ranges : List Range) → ((i : ℕ) → IsClear i ranges → IsOutside i span) → IsPendingIn ranges old → IsPendingIn ranges new
+
+-- a file that had so many bytes has these too, after its own
+abbrev pub Appends : (at : ℕ) → (more : List ℕ) → (old new : Option Held) → Type 0
+Appends at more old new = (done : List ℕ) → length done ≡ at → Has done old → Has (done ++ more) new

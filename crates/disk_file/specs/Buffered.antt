@@ -1,6 +1,6 @@
 -- Disks whose bytes reach a file at each sync, or at each write (this project's own).
-use Rattle.std.specs.Prelude.{◌≡◌, ℕ, Bool, false, ◌+◌, ◌≤◌, List, [], ◌∷◌, All, length, Option}
-use Rattle.block_disk.specs.Device.{Range, Device, IsClear}
+use Rattle.std.specs.Prelude.{◌≡◌, ℕ, Bool, false, ◌+◌, ◌≤◌, List, [], ◌∷◌, ◌++◌, All, IsTrue, length, Option, if◌then◌else◌}
+use Rattle.block_disk.specs.Device.{Range, Device, IsClear, IsOutside}
 use Rattle.disk_file.specs.Backing.{Held, Has, HasBut, IsPendingIn}
 
 -- the range lies within a disk of this size
@@ -26,6 +26,30 @@ LastCovers r (s ∷ t ∷ rs) = LastCovers r (t ∷ rs)
 abbrev pub HasNewest : (pending unwritten : List Range) → Type 0
 HasNewest [] unwritten = Unit {0}
 HasNewest (r ∷ older) unwritten = LastCovers r unwritten
+
+-- what is outside of each of the first ranges is outside of each of the others
+abbrev pub Covers : (ranges others : List Range) → Type 0
+Covers ranges others = (i : ℕ) → IsClear i ranges → IsClear i others
+
+-- these ranges, and one more
+abbrev pub and_range : (start len : ℕ) → List Range → List Range
+and_range start len ranges = record { start = start; len = len } ∷ ranges
+
+-- these ranges, and this one after them if it is kept
+abbrev pub kept_after : (is_kept : Bool) → Range → List Range → List Range
+kept_after k r ranges = if k then ranges ++ r ∷ [] else ranges
+
+-- a range is joined that begins within one that the last range covers, or right behind it
+abbrev pub JoinsWhere : (start : ℕ) → List Range → (is_joined : Bool) → Type 0
+JoinsWhere start ranges k = (r : Range) → LastCovers r ranges → r.start ≤ start → start ≤ r.start + r.len → IsTrue k
+
+-- what is outside of this range is outside of both
+abbrev pub TakesBoth : (last : Range) → (start len : ℕ) → Range → Type 0
+TakesBoth last start len both = (i : ℕ) → IsOutside i both → IsOutside i last × IsOutside i (record { start = start; len = len })
+
+-- what is outside of both is outside of it
+abbrev pub TakesNoMore : (last : Range) → (start len : ℕ) → Range → Type 0
+TakesNoMore last start len both = (i : ℕ) → IsOutside i last → IsOutside i (record { start = start; len = len }) → IsOutside i both
 
 -- The bytes are those that the device reads. Those that may not be in the file are pending, and the file reads the others, and keeps them.
 pub record IsBuffered (d : Device) (bytes : List ℕ) (unwritten : List Range) (file : Option Held) : Type 0 where

@@ -1,7 +1,6 @@
 //! The file that a disk writes to.
 ghost use Rattle.std.specs.Prelude.{◌≡◌, Option, None, length, OnOk, OnErr, IfOk, IfSome, option_map};
-ghost use Rattle.disk_file.specs.Backing.{Held, emptied, put_at, settled, TornFile, Unsettled};
-ghost use Rattle.block_disk.specs.Bytes.{part};
+ghost use Rattle.disk_file.specs.Backing.{GivesPart, Held, TornFile, Unsettled, emptied, put_at, settled};
 
 use std::fs::{File, TryLockError};
 use std::io;
@@ -40,8 +39,7 @@ pub trait BackingFile {
 
     /// Reads the bytes from `at` on into `out`, whole; there is an error where the file ends before.
     fn read_from(&mut self, at: u64, out: &mut [u8]) -> io::Result<()>
-        ensures ok { OnOk result (IfSome (holds self.old)
-            (λ h. out.new ≡ part at (length out.old) h.reads)) }
+        ensures ok { OnOk result (GivesPart at (length out.old) out.new (holds self.old)) }
         ensures same { holds self.new ≡ holds self.old };
 
     /// Writes all these bytes at `at`. After an error there may be any bytes in their range.

@@ -1,11 +1,12 @@
 //! A disk whose bytes reach a file at each sync.
-ghost use Rattle.std.specs.Prelude.{◌≡◌, ◌+◌, ◌*◌, ◌<◌, ◌≤◌, ◌∷◌, ℕ, List, length, replicate, IfOk, IfSome, IsErrOf, IsOk, OnErr, OnOk};
+ghost use Rattle.std.specs.Prelude.{◌≡◌, ◌+◌, ◌*◌, ◌<◌, ◌≤◌, length, replicate, IfOk, IfSome, IsErrOf, IsOk, OnErr, OnOk};
 ghost use Rattle.block_disk.specs.Bytes.{part};
-ghost use Rattle.disk_file.specs.Backing.{CrashesAs, Has, HasBut, IsPendingIn, ReadsForGood};
-ghost use Rattle.block_disk.specs.Device.{Image, IsClear, IsOutside, Range, SameMoments, new_device, synced, unit_ranges, written, written_units};
-ghost use Rattle.block_disk.specs.Since.{CountsOneMore, HasFailedSince, IsSameOrTorn, LeavesBut};
+ghost use Rattle.disk_file.specs.Backing.{CrashesAs, Has, HasBut, IsPendingIn, Mends, ReadsForGood, StaysBut, WaitsWithin};
+ghost use Rattle.block_disk.specs.Device.{Image, SameMoments, new_device, synced, unit_ranges, written, written_units};
+ghost use Rattle.block_disk.specs.Since.{CountsOneMore, HasFailedSince, LeavesBut};
 ghost use Rattle.block_disk.specs.declared.error.DiskError.TheVariants.{Fault, OutOfRange};
 ghost use Rattle.disk_file.specs.Buffered.{AllWithin, GoesOn, IsWithin};
+ghost use Rattle.disk_file.specs.Refusals.{IsBeyond, IsSameOrTornBy, RefusesRead, RefusesWrite};
 
 use crate::backing::BackingFile;
 use crate::error::FileError;
@@ -138,9 +139,7 @@ impl<F: BackingFile + Drop> Disk for BufferedDisk<F> {
         ensures in_range { OnOk result (at + length out.old ≤ length self.old.device.now.bytes) }
         ensures ok { OnOk result (out.new ≡ part at (length out.old) self.old.device.now.bytes) }
         ensures same { OnOk result (self.new.device ≡ self.old.device) }
-        ensures out_of_range { IsErrOf result OutOfRange
-            → (length self.old.device.now.bytes < at + length out.old) × (out.new ≡ out.old)
-            × (self.new.device ≡ self.old.device) }
+        ensures out_of_range { RefusesRead at out.old out.new self.old.device self.new.device result }
         ensures fault { IsErrOf result Fault → SameMoments self.old.device self.new.device }
         ensures cause { IsErrOf result Fault → HasFailedSince self.old.device self.new.device }
         ensures counted { IsErrOf result Fault → CountsOneMore self.old.device self.new.device }
@@ -159,16 +158,12 @@ impl<F: BackingFile + Drop> Disk for BufferedDisk<F> {
     fn write_at(&mut self, at: u64, bytes: &[u8]) -> Result<(), DiskError>
         ensures in_range { OnOk result (at + length bytes.now ≤ length self.old.device.now.bytes) }
         ensures ok { OnOk result (self.new.device ≡ written at bytes.now self.old.device) }
-        ensures out_of_range { IsErrOf result OutOfRange
-            → (length self.old.device.now.bytes < at + length bytes.now)
-            × (self.new.device ≡ self.old.device) }
-        ensures fault { IsErrOf result Fault
-            → IsSameOrTorn at (length bytes.now) self.old.device self.new.device }
+        ensures out_of_range { RefusesWrite at bytes.now self.old.device self.new.device result }
+        ensures fault { IsErrOf result Fault → IsSameOrTornBy at bytes.now self.old.device self.new.device }
         ensures cause { IsErrOf result Fault → HasFailedSince self.old.device self.new.device }
         ensures counted { IsErrOf result Fault → CountsOneMore self.old.device self.new.device }
         ensures untorn { IsErrOf result Fault → SameMoments self.old.device self.new.device }
-        ensures beyond { length self.old.device.now.bytes < at + length bytes.now
-            → IsErrOf result OutOfRange }
+        ensures beyond { IsBeyond at bytes.now self.old.device → IsErrOf result OutOfRange }
         // A write that begins within the last pending range, or right after it, can't fail, for want of memory either.
         ensures goes_on { GoesOn at self.old.device.now.pending → ¬ IsErrOf result Fault }
         // A write leaves the file as it was.
@@ -272,15 +267,9 @@ fn write_spans<F: BackingFile>(file: &mut F, spans: &[Span], bytes: &[u8]) -> io
 // Writes these bytes in one range.
 fn write_span<F: BackingFile>(file: &mut F, span: &Span, bytes: &[u8]) -> io::Result<()>
     requires { IsWithin (length bytes.now) span.now }
-    ensures ok { (ranges : List Range) → OnOk result (
-        HasBut (span.now ∷ ranges) bytes.now (F.holds file.old)
-        → HasBut ranges bytes.now (F.holds file.new)) }
-    ensures near { (ranges : List Range) → OnErr result (
-        HasBut (span.now ∷ ranges) bytes.now (F.holds file.old)
-        → HasBut (span.now ∷ ranges) bytes.now (F.holds file.new)) }
-    ensures waits { (ranges : List Range) → ((i : ℕ) → IsClear i ranges → IsOutside i span.now)
-        → IsPendingIn ranges (F.holds file.old)
-        → IsPendingIn ranges (F.holds file.new) }
+    ensures ok { OnOk result (Mends span.now bytes.now (F.holds file.old) (F.holds file.new)) }
+    ensures near { OnErr result (StaysBut span.now bytes.now (F.holds file.old) (F.holds file.new)) }
+    ensures waits { WaitsWithin span.now (F.holds file.old) (F.holds file.new) }
 {
     let start = span.start() as usize;
     file.write_to(span.start(), &bytes[start..start + span.len() as usize])

@@ -1,11 +1,13 @@
 //! A disk each of whose writes reaches its file at once.
-ghost use Rattle.std.specs.Prelude.{◌≡◌, ◌+◌, ◌<◌, ◌≤◌, ◌↔◌, IsTrue, IsFalse, length, replicate, OnOk, OnErr, IfOk, IfSome, IsErrOf};
+ghost use Rattle.std.specs.Prelude.{◌≡◌, ◌+◌, ◌≤◌, ◌↔◌, IsTrue, IsFalse, length, replicate, OnOk, OnErr, IfOk, IfSome, IsErrOf};
 ghost use Rattle.block_disk.specs.Bytes.{part};
 ghost use Rattle.block_disk.specs.Device.{SameMoments, new_device, synced, written};
-ghost use Rattle.block_disk.specs.Since.{CountsOneMore, HasFailedSince, IsSameOrTorn};
+ghost use Rattle.block_disk.specs.Since.{CountsOneMore, HasFailedSince};
 ghost use Rattle.block_disk.specs.declared.error.DiskError.TheVariants.{Fault, OutOfRange};
-ghost use Rattle.disk_file.specs.Backing.{Has, HasBut, IsPendingIn, Reads, ReadsForGood};
+ghost use Rattle.disk_file.specs.Backing.{GivesPart, Has, HasBut, IsPendingIn, ReadsForGood};
 ghost use Rattle.disk_file.specs.Buffered.{AllWithin};
+ghost use Rattle.disk_file.specs.Refusals.{IsBeyond, IsSameOrTornBy, RefusesRead, RefusesWrite};
+ghost use Rattle.disk_file.specs.Mirror.{IsCurrent};
 
 use crate::backing::BackingFile;
 use crate::buffered::flush;
@@ -136,17 +138,13 @@ impl<F: BackingFile + Drop> Disk for FileDisk<F> {
         ensures in_range { OnOk result (at + length out.old ≤ length self.old.device.now.bytes) }
         ensures ok { OnOk result (out.new ≡ part at (length out.old) self.old.device.now.bytes) }
         ensures same { OnOk result (self.new.device ≡ self.old.device) }
-        ensures out_of_range { IsErrOf result OutOfRange
-            → (length self.old.device.now.bytes < at + length out.old) × (out.new ≡ out.old)
-            × (self.new.device ≡ self.old.device) }
+        ensures out_of_range { RefusesRead at out.old out.new self.old.device self.new.device result }
         ensures fault { IsErrOf result Fault → SameMoments self.old.device self.new.device }
         ensures cause { IsErrOf result Fault → HasFailedSince self.old.device self.new.device }
         ensures counted { IsErrOf result Fault → CountsOneMore self.old.device self.new.device }
-        ensures beyond { length self.old.device.now.bytes < at + length out.old
-            → IsErrOf result OutOfRange }
+        ensures beyond { IsBeyond at out.old self.old.device → IsErrOf result OutOfRange }
         // Bytes that a disk over a file reads are what its file has too.
-        ensures agrees { OnOk result
-            (IfSome self.old.file (λ h. out.new ≡ part at (length out.old) h.reads)) }
+        ensures agrees { OnOk result (GivesPart at (length out.old) out.new self.old.file) }
         ensures file { self.new.file ≡ self.old.file }
     {
         if !lies_within(at, out.len(), self.bytes.len()) {
@@ -165,20 +163,15 @@ impl<F: BackingFile + Drop> Disk for FileDisk<F> {
     fn write_at(&mut self, at: u64, bytes: &[u8]) -> Result<(), DiskError>
         ensures in_range { OnOk result (at + length bytes.now ≤ length self.old.device.now.bytes) }
         ensures ok { OnOk result (self.new.device ≡ written at bytes.now self.old.device) }
-        ensures out_of_range { IsErrOf result OutOfRange
-            → (length self.old.device.now.bytes < at + length bytes.now)
-            × (self.new.device ≡ self.old.device) }
-        ensures fault { IsErrOf result Fault
-            → IsSameOrTorn at (length bytes.now) self.old.device self.new.device }
+        ensures out_of_range { RefusesWrite at bytes.now self.old.device self.new.device result }
+        ensures fault { IsErrOf result Fault → IsSameOrTornBy at bytes.now self.old.device self.new.device }
         ensures cause { IsErrOf result Fault → HasFailedSince self.old.device self.new.device }
         ensures counted { IsErrOf result Fault → CountsOneMore self.old.device self.new.device }
-        ensures beyond { length self.old.device.now.bytes < at + length bytes.now
-            → IsErrOf result OutOfRange }
+        ensures beyond { IsBeyond at bytes.now self.old.device → IsErrOf result OutOfRange }
         // A write out of range leaves the file alone.
         ensures untouched { IsErrOf result OutOfRange → self.new ≡ self.old }
         // A write that succeeds leaves a file that read the device's bytes reading them.
-        ensures mirrored { OnOk result (Reads self.old.device.now.bytes self.old.file
-            → Reads self.new.device.now.bytes self.new.file) }
+        ensures mirrored { OnOk result (IsCurrent self.old → IsCurrent self.new) }
     {
         let size = self.bytes.len();
         if !lies_within(at, bytes.len(), size) {

@@ -1,7 +1,7 @@
 //! Bytes that were written and aren't yet in a file.
-ghost use Rattle.std.specs.Prelude.{◌≡◌, ◌↔◌, ◌+◌, ◌≤◌, ◌∷◌, ◌++◌, [], ℕ, IsTrue, IsFalse, if◌then◌else◌};
-ghost use Rattle.block_disk.specs.Device.{IsClear, IsOutside, Range};
-ghost use Rattle.disk_file.specs.Buffered.{AllWithin, IsWithin, LastCovers};
+ghost use Rattle.std.specs.Prelude.{◌≡◌, ◌↔◌, ◌+◌, ◌≤◌, IsTrue, IsFalse, if◌then◌else◌};
+ghost use Rattle.block_disk.specs.Device.{Range};
+ghost use Rattle.disk_file.specs.Buffered.{AllWithin, Covers, IsWithin, JoinsWhere, LastCovers, TakesBoth, TakesNoMore, and_range, kept_after};
 
 use std::marker::Model;
 
@@ -49,16 +49,12 @@ pub(crate) fn add(spans: &mut Vec<Span>, start: u64, len: u64, size: u64) -> boo
     requires others { AllWithin size spans.old.items }
     ensures within { AllWithin size spans.new.items }
     // The ranges that a sync writes cover all that was written since the last sync that succeeded.
-    ensures covered { IsTrue result → (i : ℕ) → IsClear i spans.new.items
-        → IsClear i (record { start = start; len = len } ∷ spans.old.items) }
+    ensures covered { IsTrue result → Covers spans.new.items (and_range start len spans.old.items) }
     // The ranges that a sync writes have no byte that wasn't written since the last sync that succeeded.
-    ensures exact { IsTrue result → (i : ℕ)
-        → IsClear i (record { start = start; len = len } ∷ spans.old.items)
-        → IsClear i spans.new.items }
+    ensures exact { IsTrue result → Covers (and_range start len spans.old.items) spans.new.items }
     ensures newest { IsTrue result
         → LastCovers (record { start = start; len = len }) spans.new.items }
-    ensures goes_on { (r : Range) → LastCovers r spans.old.items → r.start ≤ start
-        → start ≤ r.start + r.len → IsTrue result }
+    ensures goes_on { JoinsWhere start spans.old.items result }
     ensures same { IsFalse result → spans.new.items ≡ spans.old.items }
 {
     if join(spans, start, len, size) {
@@ -72,8 +68,7 @@ fn push(spans: &mut Vec<Span>, span: Span, size: u64) -> bool
     requires within { IsWithin size span }
     requires others { AllWithin size spans.old.items }
     ensures within { AllWithin size spans.new.items }
-    ensures added { spans.new.items ≡ (if result then spans.old.items ++ span ∷ []
-        else spans.old.items) }
+    ensures added { spans.new.items ≡ kept_after result span spans.old.items }
 {
     spans.push(span).is_ok()
 }
@@ -83,15 +78,11 @@ fn join(spans: &mut Vec<Span>, start: u64, len: u64, size: u64) -> bool
     requires within { start + len ≤ size }
     requires others { AllWithin size spans.old.items }
     ensures within { AllWithin size spans.new.items }
-    ensures covered { IsTrue result → (i : ℕ) → IsClear i spans.new.items
-        → IsClear i (record { start = start; len = len } ∷ spans.old.items) }
-    ensures exact { IsTrue result → (i : ℕ)
-        → IsClear i (record { start = start; len = len } ∷ spans.old.items)
-        → IsClear i spans.new.items }
+    ensures covered { IsTrue result → Covers spans.new.items (and_range start len spans.old.items) }
+    ensures exact { IsTrue result → Covers (and_range start len spans.old.items) spans.new.items }
     ensures newest { IsTrue result
         → LastCovers (record { start = start; len = len }) spans.new.items }
-    ensures goes_on { (r : Range) → LastCovers r spans.old.items → r.start ≤ start
-        → start ≤ r.start + r.len → IsTrue result }
+    ensures goes_on { JoinsWhere start spans.old.items result }
     ensures same { IsFalse result → spans.new.items ≡ spans.old.items }
 {
     let count = spans.len();
@@ -122,11 +113,9 @@ fn joined(last: Span, start: u64, len: u64, size: u64) -> Span
     requires low { last.start ≤ start }
     requires high { start ≤ last.start + last.len }
     ensures within { IsWithin size result }
-    ensures both { (i : ℕ) → IsOutside i result → IsOutside i last
-        × IsOutside i (record { start = start; len = len }) }
+    ensures both { TakesBoth last start len result }
     ensures covers { (result.start ≤ start) × (start + len ≤ result.start + result.len) }
-    ensures exact { (i : ℕ) → IsOutside i last → IsOutside i (record { start = start; len = len })
-        → IsOutside i result }
+    ensures exact { TakesNoMore last start len result }
 {
     let _size = size;
     let first = last.start();

@@ -1,6 +1,6 @@
 //! All bytes of a file.
-ghost use Rattle.std.specs.Prelude.{◌≡◌, ◌++◌, [], ℕ, List, length, IfOk, OnOk};
-ghost use Rattle.disk_file.specs.Backing.{Has, Reads, ReadsForGood, ReadsOverAny};
+ghost use Rattle.std.specs.Prelude.{[], IfOk, OnOk};
+ghost use Rattle.disk_file.specs.Backing.{Appends, Has, Reads, ReadsForGood, ReadsOverAny};
 
 use crate::backing::BackingFile;
 use crate::buffered::flush;
@@ -57,9 +57,7 @@ fn write_in_pieces<F: BackingFile>(file: &mut F, bytes: &[u8]) -> io::Result<()>
 
 // Writes these bytes at the end of a file that has so many.
 fn write_behind<F: BackingFile>(file: &mut F, at: u64, piece: &[u8]) -> io::Result<()>
-    ensures { (done : List ℕ) → length done ≡ at
-        → OnOk result (Has done (F.holds file.old)
-        → Has (done ++ piece.now) (F.holds file.new)) }
+    ensures { OnOk result (Appends at piece.now (F.holds file.old) (F.holds file.new)) }
 {
     file.write_to(at, piece)
 }
