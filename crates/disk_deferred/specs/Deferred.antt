@@ -4,7 +4,7 @@ use Rattle.std.specs.Global.{Global}
 use Rattle.rtrb.specs.declared.producer.Producer.{Producer}
 use Rattle.block_disk.specs.Device.{Device}
 use Rattle.block_disk.specs.Memory.{Memory, Stop, Wrote, Synced, bytes_after, device_of, failed, units_onto}
-use Rattle.disk_deferred.specs.Joined.{AllFit, AreShortWrites, IsAtSync, at_sync, join_units, join_write, joined}
+use Rattle.disk_deferred.specs.Joined.{AllFit, AreShortWrites, IsAtSync, TakesAllOrNone, at_sync, join_units, join_write, joined}
 use Rattle.disk_deferred.specs.Names.{name_of}
 use Rattle.disk_deferred.specs.declared.call.DeviceCall.{DeviceCall}
 use Rattle.disk_deferred.specs.declared.call.DeviceCall.TheVariants.{Write, Sync}
@@ -81,3 +81,7 @@ units_on n at units m = record m { stops = units_onto n at units m.stops }
 -- fewer of these units than all were written, and a call has failed
 abbrev pub FailsAmong : (count at : ℕ) → List ℕ → (old new : Memory) → Type 0
 FailsAmong count at units old new = (kept : ℕ) × (kept < count) × (new ≡ failed (units_on kept at units old))
+
+-- after any stops that end with a sync, the last of the kept calls takes so many units at this place, or not even one
+abbrev pub LastTakes : (n at : ℕ) → List DeviceCall → Type 0
+LastTakes n at calls = (before : List Stop) → IsAtSync before → TakesAllOrNone n at (onto before calls)

@@ -85,3 +85,7 @@ TakesBatch old new result = MatchOption result (stops_in (received new) ≡ stop
 -- where a batch is known to be in the ring, its calls are given
 abbrev pub GivesKnown : Consumer Handed Global Handing → Option (Vec DeviceCall Global) → Type 0
 GivesKnown old result = (next : Handed) (more : List Handed) → known_items old ≡ next ∷ more → IsSomeAnd result (λ calls. calls.items ≡ calls_in next)
+
+-- this call is the first of these
+abbrev pub IsFirst : DeviceCall → List DeviceCall → Type 0
+IsFirst call calls = (later : List DeviceCall) × (calls ≡ call ∷ later)

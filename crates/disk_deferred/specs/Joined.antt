@@ -40,6 +40,10 @@ abbrev pub TakesAllOrNone : (n at : ℕ) → List Stop → Type 0
 TakesAllOrNone n at [] = Unit {0}
 TakesAllOrNone n at (newest ∷ older) = (goes_on_with newest at (n * 16) ≡ true) ⊎ (goes_on_with newest at 16 ≡ false)
 
+-- the write, with these bytes after its own if there was memory for them
+abbrev pub longer_if : (is_kept : Bool) → Stop → List ℕ → Stop
+longer_if k stop more = if k then longer stop more else stop
+
 -- these calls, and one more
 abbrev pub join : Stop → List Stop → List Stop
 join (Wrote at more) calls = join_write at more calls

@@ -2,6 +2,7 @@
 pub mod Joined
 pub mod Names
 pub mod Deferred
+pub mod DiskCalls
 pub mod Syncs
 pub mod Host
 pub mod Handing

@@ -26,9 +26,9 @@ pub(crate) enum Handed {
 }
 
 impl DeviceCall {
-    ghost use Rattle.std.specs.Prelude.{◌≡◌, ◌<◌, ◌*◌, true, false, length, if◌then◌else◌};
+    ghost use Rattle.std.specs.Prelude.{◌≡◌, ◌<◌, ◌*◌, true, false};
     ghost use Rattle.disk_deferred.specs.Deferred.{stop_of};
-    ghost use Rattle.disk_deferred.specs.Joined.{goes_on_with, longer};
+    ghost use Rattle.disk_deferred.specs.Joined.{goes_on_with, longer_if};
 
     /// Whether a write of so many bytes at `at` goes on where this one ended, and both together have [`MOST_BYTES`] at most.
     pub(crate) fn takes(&self, at: u64, size: usize) -> bool
@@ -56,8 +56,7 @@ impl DeviceCall {
 
     /// Writes these bytes too, after its own, if there is memory for them.
     pub(crate) fn lengthen(&mut self, more: &[u8]) -> bool
-        ensures { stop_of self.new ≡ (if result then longer (stop_of self.old) more.now
-            else stop_of self.old) }
+        ensures { stop_of self.new ≡ longer_if result (stop_of self.old) more.now }
     {
         match self {
             DeviceCall::Write { bytes, .. } => bytes.extend_from_slice(more).is_ok(),

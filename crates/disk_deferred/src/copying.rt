@@ -1,6 +1,4 @@
 //! A copy of a deferred disk's bytes.
-ghost use Rattle.std.specs.Prelude.{◌≡◌, ◌≤◌, ◌+◌, ◌++◌, drop, length};
-ghost use Rattle.block_disk.specs.Bytes.{part};
 ghost use Rattle.disk_deferred.specs.Copying.{CopiesFrom};
 ghost use Rattle.disk_deferred.specs.Deferred.{deferred_device};
 

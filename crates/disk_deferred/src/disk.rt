@@ -1,17 +1,17 @@
 //! A disk in memory that hands its calls over.
-ghost use Rattle.std.specs.Prelude.{◌≡◌, ◌+◌, ◌*◌, ◌^◌, ◌<◌, ◌≤◌, ℕ, List, [], ◌∷◌, ◌++◌, length, replicate, OnOk, OnErr, IfOk, IsErrOf, if◌then◌else◌};
+ghost use Rattle.std.specs.Prelude.{◌≡◌, ◌+◌, ◌*◌, ◌^◌, ◌<◌, ◌≤◌, [], ◌∷◌, ◌++◌, length, replicate, OnOk, OnErr, IfOk, IsErrOf, if◌then◌else◌};
 ghost use Rattle.block_disk.specs.Bytes.{part};
-ghost use Rattle.block_disk.specs.Device.{SameMoments, synced, unit_ranges, written, written_units};
-ghost use Rattle.block_disk.specs.Memory.{Stop, Synced, Wrote, failed, fresh, stopped};
-ghost use Rattle.block_disk.specs.Since.{CountsOneMore, HasFailedSince, IsSameOrTorn, LeavesBut};
+ghost use Rattle.block_disk.specs.Device.{synced};
+ghost use Rattle.block_disk.specs.Memory.{Synced, Wrote, failed, fresh, stopped};
 ghost use Rattle.block_disk.specs.declared.error.DiskError.TheVariants.{Fault, OutOfRange};
-ghost use Rattle.disk_deferred.specs.Deferred.{FailsAmong, KeepsCall, KeepsUnits, KeepsWrite, deferred_device, onto, stops_in, units_on};
+ghost use Rattle.disk_deferred.specs.Deferred.{FailsAmong, KeepsCall, KeepsUnits, KeepsWrite, LastTakes, deferred_device, stops_in, units_on};
 ghost use Rattle.disk_deferred.specs.Host.{IsHostOf};
-ghost use Rattle.disk_deferred.specs.Joined.{IsAtSync, TakesAllOrNone, joined};
+ghost use Rattle.disk_deferred.specs.Joined.{joined};
 ghost use Rattle.disk_deferred.specs.declared.call.DeviceCall.TheVariants as calls;
 ghost use Rattle.disk_deferred.specs.declared.disk.TheConstants.{SYNCS};
 ghost use Rattle.disk_deferred.specs.declared.call.Handed.TheVariants as handed;
 ghost use Rattle.rtrb.specs.Ring.{SameProducer, sent};
+ghost use Rattle.disk_deferred.specs.DiskCalls.{CountsFailure, FailsSince, HasSameMoments, HasWritten, HasWrittenUnits, IsBeyond, IsSameOrTornBy, LeavesButUnits, LiesWithin, RefusesRead, RefusesWrite};
 
 use crate::call::{DeviceCall, Handed, MOST_BYTES};
 use crate::handing::Handing;
@@ -110,20 +110,14 @@ impl Disk for DeferredDisk {
 
     /// Reads the memory, and never answers `Fault`.
     fn read_at(&mut self, at: u64, out: &mut [u8]) -> Result<(), DiskError>
-        ensures in_range { OnOk result
-            (at + length out.old ≤ length (deferred_device self.old).now.bytes) }
+        ensures in_range { OnOk result (LiesWithin at out.old self.old) }
         ensures ok { OnOk result (out.new
             ≡ part at (length out.old) (deferred_device self.old).now.bytes) }
         ensures same { OnOk result (deferred_device self.new ≡ deferred_device self.old) }
-        ensures out_of_range { IsErrOf result OutOfRange
-            → (length (deferred_device self.old).now.bytes < at + length out.old)
-            × (out.new ≡ out.old) × (deferred_device self.new ≡ deferred_device self.old) }
-        ensures fault { IsErrOf result Fault
-            → SameMoments (deferred_device self.old) (deferred_device self.new) }
-        ensures cause { IsErrOf result Fault
-            → HasFailedSince (deferred_device self.old) (deferred_device self.new) }
-        ensures counted { IsErrOf result Fault
-            → CountsOneMore (deferred_device self.old) (deferred_device self.new) }
+        ensures out_of_range { RefusesRead at out.old out.new self.old self.new result }
+        ensures fault { IsErrOf result Fault → HasSameMoments self.old self.new }
+        ensures cause { IsErrOf result Fault → FailsSince self.old self.new }
+        ensures counted { IsErrOf result Fault → CountsFailure self.old self.new }
         ensures no_fault { ¬ IsErrOf result Fault }
         ensures untouched { self.new ≡ self.old }
     {
@@ -136,22 +130,13 @@ impl Disk for DeferredDisk {
 
     /// `Fault` is want of memory for the call, or one of more than [`MOST_BYTES`](crate::MOST_BYTES); nothing is written then.
     fn write_at(&mut self, at: u64, bytes: &[u8]) -> Result<(), DiskError>
-        ensures in_range { OnOk result
-            (at + length bytes.now ≤ length (deferred_device self.old).now.bytes) }
-        ensures ok { OnOk result (deferred_device self.new
-            ≡ written at bytes.now (deferred_device self.old)) }
-        ensures out_of_range { IsErrOf result OutOfRange
-            → (length (deferred_device self.old).now.bytes < at + length bytes.now)
-            × (deferred_device self.new ≡ deferred_device self.old) }
-        ensures fault { IsErrOf result Fault
-            → IsSameOrTorn at (length bytes.now)
-            (deferred_device self.old) (deferred_device self.new) }
-        ensures cause { IsErrOf result Fault
-            → HasFailedSince (deferred_device self.old) (deferred_device self.new) }
-        ensures counted { IsErrOf result Fault
-            → CountsOneMore (deferred_device self.old) (deferred_device self.new) }
-        ensures beyond { length (deferred_device self.old).now.bytes < at + length bytes.now
-            → IsErrOf result OutOfRange }
+        ensures in_range { OnOk result (LiesWithin at bytes.now self.old) }
+        ensures ok { OnOk result (HasWritten at bytes.now self.old self.new) }
+        ensures out_of_range { RefusesWrite at bytes.now self.old self.new result }
+        ensures fault { IsErrOf result Fault → IsSameOrTornBy at bytes.now self.old self.new }
+        ensures cause { IsErrOf result Fault → FailsSince self.old self.new }
+        ensures counted { IsErrOf result Fault → CountsFailure self.old self.new }
+        ensures beyond { IsBeyond at bytes.now self.old → IsErrOf result OutOfRange }
         // A call that succeeds is one more write or sync of the memory that the disk keeps.
         ensures stopped { OnOk result
             (self.new.memory ≡ stopped (Wrote at bytes.now) self.old.memory) }
@@ -180,24 +165,20 @@ impl Disk for DeferredDisk {
     fn write_units(&mut self, at: u64, units: &[u8], count: usize) -> Result<(), block_disk::Fault>
         requires some { 0 < count }
         requires whole { length units.now ≡ count * 16 }
-        requires fits { at + length units.now ≤ length (deferred_device self.old).now.bytes }
+        requires fits { LiesWithin at units.now self.old }
         // A run of units leaves the device as so many writes leave it, one after the other.
-        ensures ok { OnOk result (deferred_device self.new
-            ≡ written_units count at units.now (deferred_device self.old)) }
+        ensures ok { OnOk result (HasWrittenUnits count at units.now self.old self.new) }
         // Each image that a crash leaves from the first write of a run on differs from one of before in the ranges of
         // the units alone.
-        ensures any_moment { LeavesBut (unit_ranges count at)
-            (deferred_device self.old) (deferred_device self.new) }
-        ensures cause { OnErr result
-            (HasFailedSince (deferred_device self.old) (deferred_device self.new)) }
+        ensures any_moment { LeavesButUnits count at self.old self.new }
+        ensures cause { OnErr result (FailsSince self.old self.new) }
         // A run of units is told to the host as so many writes.
         ensures stopped { OnOk result
             (self.new.memory ≡ units_on count at units.now self.old.memory) }
         // A run of units that fails has made the first so many of its writes, and nothing else.
         ensures failed { OnErr result
             (FailsAmong count at units.now self.old.memory self.new.memory) }
-        ensures counted { OnErr result
-            (CountsOneMore (deferred_device self.old) (deferred_device self.new)) }
+        ensures counted { OnErr result (CountsFailure self.old self.new) }
         ensures ring { SameProducer self.old.ring self.new.ring }
     {
         let _size = self.bytes.len();
@@ -217,12 +198,9 @@ impl Disk for DeferredDisk {
     fn sync(&mut self) -> Result<(), DiskError>
         ensures ok { OnOk result (deferred_device self.new ≡ synced (deferred_device self.old)) }
         ensures in_range { ¬ IsErrOf result OutOfRange }
-        ensures fault { IsErrOf result Fault
-            → SameMoments (deferred_device self.old) (deferred_device self.new) }
-        ensures cause { IsErrOf result Fault
-            → HasFailedSince (deferred_device self.old) (deferred_device self.new) }
-        ensures counted { IsErrOf result Fault
-            → CountsOneMore (deferred_device self.old) (deferred_device self.new) }
+        ensures fault { IsErrOf result Fault → HasSameMoments self.old self.new }
+        ensures cause { IsErrOf result Fault → FailsSince self.old self.new }
+        ensures counted { IsErrOf result Fault → CountsFailure self.old self.new }
         // A call that succeeds is one more write or sync of the memory that the disk keeps.
         ensures stopped { OnOk result (self.new.memory ≡ stopped Synced self.old.memory) }
         // A call that is refused with a fault adds no write and no sync.
@@ -323,8 +301,7 @@ fn run_length(calls: &Vec<DeviceCall>, at: u64, count: usize) -> usize
     ensures some { 0 < result }
     ensures few { result ≤ count }
     ensures one { result * 16 ≤ 4096 }
-    ensures fits { (before : List Stop) → IsAtSync before
-        → TakesAllOrNone result at (onto before calls.now.items) }
+    ensures fits { LastTakes result at calls.now.items }
 {
     let len = calls.len();
     if len > 0 {

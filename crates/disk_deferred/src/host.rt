@@ -1,8 +1,8 @@
 //! The host's end of a deferred disk.
-ghost use Rattle.std.specs.Prelude.{◌≡◌, ◌<◌, [], ◌∷◌, List, true, false, length, IfSome, MatchOption};
+ghost use Rattle.std.specs.Prelude.{◌≡◌, ◌<◌, [], false, length, IfSome, MatchOption};
 ghost use Rattle.disk_deferred.specs.Deferred.{deferred_device, stops_in};
 ghost use Rattle.disk_deferred.specs.Handing.{AreLeft, AreToSync, IsSmall};
-ghost use Rattle.disk_deferred.specs.Host.{Fetches, GivesKnown, HasLooked, HaveMet, IsHostOf, MakesFirst, TakesBatch};
+ghost use Rattle.disk_deferred.specs.Host.{Fetches, GivesKnown, HasLooked, HaveMet, IsFirst, IsHostOf, MakesFirst, TakesBatch};
 ghost use Rattle.rtrb.specs.Ring.{SameConsumer, received, known_items};
 
 use crate::call::{DeviceCall, Handed};
@@ -74,8 +74,7 @@ impl HostCalls {
 
     /// The call that the host has to make next, of those that it fetched. A write has [`MOST_BYTES`](crate::MOST_BYTES) at most.
     pub fn next_call(&self) -> Option<&DeviceCall>
-        ensures first { MatchOption result (self.now.left ≡ []) (λ call. (later : List DeviceCall)
-            × (self.now.left ≡ call.now ∷ later)) }
+        ensures first { MatchOption result (self.now.left ≡ []) (λ call. IsFirst call.now self.now.left) }
         // No write that the host is told is longer than `MOST_BYTES`, 4,096 bytes.
         ensures small { IfSome result (λ call. IsSmall call.now) }
     {
