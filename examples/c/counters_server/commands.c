@@ -147,16 +147,17 @@ static void run_ping(client *c) {
 }
 
 static void run_info(client *c) {
-    char text[512];
+    char text[640];
     zelamiku_stats stats;
     must(zelamiku_heap_stats(heap, &stats));
     int size = snprintf(text, sizeof text,
                         "# Server\r\nserver_name:counters_server\r\nzelamiku_version:%s\r\nkeys:%" PRIu32 "\r\n"
                         "# Clients\r\nconnected_clients:%" PRIu32 "\r\nmaxclients:%" PRIu32 "\r\n"
                         "# Stats\r\ntotal_commands_processed:%" PRIu64 "\r\nrounds:%" PRIu64 "\r\nsyncs:%" PRIu64 "\r\n"
-                        "sections_durable:%" PRIu64 "\r\nwrites_failed:%" PRIu64 "\r\ntimes_without_room:%" PRIu64 "\r\n",
+                        "sections_durable:%" PRIu64 "\r\nwrites_failed:%" PRIu64 "\r\ntimes_without_room:%" PRIu64 "\r\n"
+                        "eventloop_cycles:%" PRIu64 "\r\n",
                         ZELAMIKU_VERSION, key_count, client_count, most_clients, commands_run, stats.rounds, stats.syncs, stats.sections,
-                        stats.troubles, times_behind);
+                        stats.troubles, times_behind, turns);
     assert(size > 0 && (size_t)size < sizeof text);
     say_bulk(&c->out, text, (size_t)size);
 }

@@ -86,7 +86,7 @@ static bool is_deaf, is_stopping;
 static uint64_t now;                /* nanoseconds, when the turn began */
 static uint64_t patience;           /* the same, until a client that doesn't read is cut off */
 static uint32_t client_count, most_clients = 1000;
-static uint64_t commands_run, times_behind;
+static uint64_t commands_run, times_behind, turns;
 static int poll_file, listener, event, signals; /* the last three are known by their addresses there */
 static clients idle = TAILQ_HEAD_INITIALIZER(idle), work = TAILQ_HEAD_INITIALIZER(work), waiting = TAILQ_HEAD_INITIALIZER(waiting);
 static word words[MOST_WORDS];      /* of the command that is run */
@@ -186,13 +186,14 @@ static void serve(client *c) {
     assert(c->list == &work && c->sent <= c->out.used);
     is_short = false;
     if (c->out.used == 0) {
-        bool is_there = read_some(c);
+        bool is_there = c->has_more || read_some(c);
         if (is_there) run_commands(c);
         if (!is_there || is_short) {
             drop(c);
             return;
         }
         c->since = now;
+        if (c->out.used == 0 && is_behind) return; /* it is the first again, once there is room */
         if (c->out.used > 0 && c->waits > durable) {
             place(c, &waiting);
             return;
@@ -274,6 +275,7 @@ static void turn(void) {
     bool is_told = false;
     int count = epoll_wait(poll_file, events, 256, TAILQ_EMPTY(&work) || is_behind ? 1000 : 0);
     if (count < 0 && errno != EINTR) die("epoll_wait: %s", strerror(errno));
+    turns++;
     now = zelamiku_now();
     for (int i = 0; i < count; i++) {
         void *of = events[i].data.ptr;

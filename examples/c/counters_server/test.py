@@ -11,7 +11,7 @@ none is named:
     compare  the same bytes to a real redis-server, and 10,000 random commands (1,000 with --few): no answer may differ
     clients  redis-cli, redis-benchmark and python3-redis
     rude     clients that don't read, send halves, leave, or are too many; a server that gets no descriptors
-    room     clients that send more in a round than the lane has room for: each count is done once, and nobody waits for long
+    room     clients that send more in a round than the lane has room for: each count is done once, and all clients have turns
     faults   syncs that fail or hang, writes that fail, a stop meanwhile
     mutated  10,000 altered streams (600 with --few) under the sanitizers of addresses and of undefined behaviour
     kills    by kill -9, under 100 clients (300 kills, 6 with --few): no acknowledged INCR is lost, and no transaction is there by half. A
@@ -20,6 +20,9 @@ none is named:
              both is a sleep of 2 ms (examples/c/peers_syncs.c). It prints a table for docs/TIMES.md: medians of three rounds
 What isn't installed (Debian: redis-server, redis-tools, python3-redis) is told. The last line counts the parts; the exit status is 1 if one
 went wrong.
+
+How fast the machine is decides nothing. What mustn't take long is told by counts: of clients that are there, of turns, of commands between two
+answers. A time that is waited for only ends what hangs (PATIENCE).
 """
 import argparse
 import os
@@ -42,6 +45,8 @@ TOP = os.path.dirname(os.path.dirname(os.path.dirname(HERE)))
 SOURCE = f"{HERE}/counters_server.c"
 BIG = 9223372036854775807
 KEYS = [f"k:{n}" for n in range(40)]
+# Seconds, after which something hangs. A machine may be slow, or lose its processors for a while.
+PATIENCE = 120
 
 
 def read(path):
@@ -90,16 +95,20 @@ class Server:
             self.process = subprocess.Popen(words, stdout=subprocess.PIPE, stderr=error, text=True, env=env, preexec_fn=before)
         Server.all.append(self)
         self.told = []
+        guard = threading.Timer(PATIENCE, self.process.kill)
+        guard.start()
         for line in self.process.stdout:
             self.told.append(line.strip())
             if line.startswith("at "):
+                guard.cancel()
                 return
-        raise Wrong(f"the server didn't start: {self.end_error()}")
+        guard.cancel()
+        raise Wrong(f"the server didn't start in {PATIENCE} s: {self.end_error()}")
 
     def end_error(self):
         return read(self.error).decode(errors="replace").strip()
 
-    def connect(self, wait=10.0):
+    def connect(self, wait=PATIENCE):
         if self.address.isdigit():
             return socket.create_connection(("127.0.0.1", int(self.address)), wait)
         client = socket.socket(socket.AF_UNIX)
@@ -115,9 +124,16 @@ class Server:
     def stop(self):
         """The status with which SIGTERM ends it."""
         self.process.terminate()
-        status = self.process.wait(60)
+        status = self.ended("after SIGTERM")
         self.process.stdout.close()
         return status
+
+    def ended(self, when):
+        """The status with which it ends by itself."""
+        try:
+            return self.process.wait(PATIENCE)
+        except subprocess.TimeoutExpired:
+            raise Wrong(f"{when} the server hasn't ended in {PATIENCE} s: {self.end_error()}") from None
 
 
 def end_all():
@@ -156,11 +172,12 @@ def answer_end(text, at):
 class Client:
     """A connection that takes whole answers."""
 
-    def __init__(self, server, wait=10.0):
+    def __init__(self, server, wait=PATIENCE):
         self.socket = server.connect(wait) if isinstance(server, Server) else server
-        self.text = b""
+        self.text, self.sent = b"", b""
 
     def send(self, text):
+        self.sent = text
         self.socket.sendall(text)
 
     def take(self):
@@ -170,7 +187,10 @@ class Client:
             if end is not None:
                 told, self.text = self.text[:end], self.text[end:]
                 return told
-            more = self.socket.recv(1 << 16)
+            try:
+                more = self.socket.recv(1 << 16)
+            except TimeoutError:
+                raise TimeoutError(f"no answer to {self.sent[:80]!r} in {self.socket.gettimeout()} s") from None
             must(more, "the connection has ended")
             self.text += more
 
@@ -182,21 +202,30 @@ class Client:
         self.socket.close()
 
 
-def whole(server, text, wait=10.0):
+def whole(server, text):
     """All that the server sends to a client that has sent this and then its end."""
-    client = server.connect(wait) if isinstance(server, Server) else server()
+    client = server.connect() if isinstance(server, Server) else server()
     told = b""
     try:
         client.sendall(text)
         client.shutdown(socket.SHUT_WR)
     except OSError as why:  # it wants no more: what it has said can still be read
         must(not isinstance(why, TimeoutError), f"{text[:80]!r} isn't read")
+    told += rest_of(client, text)
+    client.close()
+    return told
+
+
+def rest_of(client, text):
+    """All that comes until the connection's end."""
+    told = b""
     try:
         while more := client.recv(1 << 16):
             told += more
     except ConnectionResetError:
         pass
-    client.close()
+    except TimeoutError:
+        raise Wrong(f"{text[:80]!r}: after {told[-80:]!r} neither an answer nor an end came in {PATIENCE} s") from None
     return told
 
 
@@ -316,7 +345,7 @@ def try_worked(server, cases):
 
 
 def run_to_end(*words, text=None):
-    return subprocess.run(words, input=text, capture_output=True, text=True, check=False, timeout=120)
+    return subprocess.run(words, input=text, capture_output=True, text=True, check=False, timeout=2 * PATIENCE)
 
 
 def refused(program, folder, *words, keys="a\n", why):
@@ -393,21 +422,17 @@ class Redis:
         self.path = f"{folder}/socket"
         words = ["redis-server", "--port", "0", "--unixsocket", self.path, "--dir", folder, "--save", "", "--appendonly", "no"]
         self.process = subprocess.Popen(words, stdout=subprocess.DEVNULL)
-        for _ in range(500):
-            if os.path.exists(self.path):
-                return
-            time.sleep(0.02)
-        raise Wrong("redis-server didn't start")
+        wait_until(lambda: os.path.exists(self.path), "redis-server doesn't start")
 
     def connect(self):
         client = socket.socket(socket.AF_UNIX)
-        client.settimeout(10)
+        client.settimeout(PATIENCE)
         client.connect(self.path)
         return client
 
     def stop(self):
         self.process.terminate()
-        self.process.wait(60)
+        self.process.wait(PATIENCE)
 
 
 NUMBERS = [0, 1, -1, 2, 7, -100, 10**9, BIG, -BIG, -BIG - 1, BIG // 2, -BIG // 2]
@@ -546,22 +571,20 @@ def status_of(server, name):
         return int(re.search(rf"^{name}:\s+(\d+)", file.read(), re.M).group(1))
 
 
-def processor_time(server):
-    with open(f"/proc/{server.process.pid}/stat", encoding="utf-8") as file:
-        fields = file.read().rsplit(")", 1)[1].split()
-    return (int(fields[11]) + int(fields[12])) / os.sysconf("SC_CLK_TCK")
+def figures(info):
+    """The numbers of an answer to INFO, by their names."""
+    return {name.decode(): int(value) for name, value in re.findall(rb"^(\w+):(\d+)\r$", info, re.M)}
 
 
-def counts_on(server, times=20):
-    """Another client counts, and each answer comes soon."""
-    client, longest = Client(server), 0
+def counts_on(server, beside=None, times=20):
+    """Another client counts. With `beside` so many others stay connected: none has to leave before it is answered."""
+    client = Client(server)
     first = int(client.ask("INCR", "k:0")[1:])
     for n in range(1, times):
-        began = time.monotonic()
         must(client.ask("INCR", "k:0") == b":%d\r\n" % (first + n), "another client's count")
-        longest = max(longest, time.monotonic() - began)
+        there = figures(client.ask("INFO"))["connected_clients"] - 1
+        must(beside in (None, there), f"another client was answered once {there} of {beside} others were left")
     client.close()
-    must(longest < 2, f"another client waited {longest:.1f} s")
 
 
 def cut_off(client):
@@ -576,31 +599,62 @@ def cut_off(client):
         return False
 
 
+ENDLESS = request("MGET", *KEYS * 25) * 20
+
+
+def send_on(client, sent):
+    """Sends as much as the connection takes, after so many bytes. How many there are then, and whether it takes no more for ever."""
+    try:
+        while True:
+            sent += client.send(ENDLESS[sent % len(ENDLESS) :])
+    except BlockingIOError:
+        return sent, False
+    except (BrokenPipeError, ConnectionResetError):
+        return sent, True
+
+
+def hold_back(server, client):
+    """Sends until the server runs no command of this client any more: the system keeps some megabytes before it sees that nobody reads."""
+    witness, sent, ran, still = Client(server), 0, 0, 0
+    until = time.monotonic() + PATIENCE
+    while still < 5:
+        sent, is_cut_off = send_on(client, sent)
+        must(not is_cut_off, "a client that doesn't read was cut off before its time")
+        told = figures(witness.ask("INFO"))["total_commands_processed"]
+        still, ran = (still + 1 if told == ran + 1 else 0), told
+        must(time.monotonic() < until, f"in {PATIENCE} s a client that doesn't read isn't held back")
+    witness.close()
+
+
 def rude_reader(tried, port):
-    """One that sends without an end and doesn't read is held back, and then cut off."""
-    server = Server(tried.program, f"{tried.work}/reader{port}", 50, 2, port=port)
-    counts_on(server)
-    before, sent = status_of(server, "VmRSS"), 0  # in kB
+    """One that sends without an end and doesn't read is held back. Others are answered meanwhile: they would give up before the server does."""
+    server = Server(tried.program, f"{tried.work}/reader{port}", 50, 10 * PATIENCE, port=port)
+    counts_on(server, 0)
+    before = status_of(server, "VmRSS")  # in kB
     client, quiet = server.connect(), server.connect()
     client.setblocking(False)
-    text = request("MGET", *KEYS * 25) * 20
-    until = time.monotonic() + 1
-    while time.monotonic() < until:  # the system keeps some megabytes before the server sees that nobody reads
-        try:
-            sent += client.send(text[sent % len(text) :])
-            until = time.monotonic() + 1
-        except BlockingIOError:
-            time.sleep(0.01)
-        except (BrokenPipeError, ConnectionResetError):
-            break
-    counts_on(server)
+    hold_back(server, client)
+    wait_until(lambda: figures(whole(server, b"INFO\r\n"))["connected_clients"] == 3, "the witness has left")
+    counts_on(server, 2)
     more = status_of(server, "VmRSS") - before
     must(more < 8192, f"the server keeps {more} kB of a client that doesn't read")
-    wait_until(lambda: b"\r\nconnected_clients:2\r\n" in whole(server, b"INFO\r\n"), "a client that doesn't read isn't cut off")
-    counts_on(server)
-    client.settimeout(10)
+    must(Client(quiet).ask("PING") == b"+PONG\r\n", "one that has asked for nothing was cut off")
+    must(server.stop() == 0, "stop")
+    # By a server of less patience it is cut off.
+    server = Server(tried.program, f"{tried.work}/impatient{port}", 50, 1, port=port)
+    client, quiet, sent = server.connect(), server.connect(), 0
+    client.setblocking(False)
+
+    def is_cut_off():
+        nonlocal sent
+        sent, is_so = send_on(client, sent)
+        return is_so
+
+    wait_until(is_cut_off, "a client that doesn't read isn't cut off")
+    client.settimeout(PATIENCE)
     must(cut_off(client), "a client that was cut off isn't told")
     must(Client(quiet).ask("PING") == b"+PONG\r\n", "one that has asked for nothing was cut off")
+    counts_on(server, 1)
     must(server.stop() == 0, "stop")
 
 
@@ -611,7 +665,7 @@ def rude(tried):
     halves = [Client(server) for _ in range(20)]
     for half in halves:
         half.send(b"MULTI\r\nINCR k:1\r\n*3\r\n$6\r\nINCRBY\r\n$3\r\n")
-    counts_on(server)
+    counts_on(server, 20)
     slow = Client(server)
     for byte in request("INCRBY", "k:2", 5):
         slow.send(bytes([byte]))
@@ -639,9 +693,9 @@ def files_of(server):
 
 def wait_until(is_so, text):
     """On a busy machine that takes its time."""
-    until = time.monotonic() + 60
+    until = time.monotonic() + PATIENCE
     while not is_so():
-        must(time.monotonic() < until, text)
+        must(time.monotonic() < until, f"{text}: not in {PATIENCE} s")
         time.sleep(0.02)
 
 
@@ -654,7 +708,7 @@ def many_clients(tried):
     files = files_of(server) - 1
     inside.pop().close()
     wait_until(lambda: files_of(server) == files, "the tenth has left")
-    counts_on(server)
+    counts_on(server, 9)
     wait_until(lambda: files_of(server) == files, "another one has left")
     # No descriptor is left: others wait, the server rests, and those that are in go on.
     soft, hard = resource.prlimit(server.process.pid, resource.RLIMIT_NOFILE)
@@ -665,15 +719,15 @@ def many_clients(tried):
         raise Wrong(f"a client without a descriptor: {outside.take()}")
     except TimeoutError:
         pass
-    used, begun = processor_time(server), time.monotonic()
+    before, begun = figures(inside[0].ask("INFO"))["eventloop_cycles"], time.monotonic()
     for n in range(1, 40):
         must(inside[0].ask("INCR", "k:9") == b":%d\r\n" % n, "one that is in")
         time.sleep(0.02)
-    used, took = processor_time(server) - used, time.monotonic() - begun
-    # (A server that asks again and again takes all of a processor. On a busy machine counts take more, and longer.)
-    must(used < max(0.4, took / 4), f"{used:.2f} s of the processor in {took:.2f} s, for 40 counts and one that waits")
+    turns, took = figures(inside[0].ask("INFO"))["eventloop_cycles"] - before, time.monotonic() - begun
+    # A count takes a few turns, and so does each second. A server that asks for the one that waits again and again has thousands more.
+    must(turns < 40 * 10 + 10 * took, f"{turns} turns in {took:.2f} s, for 39 counts and one that waits")
     resource.prlimit(server.process.pid, resource.RLIMIT_NOFILE, (soft, hard))
-    outside.socket.settimeout(10)
+    outside.socket.settimeout(PATIENCE)
     must(outside.take() == b"+PONG\r\n", "the one that waited")
     must(server.stop() == 0, "stop")
     server = Server(tried.program, f"{tried.work}/descriptors", before=lambda: resource.setrlimit(resource.RLIMIT_NOFILE, (40, 40)))
@@ -694,33 +748,51 @@ def slow_syncs(tried, microseconds):
     return {"LD_PRELOAD": library, "SYNCS": f"{tried.work}/syncs", "SYNCS_TAKE": str(microseconds)}
 
 
+MOST_READ, SHORT = 1 << 14, request("INCR", "k:0")
+
+
+def with_faults(tried, folder):
+    """The variables by which calls of a heap's file fail or hang while `fault.sync`, `fault.write` or `fault.hang` lies in that folder."""
+    library = f"{tried.work}/faults.so"
+    subprocess.run(["cc", "-shared", "-fPIC", f"{TOP}/bindings/python/tests/faults.c", "-ldl", "-o", library], check=True)
+    return {"LD_PRELOAD": library, "FAULTS": f"{folder}/fault"}
+
+
 def room(tried):
-    server = Server(tried.program, f"{tried.work}/room", env=slow_syncs(tried, 50000))
-    told, text = [], request("INCR", "k:0") * 4000
-    began = time.monotonic()
-    senders = [threading.Thread(target=lambda: told.append(whole(server, text, 60.0))) for _ in range(40)]
-    for sender in senders:
-        sender.start()
-    for sender in senders:
-        sender.join()
-    took = time.monotonic() - began
-    counts = sorted(int(it[1:]) for answers_of in told for it in answers_of.split(b"\r\n")[:-1])
-    must(counts == list(range(1, 160001)), f"{len(counts)} counts, {counts[:3]} to {counts[-3:]}")
-    found = re.search(rb"times_without_room:(\d+)\r\n", whole(server, b"INFO\r\n"))
-    must(int(found.group(1)) > 0, "there was always room: nothing was tested")
-    must(took < 30, f"{took:.0f} s")
+    """All have sent all before the first round ends, so that the order of the counts is the server's alone. With the smallest ring a lane has
+    no room for two turns."""
+    source, ring = read(SOURCE).decode(), "plan.ring = ZELAMIKU_MOST_RING"
+    must(source.count(ring) == 1, "the ring's place has changed")
+    write(f"{tried.work}/room.c", source.replace(ring, "plan.ring = 4096"))
+    folder, count, each = f"{tried.work}/room", 40, 4000
+    program = build(tried.work, "small_ring", "-O2", source=f"{tried.work}/room.c")
+    server = Server(program, folder, env=with_faults(tried, folder))
+    write(f"{folder}/fault.hang")
+    clients = [server.connect() for _ in range(count)]
+    for client in clients:
+        client.setsockopt(socket.SOL_SOCKET, socket.SO_SNDBUF, 1 << 18)
+        client.sendall(SHORT * each)
+        client.shutdown(socket.SHUT_WR)
+    os.remove(f"{folder}/fault.hang")
+    told = [[int(it[1:]) for it in rest_of(client, SHORT).split(b"\r\n")[:-1]] for client in clients]
+    counts = sorted(it for own in told for it in own)
+    must(counts == list(range(1, count * each + 1)), f"{len(counts)} counts, {counts[:3]} to {counts[-3:]}")
+    must(all(own == sorted(own) for own in told), "a client's counts aren't in order")
+    # A turn has what one read has, or less where there is no room. Between two of a client each other one has one.
+    most, turns = max(b - a for own in told for a, b in zip([0, *own], own)), count * (MOST_READ // len(SHORT) + 1)
+    must(most <= turns < (count - 1) * each, f"a client had none of {most} counts in a row, and a turn of each has {turns} at most")
+    without = figures(whole(server, b"INFO\r\n"))["times_without_room"]
+    must(without > 0, "there was always room: nothing was tested")
     must(server.stop() == 0, "stop")
-    return f"160,000 counts of 40 clients, {int(found.group(1))} times without room"
+    return f"{len(counts):,} counts of {count} clients, {without} times without room, at most {most:,} between two of a client"
 
 
 # ---- faults ----
 
 
 def faults(tried):
-    library = f"{tried.work}/faults.so"
-    subprocess.run(["cc", "-shared", "-fPIC", f"{TOP}/bindings/python/tests/faults.c", "-ldl", "-o", library], check=True)
     folder = f"{tried.work}/faults"
-    env = {"LD_PRELOAD": library, "FAULTS": f"{folder}/fault"}
+    env = with_faults(tried, folder)
     acknowledged = 0
     for n in range(2 if tried.few else 20):
         # A sync fails: nothing more is confirmed.
@@ -734,7 +806,7 @@ def faults(tried):
             raise Wrong(f"a sync has failed, and the client was told {client.take()}")
         except (ConnectionResetError, Wrong) as why:
             must("has ended" in str(why) or isinstance(why, ConnectionResetError), str(why))
-        status = server.process.wait(60)
+        status = server.ended("after a sync that failed")
         must(status == 2 and "sync" in server.end_error(), f"a sync failed: {status}, {server.end_error()}")
         os.remove(f"{folder}/fault.sync")
         # A write fails, and is made again; a sync hangs, and then goes on.
@@ -751,7 +823,7 @@ def faults(tried):
                 pass
             must(reader.ask("GET", "k:1") == b"$1\r\n0\r\n", f"{what}: what is durable can be read")
             os.remove(f"{folder}/fault.{what}")
-            client.socket.settimeout(20)
+            client.socket.settimeout(PATIENCE)
             must(client.take() == b":%d\r\n" % (before + 1), f"{what}: the answer comes later")
         acknowledged = before + 1
         # A stop while a write fails confirms nothing; one while nothing fails does.
@@ -808,7 +880,7 @@ def alter(dice, text):
 
 def mutated(tried):
     flags = ["-O1", "-g", "-fsanitize=address,undefined", "-fno-sanitize-recover=all"]
-    server = Server(build(tried.work, "sanitized", *flags), f"{tried.work}/mutated", 100, 5, keys=KEYS + ["witness"])
+    server = Server(build(tried.work, "sanitized", *flags), f"{tried.work}/mutated", 100, 10 * PATIENCE, keys=KEYS + ["witness"])
     dice, count, at_once = random.Random(tried.seed), 600 if tried.few else 10000, 30
     witness = Client(server)
     for n in range(count // at_once):
@@ -849,8 +921,9 @@ class Counts:
     def __init__(self):
         self.acknowledged, self.sent, self.answers = [0] * len(KEYS), [0] * len(KEYS), 0
 
-    def load(self, server, count, seconds, dice):
-        """So many clients count, by up to 8 commands at a time, until the server is killed."""
+    def load(self, server, count, seconds, is_awaited, dice):
+        """So many clients count, by up to 8 commands at a time, until the server is killed: so many seconds after the first answer, where that
+        is awaited, or after they have begun."""
         chooser = selectors.DefaultSelector()
         conns = []
         for _ in range(count):
@@ -861,8 +934,12 @@ class Counts:
         for conn in conns:
             self.fill(conn, dice)
         timer = threading.Timer(seconds, server.process.kill)  # at any moment of what follows
-        timer.start()
+        before, until, is_begun = self.answers, time.monotonic() + PATIENCE, False
         while conns:
+            if not is_begun and (not is_awaited or self.answers > before):
+                timer.start()
+                is_begun = True
+            must(is_begun or time.monotonic() < until, f"in {PATIENCE} s {count} clients have no answer")
             for key, _ in chooser.select(1):
                 if not self.take(key.data, dice):
                     chooser.unregister(key.data[0])
@@ -928,31 +1005,35 @@ class Counts:
         return lost
 
 
-def kill_often(program, folder, kills, dice, until_lost=False):
-    """How many kills there were, how many answers were acknowledged, how many of these were lost, and by how many kills."""
-    counts, done, lost, losing = Counts(), 0, 0, 0
-    while done < kills or (until_lost and lost == 0 and done < 20 * kills):
-        counts.load(Server(program, folder, 200), 100, dice.choice((0.01, 0.03, 0.1, 0.2)), dice)
+def kill_often(program, folder, kills, dice, env=None):
+    """How many answers were acknowledged, and how many of these were lost. With `env` no sync returns from each start on (with_faults)."""
+    counts, lost = Counts(), 0
+    for number in range(kills):
+        server = Server(program, folder, 200, env=env)
+        if env:
+            write(f"{folder}/fault.hang")
+        # One in four may come before the first answer.
+        counts.load(server, 100, dice.choice((0.01, 0.03, 0.1, 0.2)), number % 4 != 3, dice)
+        if env:
+            os.remove(f"{folder}/fault.hang")
         server = Server(program, folder, 200)
-        gone = counts.check(server)
+        lost += counts.check(server)
         server.kill()
-        done, lost, losing = done + 1, lost + gone, losing + (gone > 0)
-    return done, counts.answers, lost, losing
+    return counts.answers, lost
 
 
 def kills(tried):
     dice = random.Random(tried.seed)
-    done, count, lost, _ = kill_often(tried.program, f"{tried.work}/kills", tried.kills, dice)
+    count, lost = kill_often(tried.program, f"{tried.work}/kills", tried.kills, dice)
     must(lost == 0 and count > 0, f"{lost} of {count} acknowledged counts are lost")
     source = read(SOURCE).decode()
     wait = "c->out.used > 0 && c->waits > durable"
     must(source.count(wait) == 1, "the control's place has changed")
     write(f"{tried.work}/early.c", source.replace(wait, "false"))
-    early = build(tried.work, "early", "-O2", "-DNDEBUG", source=f"{tried.work}/early.c")
-    others, other, gone, losing = kill_often(early, f"{tried.work}/early_kills", max(4, tried.kills // 10), dice, until_lost=True)
-    must(gone > 0, f"a server that answers early has lost none of {other}: nothing was tested")
-    control = f"one that answers early lost {gone} of {other}, by {losing} of {others} kills"
-    return f"{done} kills, {count} answers acknowledged, none lost; {control}"
+    early, folder = build(tried.work, "early", "-O2", "-DNDEBUG", source=f"{tried.work}/early.c"), f"{tried.work}/early_kills"
+    other, gone = kill_often(early, folder, max(3, tried.kills // 10), dice, with_faults(tried, folder))
+    must(gone > 0, f"a server that answers early has lost none of {other}, though no sync returned: nothing was tested")
+    return f"{tried.kills} kills, {count} answers acknowledged, none lost; one that answers early lost {gone} counts of {other} answers, while syncs hung"
 
 
 # ---- rate ----
