@@ -28,32 +28,36 @@ static _Atomic unsigned fault, fault_at; /* which call meets it, from 1 on; 0: n
 static _Atomic unsigned calls;
 static pthread_mutex_t bytes_lock = PTHREAD_MUTEX_INITIALIZER; /* of what the device holds */
 static _Atomic unsigned in_call, hung;
+static _Atomic bool refuses_more;       /* each call after the fault is refused: else who makes it again would do so at any moment */
 static _Atomic bool is_let_go, is_over; /* no call may come */
 static const char *kind_of_fault;       /* of the call that has met it */
 
 static const zelamiku_field FIELDS[] = {{0, 0, 5, 0}, {1, 1, 6, 0}, {0, 0, 9, 1}};
-static const zelamiku_plan PLAN = {.fields = FIELDS, .count = 3, .objects = 2, .lanes = 4, .capacity = 2000, .linger = 1000000};
+/* No round comes by itself. */
+static const zelamiku_plan PLAN = {.fields = FIELDS, .count = 3, .objects = 2, .lanes = 4, .capacity = 2000, .linger = UINT32_MAX};
 enum { SIZE = 1 << 18 };
 
 /* ---- the device ---- */
 
-static bool is_due(void) {
-    return ++calls == fault_at;
+/* The fault that this call meets. */
+static unsigned fault_of_call(void) {
+    unsigned call = ++calls, at = fault_at;
+    return call == at ? fault : at > 0 && call > at && refuses_more ? REFUSED : NO_FAULT;
 }
 
-static zelamiku_status begin_call(const char *kind, bool *has_fault) {
+static zelamiku_status begin_call(const char *kind, unsigned *met) {
     MUST(++in_call == 1 && !is_over);
-    *has_fault = is_due();
-    if (!*has_fault) return ZELAMIKU_OK;
+    *met = fault_of_call();
+    if (*met == NO_FAULT) return ZELAMIKU_OK;
     kind_of_fault = kind;
     errno = ENOSPC;
-    if (fault == HANGS) {
+    if (*met == HANGS) {
         hung++;
         while (!is_let_go) usleep(1000);
-        *has_fault = false;
+        *met = NO_FAULT;
         return ZELAMIKU_OK;
     }
-    return fault == GONE ? ZELAMIKU_LOST : fault == STRANGE ? ZELAMIKU_HELD : ZELAMIKU_DEVICE;
+    return *met == GONE ? ZELAMIKU_LOST : *met == STRANGE ? ZELAMIKU_HELD : ZELAMIKU_DEVICE;
 }
 
 static zelamiku_status end_call(zelamiku_status status) {
@@ -63,38 +67,38 @@ static zelamiku_status end_call(zelamiku_status status) {
 }
 
 static zelamiku_status flaky_read(void *of, uint64_t at, void *bytes, size_t size) {
-    bool has_fault;
-    zelamiku_status status = begin_call("read", &has_fault);
+    unsigned met;
+    zelamiku_status status = begin_call("read", &met);
     MUST(size <= SIZE && at <= SIZE - size);
-    if (!has_fault) return end_call(memory_read(of, at, bytes, size));
+    if (met == NO_FAULT) return end_call(memory_read(of, at, bytes, size));
     memset(bytes, 0x5a, size / 2);
     return end_call(status);
 }
 
 static zelamiku_status flaky_write(void *of, uint64_t at, const void *bytes, size_t size) {
-    bool has_fault;
-    zelamiku_status status = begin_call("write", &has_fault);
+    unsigned met;
+    zelamiku_status status = begin_call("write", &met);
     MUST(size > 0 && size <= 1 << 16);
     pthread_mutex_lock(&bytes_lock);
-    if (!has_fault || fault == LATE) (void)memory_write(of, at, bytes, size);
-    if (has_fault && fault == TORN) (void)memory_write(of, at, bytes, size / 2);
+    if (met == NO_FAULT || met == LATE) (void)memory_write(of, at, bytes, size);
+    if (met == TORN) (void)memory_write(of, at, bytes, size / 2);
     pthread_mutex_unlock(&bytes_lock);
     return end_call(status);
 }
 
 static zelamiku_status flaky_sync(void *of) {
-    bool has_fault;
-    zelamiku_status status = begin_call("sync", &has_fault);
+    unsigned met;
+    zelamiku_status status = begin_call("sync", &met);
     pthread_mutex_lock(&bytes_lock);
-    if (!has_fault || fault == LATE) (void)memory_sync(of);
+    if (met == NO_FAULT || met == LATE) (void)memory_sync(of);
     pthread_mutex_unlock(&bytes_lock);
     return end_call(status);
 }
 
 static zelamiku_status flaky_size(void *of, uint64_t *size) {
-    bool has_fault;
-    zelamiku_status status = begin_call("size", &has_fault);
-    *size = has_fault ? 12345 : ((memory *)of)->size;
+    unsigned met;
+    zelamiku_status status = begin_call("size", &met);
+    *size = met != NO_FAULT ? 12345 : ((memory *)of)->size;
     return end_call(status);
 }
 
@@ -110,6 +114,7 @@ static void plant(unsigned what, unsigned at) {
     fault = what;
     fault_at = at;
     calls = 0;
+    refuses_more = false;
 }
 
 /* ---- a heap on it ---- */
@@ -356,6 +361,7 @@ static void after_refusal(zelamiku_thread own) {
     uint64_t crashed = value_on(held.durable);
     MUST(crashed == 7 || (crashed == 8 && fault == LATE));
     MUST(load(own, 0) == 8);
+    fault_at = 0;
     zelamiku_status status;
     for (unsigned tries = 0; (status = zelamiku_thread_await(own)) == ZELAMIKU_DEVICE; tries++) MUST(tries < 3);
     OK(status);
@@ -374,12 +380,13 @@ static unsigned rounds(unsigned what) {
         OK(zelamiku_thread_await(own));
         store(own, 8);
         plant(what, at);
+        refuses_more = true;
         zelamiku_status status = zelamiku_thread_await(own);
         bool is_done = calls < at;
-        fault_at = 0;
         uint64_t crashed = value_on(held.durable);
         MUST(crashed == 7 || crashed == 8);
         if (is_done) {
+            fault_at = 0;
             OK(status);
             MUST(crashed == 8);
             close_heap();
@@ -424,9 +431,11 @@ static void *stop_heap(void *data) {
     return NULL;
 }
 
+enum { PATIENT = 240000 }; /* looks a millisecond apart, after which something hangs */
+
 static void until(_Atomic bool *is_so) {
     for (unsigned tries = 0; !*is_so; tries++) {
-        MUST(tries < 20000);
+        MUST(tries < PATIENT);
         usleep(1000);
     }
 }
@@ -434,7 +443,7 @@ static void until(_Atomic bool *is_so) {
 static void until_entering(uint32_t count) {
     zelamiku_stats stats = {.entering = count + 1};
     for (unsigned tries = 0; stats.entering != count; tries++) {
-        MUST(tries < 20000);
+        MUST(tries < PATIENT);
         OK(zelamiku_heap_stats(heap, &stats));
         usleep(1000);
     }

@@ -2,20 +2,27 @@
  *
  *     event FOLDER      answers 0 where all is as it must be
  *
- * With -DINLINE the calls of sections are those of zelamiku_inline.h. */
+ * With -DINLINE the calls of sections are those of zelamiku_inline.h. A machine that is slow, or stops for a while, is no mistake: times are
+ * waited for in vain, or by what hangs. */
 #define _GNU_SOURCE
 #include <errno.h>
 #include <fcntl.h>
 #include <poll.h>
+#include <stdbool.h>
 #include <sys/epoll.h>
 #include <sys/resource.h>
 #include <sys/wait.h>
 #include <unistd.h>
 
 static int writes_fail, syncs_fail, syncs_hang;
+static int failures; /* while writes fail so many do, and the next one waits until there are more, or writes go on */
 
 static ssize_t flaky_pwrite(int file, const void *bytes, size_t size, off_t at) {
-    if (__atomic_load_n(&writes_fail, __ATOMIC_SEQ_CST)) return errno = ENOSPC, -1;
+    while (__atomic_load_n(&writes_fail, __ATOMIC_SEQ_CST)) {
+        int left = __atomic_load_n(&failures, __ATOMIC_SEQ_CST);
+        if (left > 0 && __atomic_compare_exchange_n(&failures, &left, left - 1, false, __ATOMIC_SEQ_CST, __ATOMIC_SEQ_CST)) return errno = ENOSPC, -1;
+        usleep(100);
+    }
     return pwrite(file, bytes, size, at);
 }
 
@@ -31,7 +38,7 @@ static int flaky_fdatasync(int file) {
 #include "inline_calls.h"
 #include "must.h"
 
-enum { LANES = 6, A_WHILE = 20, PATIENCE = 20000 }; /* milliseconds */
+enum { LANES = 6, A_WHILE = 20, PATIENCE = 240000 }; /* milliseconds; what isn't there after PATIENCE hangs */
 
 static const zelamiku_field FIELDS[] = {{0, 0, 0, 0}, {1, 1, 0, 0}, {2, 2, 0, 0}, {3, 3, 0, 0}};
 static zelamiku_heap all;
@@ -62,6 +69,20 @@ static zelamiku_stats stats(void) {
     zelamiku_stats found;
     MUST(zelamiku_heap_stats(all, &found) == ZELAMIKU_OK);
     return found;
+}
+
+/* Whether no round is being made, and none comes unless a thread does something. */
+static bool is_at_rest(void) {
+    heap *of = its_heap();
+    pthread_mutex_lock(&of->mutex);
+    bool is = !of->is_led && !of->has_work && cause_of(of, false) == ZELAMIKU_ROUND_NONE && !of->is_troubled;
+    pthread_mutex_unlock(&of->mutex);
+    return is;
+}
+
+static uint64_t rounds_at_rest(void) {
+    UNTIL(is_at_rest());
+    return stats().rounds;
 }
 
 static bool is_readable(int event, int milliseconds) {
@@ -109,7 +130,7 @@ static void asks(void) {
     /* No news without an ask. */
     add(a, 0);
     MUST(!is_readable(one, 10 * A_WHILE));
-    while (zelamiku_thread_durable(a) < 2) usleep(1000);
+    UNTIL(zelamiku_thread_durable(a) == 2);
     MUST(!is_readable(one, A_WHILE) && ask_well(a) == 2 && !is_readable(one, A_WHILE));
     /* A thousand by one ask. */
     for (int i = 0; i < 1000; i++) add(a, 0);
@@ -135,9 +156,9 @@ static void depends(void) {
     MUST(zelamiku_thread_enter(a, 0) == ZELAMIKU_OK && zelamiku_thread_enter(a, 1) == ZELAMIKU_OK);
     MUST(zelamiku_thread_store(a, 1, 7) == ZELAMIKU_OK && zelamiku_thread_exit(a, 1) == ZELAMIKU_OK);
     add(b, 1);
-    MUST(ask_well(b) == 0 && !is_readable(event, 5 * A_WHILE) && zelamiku_thread_durable(b) == 0 && stats().awaiting == 1);
-    uint64_t rounds = stats().rounds;
-    MUST(!is_readable(event, 5 * A_WHILE) && stats().rounds == rounds);
+    MUST(ask_well(b) == 0);
+    uint64_t rounds = rounds_at_rest();
+    MUST(!is_readable(event, 5 * A_WHILE) && zelamiku_thread_durable(b) == 0 && stats().awaiting == 1 && stats().rounds == rounds);
     MUST(zelamiku_thread_exit(a, 0) == ZELAMIKU_OK && is_readable(event, PATIENCE) && ask_well(b) == 1 && stats().awaiting == 0);
     /* Who gives its lane back waits no more. */
     MUST(zelamiku_thread_enter(a, 0) == ZELAMIKU_OK && zelamiku_thread_enter(a, 1) == ZELAMIKU_OK);
@@ -148,7 +169,7 @@ static void depends(void) {
     close_heap_well();
 }
 
-/* Sections of another monitor until there is no room. */
+/* Sections of another monitor until there is no room: while syncs hang, or no round may give some. */
 static void fill(zelamiku_thread own, uint32_t object) {
     zelamiku_status status;
     while ((status = zelamiku_thread_try_enter(own, object)) == ZELAMIKU_OK)
@@ -160,7 +181,9 @@ static void room(void) {
     int one, two;
     begin_heap(true);
     zelamiku_thread a = begin_loop(&one), b = begin_loop(&two);
+    __atomic_store_n(&syncs_hang, 1, __ATOMIC_SEQ_CST);
     fill(a, 0);
+    __atomic_store_n(&syncs_hang, 0, __ATOMIC_SEQ_CST);
     for (zelamiku_status status = ZELAMIKU_BEHIND; status != ZELAMIKU_OK;) {
         MUST(is_readable(one, PATIENCE));
         (void)ask_well(a);
@@ -175,11 +198,12 @@ static void room(void) {
     unsigned rung = 0;
     for (; rung < 10000; rung++) {
         fill(b, 1);
-        if (!is_readable(two, 20 * A_WHILE)) break;
+        UNTIL(is_readable(two, 0) || is_at_rest());
+        if (!is_readable(two, 0)) break;
         (void)ask_well(b);
     }
-    printf("without room: rung %u times, in %llu rounds\n", rung, (unsigned long long)stats().rounds);
-    uint64_t rounds = stats().rounds;
+    uint64_t rounds = rounds_at_rest();
+    printf("without room: rung %u times, in %llu rounds\n", rung, (unsigned long long)rounds);
     MUST(rung < 10000 && !is_readable(two, 5 * A_WHILE) && stats().rounds == rounds);
     MUST(zelamiku_thread_exit(a, 0) == ZELAMIKU_OK);
     zelamiku_status status;
@@ -212,7 +236,7 @@ static void ends_and_begins(void) {
     add(b, 1);
     MUST(ask_well(b) == 0 && stats().awaiting == 1);
     __atomic_store_n(&syncs_hang, 0, __ATOMIC_SEQ_CST);
-    while (stats().awaiting > 0) usleep(1000);
+    UNTIL(stats().awaiting == 0);
     MUST(zelamiku_thread_event(b, &event) == ZELAMIKU_OK && is_readable(event, 0) && ask_well(b) == 1 && !is_readable(event, 0));
     /* No descriptor is left. */
     struct rlimit before, none;
@@ -254,11 +278,12 @@ static void failing_writes(void) {
     begin_heap(true);
     zelamiku_thread a = begin_loop(&event), b = begin_loop(&idle);
     /* One that has failed before it asks is none of its own. */
+    __atomic_store_n(&failures, 1, __ATOMIC_SEQ_CST);
     __atomic_store_n(&writes_fail, 1, __ATOMIC_SEQ_CST);
     add(b, 1);
-    while (stats().troubles == 0) usleep(1000);
+    UNTIL(stats().troubles == 1);
     __atomic_store_n(&writes_fail, 0, __ATOMIC_SEQ_CST);
-    while (zelamiku_thread_durable(b) == 0) usleep(1000);
+    UNTIL(zelamiku_thread_durable(b) == 1);
     add(a, 0);
     await_event(a, event);
     MUST(!is_readable(idle, 0));
@@ -267,6 +292,7 @@ static void failing_writes(void) {
     uint64_t troubles = stats().troubles;
     MUST(ask_well(a) == 1);
     for (unsigned told = 1; told <= 2; told++) {
+        __atomic_store_n(&failures, 1, __ATOMIC_SEQ_CST);
         MUST(is_readable(event, PATIENCE) && stats().troubles == troubles + told);
         MUST(zelamiku_thread_ask(a, &durable) == ZELAMIKU_DEVICE && durable == 1 && zelamiku_heap_error() == ENOSPC);
         MUST(!is_readable(event, 0) && ask_well(a) == 1);

@@ -6,6 +6,7 @@
 #define _GNU_SOURCE
 #include <errno.h>
 #include <fcntl.h>
+#include <signal.h>
 #include <stdarg.h>
 #include <stdint.h>
 #include <stdio.h>
@@ -18,6 +19,7 @@
 #include <unistd.h>
 
 static int fails_in;       /* which write, sync or rename from now on fails; 0: none */
+static int dies_in;        /* at which of them the process is killed; 0: at none */
 static int moves_one_byte; /* and each second call is interrupted */
 static int turn;
 static int replaces;       /* the path leads to another file as soon as this one is locked */
@@ -50,6 +52,7 @@ static void note(int kind, const void *bytes, size_t size, off_t at) {
 }
 
 static int is_due(void) {
+    if (dies_in > 0 && --dies_in == 0) (void)raise(SIGKILL);
     if (fails_in == 0 || --fails_in > 0) return 0;
     errno = ENOSPC;
     return 1;
@@ -127,7 +130,8 @@ static void *watched_malloc(size_t size) {
 #include "must.h"
 
 static const zelamiku_field FIELD = {0, 0, 5, 0};
-static zelamiku_plan plan = {.fields = &FIELD, .count = 1, .objects = 1, .lanes = 2, .capacity = 2000};
+/* No round comes by itself: which call of a round fails is told beforehand. */
+static zelamiku_plan plan = {.fields = &FIELD, .count = 1, .objects = 1, .lanes = 2, .capacity = 2000, .linger = UINT32_MAX};
 static zelamiku_report report;
 
 static zelamiku_status open_heap(zelamiku_heap *heap) {
@@ -243,7 +247,6 @@ static void rings(void) {
     zelamiku_thread own;
     remove_file();
     plan.ring = plan.capacity = 8 * ZELAMIKU_LEAST_RING;
-    plan.linger = 60000000;
     for (int opens = 0; opens < 2; opens++) {
         MUST(open_heap(&heap) == ZELAMIKU_OK && zelamiku_thread_begin(&own, heap) == ZELAMIKU_OK);
         for (int section = 0; section < SECTIONS; section++) {
@@ -403,7 +406,8 @@ static int failing_rounds(void) {
         }
         MUST(zelamiku_heap_error() == ENOSPC);
         if (status == ZELAMIKU_DEVICE) {
-            MUST(zelamiku_thread_await(own) == ZELAMIKU_OK && stats_of(heap).two_sync_rounds == rounds + 1);
+            MUST(zelamiku_thread_await(own) == ZELAMIKU_OK);
+            UNTIL(stats_of(heap).two_sync_rounds == rounds + 1); /* which are counted after their sections */
             MUST(zelamiku_heap_abandon(heap) == ZELAMIKU_OK && found() == 8);
         } else {
             MUST(status == ZELAMIKU_LOST && zelamiku_heap_close(heap) == ZELAMIKU_LOST);
@@ -502,9 +506,11 @@ static int old_makings(void) {
 
 /* ---- processes ---- */
 
-/* A process that makes a heap is killed: the path has nothing, or the empty file that it had, or the heap. The next one takes the file beside
- * up. Answers how many were killed before the heap was there. */
-static int killed_makings(void) {
+enum { TIMED_KILLS = 40 };
+
+/* A process that makes a heap is killed, at each of its calls in turn, and after some time: the path has nothing, or the empty file that it had, or
+ * the heap. The next one takes the file beside up. Answers how many were killed before the heap was there. */
+static int killed_makings(int calls) {
     struct stat info;
     zelamiku_heap heap;
     int early = 0;
@@ -515,18 +521,26 @@ static int killed_makings(void) {
     MUST(zelamiku_heap_open(&heap, "heap", &large, NULL) == ZELAMIKU_OK);
     uint64_t usual = (zelamiku_now() - begun) / 1000;
     MUST(zelamiku_heap_close(heap) == ZELAMIKU_OK);
-    for (uint64_t kill_ = 0; kill_ < 40; kill_++) {
+    for (int kill_ = 0; kill_ < 2 * calls + TIMED_KILLS; kill_++) {
         bool was_there = kill_ % 2 == 1;
+        int own = kill_ < 2 * calls ? kill_ / 2 + 1 : 0, status = 0;
         remove_file();
         if (was_there) make_file_of("heap", "", 0, 0640);
         pid_t child = fork();
         MUST(child >= 0);
-        if (child == 0) _exit(zelamiku_heap_open(&heap, "heap", &large, NULL) == ZELAMIKU_OK && pause() == 0);
-        (void)usleep((useconds_t)(usual * kill_ / 20));
-        MUST(kill(child, SIGKILL) == 0 && waitpid(child, NULL, 0) == child);
+        if (child == 0) {
+            dies_in = own;
+            _exit(zelamiku_heap_open(&heap, "heap", &large, NULL) == ZELAMIKU_OK && pause() == 0);
+        }
+        if (own == 0) {
+            (void)usleep((useconds_t)(usual * (uint64_t)(kill_ - 2 * calls) * 2 / TIMED_KILLS));
+            MUST(kill(child, SIGKILL) == 0);
+        }
+        MUST(waitpid(child, &status, 0) == child && WIFSIGNALED(status));
         bool is_there = stat("heap", &info) == 0;
         MUST(is_there || !was_there);
         early += !is_there || info.st_size == 0;
+        MUST(own != 1 || !is_there || info.st_size == 0);
         MUST(zelamiku_heap_open(&heap, "heap", &large, &report) == ZELAMIKU_OK && report.is_made == (!is_there || info.st_size == 0));
         MUST(add(heap, 0) == 5 && zelamiku_heap_close(heap) == ZELAMIKU_OK && is_missing(BESIDE_IT));
     }
@@ -703,13 +717,12 @@ static void count_warnings(void *of, uint32_t level, const char *text) {
     warnings += level == ZELAMIKU_LOG_WARNING && strstr(text, "the path doesn't lead to the heap's file any more") != NULL;
 }
 
-/* The heap's marks after a second of rounds. */
+/* What the next look tells: there is one each second, while rounds are made. */
 static uint32_t astray_after(zelamiku_heap heap) {
-    zelamiku_stats stats;
-    uint64_t end = zelamiku_now() + 1100000000;
-    while (zelamiku_now() < end) (void)add(heap, 0);
-    MUST(zelamiku_heap_stats(heap, &stats) == ZELAMIKU_OK);
-    return stats.is_astray;
+    const struct heap *of = &heaps[heap.number >> 8 & 255];
+    uint64_t before = of->path_checked; /* nobody leads now */
+    UNTIL(add(heap, 0) > 0 && of->path_checked != before);
+    return stats_of(heap).is_astray;
 }
 
 /* A file that is removed, or replaced, while its heap is open, by a path from the folder that the process was in: it is told once, and the heap
@@ -738,8 +751,8 @@ int main(int argc, char **argv) {
     lanes();
     openings();
     int makings = failing_makings(), calls = failing_rounds(), crashes = cut_off_makings(), old_crashes = old_makings();
-    int killed = killed_makings(), copy_calls = copies();
-    MUST(makings > 5 && calls > 4 && copy_calls > 3 && killed > 0);
+    int killed = killed_makings(makings), copy_calls = copies();
+    MUST(makings > 5 && calls > 4 && copy_calls > 3 && killed >= 2);
     at_once();
     links();
     astray();
@@ -749,7 +762,7 @@ int main(int argc, char **argv) {
     old();
     MUST(copies() > copy_calls);
     printf("file: lives, an old image, other opens, large files, rings, the helper's lane, links, a file that goes, a fault at each of %d calls of a making, %d of a round and %d of a copy, "
-           "%d crashes of a making, %d of one in place, 40 kills (%d before the heap was there), and calls that are short and interrupted\n",
-           makings, calls, copy_calls, crashes, old_crashes, killed);
+           "%d crashes of a making, %d of one in place, %d kills (%d before the heap was there), and calls that are short and interrupted\n",
+           makings, calls, copy_calls, crashes, old_crashes, 2 * makings + TIMED_KILLS, killed);
     return 0;
 }

@@ -155,7 +155,7 @@ static int flaky_can_fua(struct nbd_handle *nbd) {
 static const zelamiku_field FIELD = {0, 0, 5, 0};
 static const off_t SIZE = 1 << 20;
 
-enum { PATIENCE = 20000, LANES = 4, CAPACITY = 2000 };
+enum { PATIENCE = 240000 /* milliseconds, in which a server that doesn't hang has answered */, LANES = 4, CAPACITY = 2000 };
 
 static int file; /* behind the server */
 static const char *more[8]; /* nbdkit's other words */
@@ -448,13 +448,13 @@ static int all_faults(void) {
     return calls;
 }
 
-/* The server answers nothing for longer than patience lasts. */
+/* The server answers no write for ten minutes, and patience lasts less. */
 static void patience(void) {
     export_host host;
     zelamiku_heap heap;
     leave_heap();
     more[0] = "--filter=delay";
-    more[1] = "delay-write=3000ms";
+    more[1] = "delay-write=600";
     MUST(zelamiku_nbd_begin(&host.nbd, &host.device, connected(), 0, 800) == ZELAMIKU_OK);
     MUST(open_it(&heap, &host, false, NULL) == ZELAMIKU_DEVICE && zelamiku_heap_error() == ETIMEDOUT && host.nbd->connection == NULL);
     zelamiku_nbd_end(host.nbd);

@@ -2,11 +2,14 @@
  *
  *     threads FOLDER [MILLISECONDS]      answers 0 where all is as it must be
  *
- * With -DINLINE the calls of sections are those of zelamiku_inline.h. Nothing here depends on how quick the machine is, but for two lines
- * that it prints. */
+ * With -DINLINE the calls of sections are those of zelamiku_inline.h. Nothing here depends on how quick the machine is, or on whether it stops
+ * for a while, but for two lines that it prints: what hangs is waited for, for minutes. */
 #define _GNU_SOURCE
 #include <errno.h>
 #include <fcntl.h>
+#include <pthread.h>
+#include <sched.h>
+#include <stdbool.h>
 #include <sys/prctl.h>
 #include <sys/resource.h>
 #include <sys/syscall.h>
@@ -75,37 +78,74 @@ static zelamiku_status lasting_round(zelamiku_handle *heap, uint64_t most, uint6
     return status;
 }
 
-/* How many threads sleep on a word, and on one with no time set; how often one has gone on. One that is counted has looked for the last
- * time before. */
-static unsigned asleep, asleep_for_good, gone_on;
+/* How often a thread that slept on a word has gone on. */
+static unsigned gone_on;
+
+/* Threads that sleep: on which word, what they have seen there, and whether until a time. One that is here has looked for the last time before. */
+enum { MOST_SLEEPERS = 64 };
+static struct {
+    const uint32_t *word;
+    uint32_t seen;
+    bool has_due;
+} sleepers[MOST_SLEEPERS];
+static pthread_mutex_t sleepers_mutex = PTHREAD_MUTEX_INITIALIZER;
+
+static unsigned note_sleeper(const uint32_t *word, uint32_t seen, bool has_due) {
+    unsigned place = 0;
+    pthread_mutex_lock(&sleepers_mutex);
+    while (sleepers[place].word != NULL) MUST(++place < MOST_SLEEPERS);
+    sleepers[place].word = word;
+    sleepers[place].seen = seen;
+    sleepers[place].has_due = has_due;
+    pthread_mutex_unlock(&sleepers_mutex);
+    return place;
+}
+
+static void forget_sleeper(unsigned place) {
+    pthread_mutex_lock(&sleepers_mutex);
+    sleepers[place].word = NULL;
+    pthread_mutex_unlock(&sleepers_mutex);
+    __atomic_add_fetch(&gone_on, 1, __ATOMIC_SEQ_CST);
+}
+
+/* How many threads sleep, on words of this memory, or anywhere; `for_good`: of those alone that sleep until somebody rings, and whom nobody has
+ * rung for. */
+static unsigned count_sleepers(const void *from, size_t size, bool for_good) {
+    unsigned count = 0;
+    pthread_mutex_lock(&sleepers_mutex);
+    for (unsigned i = 0; i < MOST_SLEEPERS; i++) {
+        const uint32_t *word = sleepers[i].word;
+        if (word == NULL || (from != NULL && (uintptr_t)word - (uintptr_t)from >= size)) continue;
+        count += !for_good || (!sleepers[i].has_due && __atomic_load_n(word, __ATOMIC_SEQ_CST) == sleepers[i].seen);
+    }
+    pthread_mutex_unlock(&sleepers_mutex);
+    return count;
+}
+
 static _Thread_local bool is_held_back; /* where the thread is to sleep it isn't run until `holds_back` is 0 */
 static int holds_back;
 static unsigned held_back; /* how many threads are */
 
-/* One that looks about in half a second or later sleeps for good here. */
-static bool is_far(const struct timespec *due) {
-    struct timespec now = {0, 0};
-    (void)clock_gettime(CLOCK_MONOTONIC, &now);
-    return (double)(due->tv_sec - now.tv_sec) + 1e-9 * (double)(due->tv_nsec - now.tv_nsec) > 0.5;
-}
-
 static long own_SYS_futex(void *word, int what, uint32_t value, const struct timespec *due, void *other, uint32_t mask) {
     bool sleeps = due != NULL || other != NULL || mask != 0;
-    bool is_for_good = due == NULL || is_far(due);
     if (sleeps && is_held_back) {
         __atomic_add_fetch(&held_back, 1, __ATOMIC_SEQ_CST);
         while (__atomic_load_n(&holds_back, __ATOMIC_SEQ_CST)) usleep(100);
         is_held_back = false;
     }
-    if (sleeps) __atomic_add_fetch(&asleep, 1, __ATOMIC_SEQ_CST);
-    if (sleeps && is_for_good) __atomic_add_fetch(&asleep_for_good, 1, __ATOMIC_SEQ_CST);
+    unsigned place = sleeps ? note_sleeper(word, value, due != NULL) : 0;
     long answer = syscall(SYS_futex, word, what, value, due, other, mask);
     int error = errno;
-    if (sleeps) __atomic_sub_fetch(&asleep, 1, __ATOMIC_SEQ_CST);
-    if (sleeps && is_for_good) __atomic_sub_fetch(&asleep_for_good, 1, __ATOMIC_SEQ_CST);
-    if (sleeps) __atomic_add_fetch(&gone_on, 1, __ATOMIC_SEQ_CST);
+    if (sleeps) forget_sleeper(place);
     errno = error;
     return answer;
+}
+
+static unsigned yields;
+
+static int counted_yield(void) {
+    __atomic_add_fetch(&yields, 1, __ATOMIC_SEQ_CST);
+    return sched_yield();
 }
 
 /* A system whose threads have time slices of so many nanoseconds at first; 0: one that tells none. */
@@ -138,7 +178,9 @@ static long own_SYS_sched_setattr(int process, void *of, unsigned flags) {
 #define fdatasync flaky_fdatasync
 #define syscall(number, ...) own_##number(__VA_ARGS__)
 #define zelamiku_round lasting_round
+#define sched_yield() counted_yield()
 #include "../zelamiku_threads.c"
+#undef sched_yield
 #undef zelamiku_round
 #undef syscall
 #undef prctl
@@ -199,6 +241,21 @@ static zelamiku_stats stats(void) {
     zelamiku_stats found;
     MUST(zelamiku_heap_stats(all, &found) == ZELAMIKU_OK);
     return found;
+}
+
+/* Whether no round is being made, and none comes unless a thread does something. */
+static bool is_at_rest(void) {
+    heap *of = &heaps[all.number >> 8 & 255];
+    pthread_mutex_lock(&of->mutex);
+    bool is = !of->is_led && !of->has_work && cause_of(of, false) == ZELAMIKU_ROUND_NONE && !of->is_troubled;
+    pthread_mutex_unlock(&of->mutex);
+    return is;
+}
+
+/* Rounds that have ended, once the helper has made those that it makes by itself. */
+static uint64_t rounds_at_rest(void) {
+    UNTIL(is_at_rest());
+    return stats().rounds;
 }
 
 static uint64_t add(zelamiku_thread own, uint32_t object, uint32_t field, uint64_t more) {
@@ -276,10 +333,7 @@ static void unawaited(void) {
     zelamiku_thread own = begin_thread();
     for (unsigned sections = 20000; sections <= 20001; sections++) {
         for (uint64_t i = zelamiku_thread_sections(own); i < sections; i++) add(own, TOTAL, 0, 1);
-        for (unsigned i = 0; zelamiku_thread_durable(own) < sections; i++) {
-            MUST(i < 60000);
-            usleep(1000);
-        }
+        UNTIL(zelamiku_thread_durable(own) >= sections);
     }
     MUST(zelamiku_heap_close(all) == ZELAMIKU_OK);
 }
@@ -339,7 +393,7 @@ static void room_that_is_not_waited_for(void) {
         MUST(zelamiku_thread_store(own, 0, 7) == ZELAMIKU_OK && zelamiku_thread_exit(own, TOTAL) == ZELAMIKU_OK);
     MUST(status == ZELAMIKU_BEHIND && zelamiku_thread_try_enter(own, TOTAL) == ZELAMIKU_BEHIND);
     __atomic_store_n(&syncs_hang, 0, __ATOMIC_SEQ_CST);
-    while ((status = zelamiku_thread_try_enter(own, TOTAL)) == ZELAMIKU_BEHIND) usleep(100);
+    UNTIL((status = zelamiku_thread_try_enter(own, TOTAL)) != ZELAMIKU_BEHIND);
     MUST(status == ZELAMIKU_OK && zelamiku_thread_exit(own, TOTAL) == ZELAMIKU_OK && zelamiku_heap_close(all) == ZELAMIKU_OK);
 }
 
@@ -356,7 +410,7 @@ static unsigned sections_in(uint32_t ring) {
     __atomic_store_n(&syncs_hang, 1, __ATOMIC_SEQ_CST);
     add(own, TOTAL, 0, 1);
     MUST(zelamiku_thread_await_until(own, 1, 0, &is) == ZELAMIKU_OK && !is);
-    while (__atomic_load_n(&syncs, __ATOMIC_SEQ_CST) == before) usleep(100);
+    UNTIL(__atomic_load_n(&syncs, __ATOMIC_SEQ_CST) != before);
     for (; (status = zelamiku_thread_try_enter(own, TOTAL)) == ZELAMIKU_OK; sections++)
         MUST(zelamiku_thread_store(own, 0, 7) == ZELAMIKU_OK && zelamiku_thread_exit(own, TOTAL) == ZELAMIKU_OK);
     MUST(status == ZELAMIKU_BEHIND);
@@ -385,8 +439,7 @@ static void asks_in_time(void) {
     usleep(20000);
     MUST(stats().rounds == rounds);
     add(own, TOTAL, 0, 1);
-    while (zelamiku_thread_durable(own) < 1474) usleep(100);
-    while (stats().rounds == rounds) usleep(100);
+    UNTIL(zelamiku_thread_durable(own) >= 1474 && stats().rounds > rounds);
     MUST(stats().last_cause == ZELAMIKU_ROUND_FULL && zelamiku_heap_close(all) == ZELAMIKU_OK);
 }
 
@@ -414,7 +467,7 @@ static void waits_for_bounded_rounds(void) {
     __atomic_store_n(&syncs_hang, 1, __ATOMIC_SEQ_CST);
     add(own, TOTAL, 0, 1);
     MUST(zelamiku_thread_await_until(own, 1, 0, &is) == ZELAMIKU_OK && !is);
-    while (__atomic_load_n(&syncs, __ATOMIC_SEQ_CST) == before) usleep(100);
+    UNTIL(__atomic_load_n(&syncs, __ATOMIC_SEQ_CST) != before);
     for (unsigned i = 0; i < 1032; i++) add(own, TOTAL, 0, 1);
     MUST(zelamiku_thread_enter(own, TOTAL) == ZELAMIKU_OK);
     for (unsigned i = 0; i < 990; i++) MUST(zelamiku_thread_store(own, 0, i) == ZELAMIKU_OK);
@@ -441,6 +494,13 @@ static void *count_on(void *data) {
     return data;
 }
 
+/* So many sections of three records, of which one round at most takes some. */
+static void add_while_syncs_hang(zelamiku_thread own, unsigned sections) {
+    __atomic_store_n(&syncs_hang, 1, __ATOMIC_SEQ_CST);
+    for (unsigned i = 0; i < sections; i++) add(own, TOTAL, 0, 1);
+    __atomic_store_n(&syncs_hang, 0, __ATOMIC_SEQ_CST);
+}
+
 static void *count_or_await(void *data) {
     return (uintptr_t)data == 0 ? await_each(data) : count_on(data);
 }
@@ -453,14 +513,13 @@ static void bounded_rounds(void) {
     short_rounds = 0;
     run(count_or_await, 4);
     zelamiku_thread own = begin_thread();
-    for (unsigned i = 0; i < 500; i++) add(own, TOTAL, 0, 1);
-    for (unsigned i = 0; zelamiku_thread_durable(own) < 500; i++) {
-        MUST(i < 60000);
-        usleep(1000);
-    }
-    for (unsigned i = 0; i < 500; i++) add(own, TOTAL, 0, 1);
+    (void)rounds_at_rest(); /* so that there is room */
+    add_while_syncs_hang(own, 500);
+    UNTIL(zelamiku_thread_durable(own) == 500);
+    add_while_syncs_hang(own, 500);
     MUST(zelamiku_thread_await(own) == ZELAMIKU_OK && zelamiku_thread_durable(own) == 1000);
-    MUST(__atomic_load_n(&short_rounds, __ATOMIC_SEQ_CST) > 20);
+    /* Of 1,500 records 200 at most are taken while syncs hang, and the others by six rounds and a shorter one, each time. */
+    MUST(__atomic_load_n(&short_rounds, __ATOMIC_SEQ_CST) >= 12);
     for (unsigned i = 0; i < 500; i++) add(own, TOTAL, 0, 1);
     MUST(zelamiku_heap_close(all) == ZELAMIKU_OK);
     (void)begin_again(0);
@@ -602,7 +661,7 @@ static void enters_with_deadlines(void) {
     MUST(zelamiku_thread_enter(other, TOTAL) == ZELAMIKU_OK && zelamiku_thread_try_enter(own, TOTAL) == ZELAMIKU_HELD);
     MUST(zelamiku_thread_enter_until(own, TOTAL, zelamiku_now() + 5000000) == ZELAMIKU_HELD && stats().entering == 0);
     MUST(pthread_create(&thread, NULL, hold_for_a_moment, &other) == 0);
-    MUST(zelamiku_thread_enter_until(own, TOTAL, zelamiku_now() + 60000000000) == ZELAMIKU_OK);
+    MUST(zelamiku_thread_enter_until(own, TOTAL, zelamiku_now() + 600000000000) == ZELAMIKU_OK);
     MUST(pthread_join(thread, NULL) == 0 && zelamiku_thread_exit(own, TOTAL) == ZELAMIKU_OK);
     /* What was given up isn't busy. */
     MUST(zelamiku_heap_close(all) == ZELAMIKU_OK);
@@ -657,7 +716,7 @@ static void failing_writes(void) {
     while ((status = zelamiku_thread_await(own)) == ZELAMIKU_DEVICE) {}
     MUST(status == ZELAMIKU_OK && zelamiku_thread_durable(own) == zelamiku_thread_sections(own));
     /* A line may come after those that wait are woken. */
-    while (__atomic_load_n(&logged[ZELAMIKU_LOG_INFO], __ATOMIC_SEQ_CST) == infos) usleep(100);
+    UNTIL(__atomic_load_n(&logged[ZELAMIKU_LOG_INFO], __ATOMIC_SEQ_CST) != infos);
     MUST(stats().troubles >= 3 && logged[ZELAMIKU_LOG_WARNING] == warnings + 1 && logged[ZELAMIKU_LOG_INFO] == infos + 1);
     MUST(zelamiku_heap_close(all) == ZELAMIKU_OK);
     (void)begin_again(4000);
@@ -670,13 +729,11 @@ static void writes_again(void) {
     zelamiku_thread own = begin_thread();
     __atomic_store_n(&writes_fail, 1, __ATOMIC_SEQ_CST);
     add(own, TOTAL, 0, 1);
-    while (stats().troubles == 0) usleep(1000);
+    UNTIL(stats().troubles > 0);
     __atomic_store_n(&writes_fail, 0, __ATOMIC_SEQ_CST);
-    for (unsigned i = 0; zelamiku_thread_durable(own) < 1; i++) {
-        MUST(i < 60000);
-        usleep(1000);
-    }
-    MUST(stats().last_cause == ZELAMIKU_ROUND_AGAIN && zelamiku_heap_close(all) == ZELAMIKU_OK);
+    /* Of a round its sections are told before its cause. */
+    UNTIL(zelamiku_thread_durable(own) == 1 && stats().last_cause == ZELAMIKU_ROUND_AGAIN);
+    MUST(zelamiku_heap_close(all) == ZELAMIKU_OK);
 }
 
 static void failing_syncs(void) {
@@ -817,15 +874,6 @@ static void look_often(zelamiku_thread own, unsigned sections, unsigned pause) {
     }
 }
 
-/* Rounds that have ended, once the helper has had time for those that it would make by itself. */
-static uint64_t rounds_at_rest(void) {
-    for (uint64_t before = UINT64_MAX, rounds;; before = rounds) {
-        rounds = stats().rounds;
-        if (rounds == before) return rounds;
-        usleep(50000);
-    }
-}
-
 /* What has only been looked at makes no round by the linger; who waits for it makes one. */
 static void looks_make_no_rounds(void) {
     uint64_t rounds = 0;
@@ -833,7 +881,7 @@ static void looks_make_no_rounds(void) {
     begin_anew();
     zelamiku_thread own = begin_thread();
     add(own, TOTAL, 0, 1);
-    while (zelamiku_thread_durable(own) < 1) usleep(100);
+    UNTIL(zelamiku_thread_durable(own) >= 1);
     uint64_t before = rounds_at_rest();
     unsigned synced = __atomic_load_n(&syncs, __ATOMIC_SEQ_CST);
     MUST(stats().last_cause == ZELAMIKU_ROUND_LINGER);
@@ -843,7 +891,7 @@ static void looks_make_no_rounds(void) {
     /* Also who doesn't sleep for it, and who waits for a round alone. */
     look_often(own, 5, 5000);
     MUST(zelamiku_thread_await_until(own, ZELAMIKU_ALL_SECTIONS, 0, &is) == ZELAMIKU_OK);
-    while (zelamiku_thread_durable(own) < 56) usleep(100);
+    UNTIL(zelamiku_thread_durable(own) >= 56);
     look_often(own, 5, 5000);
     MUST(zelamiku_heap_await_round(all, rounds_at_rest(), ZELAMIKU_NO_DEADLINE, &rounds) == ZELAMIKU_OK && zelamiku_thread_durable(own) == 61);
     /* They go with the round of a section that has stored, before or after them. */
@@ -851,7 +899,7 @@ static void looks_make_no_rounds(void) {
     look_often(own, 5, 5000);
     add(other, LIST, COUNT, 1);
     look_often(own, 1, 0);
-    while (zelamiku_thread_durable(other) < 1 || zelamiku_thread_durable(own) < 66) usleep(100);
+    UNTIL(zelamiku_thread_durable(other) >= 1 && zelamiku_thread_durable(own) >= 66);
     MUST(rounds_at_rest() <= rounds + 2 && stats().last_cause == ZELAMIKU_ROUND_LINGER);
     /* What has no room asks for rounds. */
     look_often(own, 20000, 0);
@@ -880,19 +928,19 @@ static void waits_end_what_is_stored(void) {
     holder = begin_thread();
     MUST(pthread_create(&waiter, NULL, wait_by_holder, NULL) == 0);
     await_waiter(own);
-    while (zelamiku_thread_durable(holder) < 1) usleep(100);
+    UNTIL(zelamiku_thread_durable(holder) >= 1);
     uint64_t rounds = rounds_at_rest();
     MUST(zelamiku_thread_enter(own, TOTAL) == ZELAMIKU_OK && zelamiku_thread_notify(own, TOTAL, &woken) == ZELAMIKU_OK);
-    usleep(20000);
+    UNTIL(stats().entering == 1);
     MUST(rounds_at_rest() == rounds && zelamiku_thread_exit(own, TOTAL) == ZELAMIKU_OK);
     MUST(pthread_join(waiter, NULL) == 0 && zelamiku_heap_close(all) == ZELAMIKU_OK);
 }
 
-/* Whether the thread ends within a minute: one that doesn't hangs. */
+/* Whether the thread ends within four minutes: one that doesn't hangs. */
 static bool ends(pthread_t thread, void **answer) {
     struct timespec due;
     MUST(clock_gettime(CLOCK_REALTIME, &due) == 0);
-    due.tv_sec += 60;
+    due.tv_sec += 240;
     return pthread_timedjoin_np(thread, answer, &due) == 0;
 }
 
@@ -919,7 +967,7 @@ static void ends_beside_failing_syncs(void) {
         zelamiku_thread own = begin_thread();
         __atomic_store_n(&syncs_hang, 1, __ATOMIC_SEQ_CST);
         MUST(pthread_create(&waiter, NULL, await_one, NULL) == 0);
-        while (stats().awaiting == 0) usleep(100);
+        UNTIL(stats().awaiting > 0);
         add(own, TOTAL, 0, 1);
         MUST(pthread_create(&other, NULL, fail_soon, NULL) == 0);
         MUST((stops ? zelamiku_heap_stop(all) : zelamiku_heap_close(all)) == ZELAMIKU_LOST && zelamiku_heap_error() == EIO);
@@ -958,10 +1006,10 @@ static void stops(zelamiku_status why) {
     MUST(zelamiku_thread_enter(holder, LIST) == ZELAMIKU_OK && zelamiku_thread_enter(holder, TOTAL) == ZELAMIKU_OK);
     MUST(zelamiku_thread_store(holder, 0, 90) == ZELAMIKU_OK && zelamiku_thread_exit(holder, TOTAL) == ZELAMIKU_OK);
     MUST(pthread_create(&awaits, NULL, await_what_depends, NULL) == 0);
-    while (stats().awaiting == 0) usleep(100);
+    UNTIL(stats().awaiting > 0);
     MUST(zelamiku_thread_enter(holder, TOTAL) == ZELAMIKU_OK);
     MUST(pthread_create(&wants, NULL, want_monitor, NULL) == 0);
-    while (stats().entering == 0) usleep(100);
+    UNTIL(stats().entering > 0);
     MUST((why == ZELAMIKU_CLOSED ? zelamiku_heap_stop(all) : zelamiku_heap_abandon(all)) == ZELAMIKU_OK);
     MUST(ends(waits, &answer[0]) && ends(wants, &answer[1]) && ends(awaits, &answer[2]));
     for (int i = 0; i < 3; i++) MUST((zelamiku_status)(uintptr_t)answer[i] == why);
@@ -1037,7 +1085,7 @@ static pthread_t hold_back(void *(*body)(void *)) {
     unsigned before = __atomic_load_n(&held_back, __ATOMIC_SEQ_CST);
     __atomic_store_n(&holds_back, 1, __ATOMIC_SEQ_CST);
     MUST(pthread_create(&thread, NULL, body, NULL) == 0);
-    while (__atomic_load_n(&held_back, __ATOMIC_SEQ_CST) == before) usleep(100);
+    UNTIL(__atomic_load_n(&held_back, __ATOMIC_SEQ_CST) != before);
     return thread;
 }
 
@@ -1068,7 +1116,7 @@ static void begin_a_hanging_round(zelamiku_thread own) {
     __atomic_store_n(&syncs_hang, 1, __ATOMIC_SEQ_CST);
     add(own, TOTAL, 0, 1);
     MUST(zelamiku_thread_await_until(own, ZELAMIKU_ALL_SECTIONS, 0, &is) == ZELAMIKU_OK && !is);
-    while (__atomic_load_n(&syncs, __ATOMIC_SEQ_CST) == before) usleep(100);
+    UNTIL(__atomic_load_n(&syncs, __ATOMIC_SEQ_CST) != before);
 }
 
 static zelamiku_thread awaited;
@@ -1094,7 +1142,7 @@ static void told_of_a_close(void) {
     void *answer;
     begin_anew();
     MUST(pthread_create(&thread, NULL, await_a_round, NULL) == 0);
-    while (stats().awaiting == 0) usleep(100);
+    UNTIL(stats().awaiting > 0);
     MUST(zelamiku_heap_close(all) == ZELAMIKU_OK && ends(thread, &answer) && (uintptr_t)answer == ZELAMIKU_CLOSED);
     begin_anew();
     zelamiku_thread own = begin_thread();
@@ -1156,18 +1204,21 @@ static void *close_circle(void *data) {
     zelamiku_thread own = in_circle[i];
     MUST(zelamiku_thread_enter(own, i) == ZELAMIKU_OK);
     __atomic_add_fetch(&have_first, 1, __ATOMIC_SEQ_CST);
-    while (__atomic_load_n(&have_first, __ATOMIC_SEQ_CST) < circle_size) usleep(100);
+    UNTIL(__atomic_load_n(&have_first, __ATOMIC_SEQ_CST) == circle_size);
     uint64_t deadline = i == 0 ? zelamiku_now() + 3600000000000 : ZELAMIKU_NO_DEADLINE;
     return (void *)(uintptr_t)zelamiku_thread_enter_until(own, (i + 1) % circle_size, deadline);
 }
 
+static bool knows_waits(size_t count, zelamiku_wait *waits) {
+    size_t told = 0, known = 0;
+    MUST(zelamiku_heap_waits(all, waits, ZELAMIKU_MOST_LANES, &told) == ZELAMIKU_OK);
+    for (size_t i = 0; i < told; i++) known += waits[i].owner != ZELAMIKU_NOBODY;
+    return told == count && known == count;
+}
+
 /* Returns once so many threads sleep for monitors, and somebody can tell who has them. */
 static void await_waits(size_t count, zelamiku_wait *waits) {
-    for (size_t told = 0, known = 0; told != count || known != count; usleep(1000)) {
-        MUST(zelamiku_heap_waits(all, waits, ZELAMIKU_MOST_LANES, &told) == ZELAMIKU_OK);
-        known = 0;
-        for (size_t i = 0; i < told; i++) known += waits[i].owner != ZELAMIKU_NOBODY;
-    }
+    UNTIL(knows_waits(count, waits));
 }
 
 /* All lanes are in the circle, so that only who sleeps can tell who has what. It is told once, and nothing is done to it. */
@@ -1186,7 +1237,7 @@ static void circles(unsigned size) {
     await_waits(size, waits);
     for (unsigned i = 0; i < size; i++)
         MUST(waits[i].lane == i && waits[i].object == (i + 1) % size && waits[i].owner == (i + 1) % size && waits[i].in_circle == 1);
-    while (__atomic_load_n(&logged[ZELAMIKU_LOG_WARNING], __ATOMIC_SEQ_CST) == warnings) usleep(1000);
+    UNTIL(__atomic_load_n(&logged[ZELAMIKU_LOG_WARNING], __ATOMIC_SEQ_CST) != warnings);
     usleep(500000);
     MUST(__atomic_load_n(&logged[ZELAMIKU_LOG_WARNING], __ATOMIC_SEQ_CST) == warnings + 1);
     pthread_mutex_lock(&warning_mutex);
@@ -1294,7 +1345,7 @@ static void copies(void) {
 /* ---- slices ---- */
 
 static zelamiku_heap open_keeping(uint32_t keeps_slice) {
-    zelamiku_plan plan = {.fields = FIELDS, .count = 3, .objects = 2, .lanes = LANES, .keeps_slice = keeps_slice};
+    zelamiku_plan plan = {.fields = FIELDS, .count = 3, .objects = 2, .lanes = LANES, .linger = UINT32_MAX, .keeps_slice = keeps_slice};
     zelamiku_heap opened;
     MUST(zelamiku_heap_open(&opened, "slices.heap", &plan, NULL) == ZELAMIKU_OK);
     return opened;
@@ -1329,7 +1380,7 @@ static void *await_round_with_slice(void *data) {
 
 /* Until the helper has asked for its slice so often. */
 static void await_asked(unsigned count) {
-    while (__atomic_load_n(&slices_asked, __ATOMIC_SEQ_CST) < count) usleep(100);
+    UNTIL(__atomic_load_n(&slices_asked, __ATOMIC_SEQ_CST) >= count);
 }
 
 /* A thread that waits for rounds, and the helper, ask once for a short slice, where they have the system's. With a slice of one's own, where
@@ -1364,9 +1415,10 @@ static void looks_that_last(void) {
     of->spin_time = MOST_SPIN;
     of->rounds = 7;
     uint64_t now = zelamiku_now();
-    MUST(zelamiku_now() - now < SECOND);
+    unsigned before = yields;
+    /* With the first look it is seen, and not at the end of its time. */
     look_for_round(of, of->round_bell, now - LONG_SPIN - 1, now + SECOND);
-    MUST(of->no_spin_before == 7 + UNSPUN_ROUNDS && zelamiku_now() - now < SECOND / 2);
+    MUST(of->no_spin_before == 7 + UNSPUN_ROUNDS && yields == before + 1);
     of->no_spin_before = of->processors = 0;
     of->spin_time = of->rounds = 0;
 }
@@ -1384,15 +1436,9 @@ static void *take_turn(void *data) {
     return NULL;
 }
 
-/* Until so many threads sleep without a time set, and nobody has rung for one of them that wants a monitor. */
+/* Until so many threads sleep for monitors, and go on only once somebody rings for them: each has looked for a circle before. */
 static void await_sleepers(unsigned count) {
-    heap *of = &heaps[all.number >> 8 & 255];
-    for (bool is_still = false; !is_still; usleep(100)) {
-        pthread_mutex_lock(&of->mutex);
-        is_still = __atomic_load_n(&asleep_for_good, __ATOMIC_SEQ_CST) >= count;
-        for (uint32_t lane = 0; lane < LANES; lane++) is_still = is_still && (seat_at(of, lane)->wanted == 0 || seat_at(of, lane)->bell == 0);
-        pthread_mutex_unlock(&of->mutex);
-    }
+    UNTIL(stats().entering == count && count_sleepers(ZELAMIKU_SEATS, sizeof ZELAMIKU_SEATS, true) == count);
 }
 
 /* Threads that sleep for one monitor get it in the order in which they came, also where the one that has it gives it back before, takes it
@@ -1405,7 +1451,7 @@ static void turns(unsigned takes_between) {
     __atomic_store_n(&in_order, 0, __ATOMIC_SEQ_CST);
     for (unsigned i = 0; i < LANES - 1; i++) {
         MUST(pthread_create(&threads[i], NULL, take_turn, (void *)(uintptr_t)i) == 0);
-        while (stats().entering <= i) usleep(100);
+        UNTIL(stats().entering == i + 1);
     }
     await_sleepers(LANES - 1);
     for (unsigned i = 0; i < takes_between; i++)
@@ -1431,12 +1477,12 @@ static void rest_for(unsigned milliseconds) {
     MUST(pthread_create(&waiter, NULL, wait_once, NULL) == 0);
     await_waiter(own);
     MUST(zelamiku_thread_await(own) == ZELAMIKU_OK);
-    await_sleepers(2);
+    UNTIL(count_sleepers(NULL, 0, true) == 2);
     unsigned before = __atomic_load_n(&gone_on, __ATOMIC_SEQ_CST);
     double begun = processor_time();
     usleep(milliseconds * 1000);
     printf("at rest for %u ms: %.6f s of processor time\n", milliseconds, processor_time() - begun);
-    MUST(__atomic_load_n(&gone_on, __ATOMIC_SEQ_CST) == before && __atomic_load_n(&asleep, __ATOMIC_SEQ_CST) == 2);
+    MUST(__atomic_load_n(&gone_on, __ATOMIC_SEQ_CST) == before && count_sleepers(NULL, 0, false) == 2);
     MUST(zelamiku_thread_enter(own, TOTAL) == ZELAMIKU_OK && zelamiku_thread_notify(own, TOTAL, &woken) == ZELAMIKU_OK && woken < LANES);
     MUST(zelamiku_thread_exit(own, TOTAL) == ZELAMIKU_OK && pthread_join(waiter, NULL) == 0 && zelamiku_heap_close(all) == ZELAMIKU_OK);
 }
