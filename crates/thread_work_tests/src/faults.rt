@@ -39,7 +39,8 @@ impl Work for Adds {
     }
 }
 
-fn adds() -> Adds {
+// Those of which nothing is counted yet.
+fn nothing_counted() -> Adds {
     Adds {
         durable: AtomicU64::new(0),
         stopped: AtomicU64::new(0),
@@ -60,7 +61,7 @@ fn stopped_at<R: Threads + Wait + Sync>(
         return None;
     };
     disk.fail_call(call);
-    let adds = adds();
+    let adds = nothing_counted();
     let refusal = match run_new(rt, alloc, disk, schema, 3, CAPACITY, &adds) {
         Ok(ran) => {
             drop(ran);
@@ -106,7 +107,7 @@ fn keeps_durable<R: Threads + Wait + Sync>(rt: &R, alloc: Global, call: u64) -> 
         return None;
     };
     disk.fail_call(call);
-    let adds = adds();
+    let adds = nothing_counted();
     let left = match run_new(rt, alloc, disk, schema, 3, CAPACITY, &adds) {
         Ok(ran) => {
             drop(ran);
