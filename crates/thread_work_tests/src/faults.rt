@@ -39,7 +39,7 @@ impl Work for Adds {
     }
 }
 
-// Those of which nothing is counted yet.
+// The work as it begins, with nothing counted.
 fn nothing_counted() -> Adds {
     Adds {
         durable: AtomicU64::new(0),
