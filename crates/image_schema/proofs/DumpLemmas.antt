@@ -3,7 +3,6 @@ use Rattle.std.proofs.Common.{ℕ, ◌≡◌, Option, List, Result, Ok, Err, IfE
 use Rattle.guards.specs.Schema.{Declarations}
 use Rattle.recover.specs.Study.{IsStudyOf}
 use Rattle.recover_heap.specs.declared.error.RecoverError.TheVariants.{Fault, NoMemory}
-use Rattle.recover_heap.specs.declared.error.RecoverError.{RecoverError}
 use Rattle.recover.specs.Reading.{RefusesImage}
 use Rattle.recover.specs.declared.studied.Study.{Study as Studied}
 use Rattle.image_schema.specs.Dumping.{Dumps, DumpsStudy, RefusesDump, RefusesStudy}

@@ -1,9 +1,8 @@
 -- The numbered schema of an image is the image's.
-use Rattle.std.proofs.Common.{ℕ, zero, suc, ◌≡◌, ◌<◌, ◌==◌, ◌&&◌, Bool, true, false, Option, Some, List, length, get_or, IsTrue, ◌+◌, ◌⊎◌, inl, inr, ⊎_elim, subst, refl, sym, ap, ◌∙◌, arith}
-use Rattle.std.specs.Prelude.{slice_get}
+use Rattle.std.proofs.Common.{ℕ, ◌≡◌, ◌<◌, Bool, true, false, Some, List, length, get_or, IsTrue, ◌+◌, ⊎_elim, subst, refl, sym, ap, ◌∙◌, arith}
 use Rattle.std.proofs.lemmas.Bool.{cases_eq, eq-eqb}
 use Rattle.std.proofs.lemmas.Option.{slice_get-get_or}
-use Rattle.guards.specs.Schema.{Declarations, field_count, guard_of, is_transient_of, owner_of}
+use Rattle.guards.specs.Schema.{Declarations, guard_of, is_transient_of, owner_of}
 use Rattle.image_parts.specs.Guards.{no_row}
 use Rattle.image_parts.specs.declared.guard_row.GuardRow.{GuardRow}
 use Rattle.image_parts.specs.declared.layout.Layout.{Layout}

@@ -1,5 +1,5 @@
 -- The schema of a dump is a schema, with names that a file may have.
-use Rattle.std.proofs.Common.{ℕ, zero, suc, ◌≡◌, ◌+◌, ◌<◌, ◌≤◌, ◌^◌, ◌&&◌, Bool, true, Option, None, Some, List, [], ◌∷◌, ◌++◌, length, get_or, append_assoc, append-nil, length-append, codes, decimal, ltb, leb, refl, sym, ap, subst, ◌∙◌, arith}
+use Rattle.std.proofs.Common.{ℕ, zero, suc, ◌≡◌, ◌+◌, ◌<◌, ◌≤◌, ◌^◌, ◌&&◌, Bool, true, Option, None, Some, List, [], ◌∷◌, ◌++◌, length, get_or, append_assoc, append-nil, length-append, decimal, refl, sym, ap, subst, ◌∙◌, arith}
 use Rattle.std.specs.Prelude.{slice_index}
 use Rattle.std.specs.List.{list_all}
 use Rattle.std.specs.Str.Parse.{AllDigits}
@@ -7,7 +7,7 @@ use Rattle.std.proofs.lemmas.Bool.{lt-ltb, le-leb}
 use Rattle.std.proofs.lemmas.Bool.Decides.{nat_tests}
 use Rattle.std.proofs.lemmas.Fmt.{decimal_is_IsNumeral, length-decimal-le}
 use Rattle.std.proofs.lemmas.Str.Parse.{digit_from_value}
-use Rattle.guards.specs.Schema.{Declarations, Field, IsSchema, IsWithinLimits, field_count, firsts_of, guards_of, names_of, nothing, object_count, owners_of}
+use Rattle.guards.specs.Schema.{Declarations, Field, IsSchema, field_count, firsts_of, guards_of, names_of, object_count, owners_of}
 use Rattle.heap_model.specs.declared.limits.TheConstants.{MOST_FIELDS, MOST_OBJECTS}
 use Rattle.image_parts.specs.Guards.{HasGuards, NamesObjects, no_row}
 use Rattle.image_parts.specs.Layout.{IsLayout}
@@ -17,13 +17,11 @@ use Rattle.image_parts.specs.NumberedRows.{field_name, fields_from, names_below,
 use Rattle.image_parts.proofs.Numbered.{field_is_new, fields_are, fields_more, guard_at, object_is_new, objects_are, owner_at}
 use Rattle.recover.specs.Study.{IsStudyOf}
 use Rattle.recover.specs.declared.studied.Study.{Study}
-use Rattle.script_lines.specs.Grammar.{is_name, is_name_byte, IsName}
-use Rattle.script_lines.specs.Lines.{lines_of}
-use Rattle.script_declarations.specs.SchemaFiles.{DeclaresLines}
-use Rattle.script_declarations.specs.SchemaText.{AreNames, HasNames, SchemaTextLaw, begun_with, beginning_with, schema_text}
+use Rattle.script_lines.specs.Grammar.{is_name_byte, IsName}
+use Rattle.script_declarations.specs.SchemaText.{AreNames, HasNames, SchemaTextLaw, begun_with, beginning_with}
 use Rattle.script_declarations.proofs.NameLemmas.{names_more}
 use Rattle.script_declarations.proofs.TextLemmas.{names-push}
-use Rattle.image_schema.specs.OfImage.{FitsImage, named_as}
+use Rattle.image_schema.specs.OfImage.{named_as}
 use Rattle.image_schema.specs.Dumping.{DumpLaw, IsOfFile, dumped}
 
 -- fields that begin otherwise

@@ -1,8 +1,8 @@
 -- A schema's file, item by item.
-use Rattle.std.proofs.Common.{ℕ, zero, suc, ◌≡◌, ◌+◌, ◌<◌, false, List, [], ◌∷◌, ◌++◌, length, map, get_or, refl, sym, ap, ◌∙◌, arith}
+use Rattle.std.proofs.Common.{ℕ, zero, suc, ◌≡◌, ◌+◌, ◌<◌, false, List, [], ◌∷◌, ◌++◌, length, get_or, refl, sym, ap, ◌∙◌, arith}
 use Rattle.std.specs.Prelude.{slice_index}
 use Rattle.std.specs.List.{flat_map}
-use Rattle.guards.specs.Schema.{Declarations, Field, guard_of, guards_of, marks_of, names_of, owner_of, owners_of}
+use Rattle.guards.specs.Schema.{Declarations, Field, guards_of, marks_of, names_of, owners_of}
 use Rattle.script_declarations.specs.SchemaText.{begun_with, ended, field_line, field_lines, object_line, object_lines}
 use Rattle.image_schema.specs.Lines.{field_at}
 

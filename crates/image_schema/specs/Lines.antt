@@ -1,6 +1,6 @@
 -- A schema file: its lines, by number, and its parts.
 use Rattle.std.specs.Prelude.{ℕ, List, [], slice_index_or}
-use Rattle.guards.specs.Schema.{Declarations, Field, guard_of, is_transient_of, names_of, owner_of}
+use Rattle.guards.specs.Schema.{Declarations, guard_of, is_transient_of, names_of, owner_of}
 use Rattle.std.specs.List.{flat_map}
 use Rattle.script_declarations.specs.SchemaText.{beginning_with, begun_with, ended, field_line, field_lines, name_of, object_line, object_lines, schema_text}
 

@@ -1,8 +1,7 @@
 -- Why a section is dropped, looked for in the list of those that are, one after the other.
-use Rattle.std.proofs.Common.{ℕ, ◌≡◌, ◌+◌, ◌<◌, ◌∙◌, if◌then◌else◌, Bool, true, false, Option, Some, List, length, get_or, drop, ap}
+use Rattle.std.proofs.Common.{ℕ, ◌≡◌, ◌+◌, ◌<◌, ◌∙◌, if◌then◌else◌, Bool, true, false, Some, List, length, get_or, drop, ap}
 use Rattle.std.proofs.lemmas.List.{drop_more}
 use Rattle.recover.specs.declared.report.Dropped.{Dropped}
-use Rattle.recover.specs.declared.report.Why.{Why}
 use Rattle.inspect.specs.declared.section.SectionId.{SectionId}
 use Rattle.inspect.specs.GraphText.{is_about, reason_in}
 

@@ -1,5 +1,5 @@
 -- Texts that are written one after the other: what the last answer says is said of the whole.
-use Rattle.std.proofs.Common.{Result, Ok, Err, ℕ, ◌≡◌, Option, List, [], ◌∷◌, ◌++◌, sym, subst, append-nil}
+use Rattle.std.proofs.Common.{Result, Ok, Err, ℕ, Option, List, [], ◌∷◌, ◌++◌, sym, subst, append-nil}
 use Rattle.std.specs.List.{concat}
 use Rattle.std.specs.Io.KnownBytes.{Appends}
 use Rattle.std.proofs.KnownBytes.{Appends-trans}

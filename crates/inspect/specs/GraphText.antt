@@ -1,6 +1,6 @@
 -- A graph of sections, in Graphviz's DOT language (this project's own). Lanes are columns, since nodes of one rank are drawn in one.
 -- `firsts` has the number of each lane's first section that is drawn.
-use Rattle.std.specs.Prelude.{ℕ, ◌-◌, ◌==◌, ◌&&◌, if◌then◌else◌, nat_le, Bool, true, false, List, [], ◌∷◌, ◌++◌, codes, Option, None, Some, option_and_then, slice_get}
+use Rattle.std.specs.Prelude.{ℕ, ◌-◌, ◌==◌, ◌&&◌, if◌then◌else◌, nat_le, Bool, true, false, List, [], ◌∷◌, ◌++◌, codes, Option, None, Some, slice_get}
 use Rattle.std.specs.Fmt.{decimal}
 use Rattle.std.specs.List.{concat}
 use Rattle.guards.specs.Schema.{Declarations}

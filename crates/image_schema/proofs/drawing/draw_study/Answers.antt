@@ -1,4 +1,4 @@
-use Rattle.std.proofs.Common.{rules, ◌≡◌, ◌∙◌, true, false, Option, sym, subst}
+use Rattle.std.proofs.Common.{◌≡◌, ◌∙◌, true, false, Option, sym, subst}
 use Rattle.std.specs.Io.KnownBytes.{Appends}
 use Rattle.std.proofs.KnownBytes.{Appends-nil}
 use Rattle.guards.specs.Schema.{Declarations}

@@ -1,10 +1,5 @@
-use Rattle.std.proofs.Common.{rules, ℕ, Option, List, Result, Ok, Err, IfErr, subst}
+use Rattle.std.proofs.Common.{rules}
 use Rattle.std.proofs.lemmas.Result.{on_ok_weaker}
-use Rattle.guards.specs.Schema.{Declarations}
-use Rattle.recover.specs.Study.{IsStudyOf}
-use Rattle.recover.specs.declared.studied.Study.{Study as Studied}
-use Rattle.image_schema.specs.Dumping.{DumpsStudy, RefusesDump, RefusesStudy}
-use Rattle.image_schema.specs.declared.error.DumpError.{DumpError}
 use Rattle.image_schema.proofs.DumpLemmas.{dumps, refuses_all, not_fault}
 use Rattle.image_schema.proofs.dumping.dump.Goals as goal
 

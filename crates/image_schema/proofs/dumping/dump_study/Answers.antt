@@ -1,4 +1,4 @@
-use Rattle.std.proofs.Common.{ap, length, sym, ◌∙◌}
+use Rattle.std.proofs.Common.{ap, length, ◌∙◌}
 use Rattle.image_schema.proofs.FitLemmas.{heap_length}
 use Rattle.image_schema.proofs.dumping.dump_study.Goals as goal
 

@@ -1,5 +1,4 @@
-use Rattle.std.proofs.Common.{ℕ, ◌≡◌, ◌+◌, ◌<◌, IsTrue, refl, sym, ◌∙◌, subst, arith, rules}
-use Rattle.image_schema.specs.OfImage.{is_row_of}
+use Rattle.std.proofs.Common.{refl, arith, rules}
 use Rattle.image_schema.proofs.FitLemmas.{one_row_more}
 use Rattle.image_schema.proofs.fitting.are_rows_of.Goals as goal
 

@@ -1,4 +1,4 @@
-use Rattle.std.proofs.Common.{◌≡◌, ◌∙◌, ap, subst, sym}
+use Rattle.std.proofs.Common.{subst, sym}
 use Rattle.guards.specs.Schema.{Declarations}
 use Rattle.image_schema.specs.OfImage.{FitsImage, named_as}
 use Rattle.image_schema.proofs.FitLemmas.{study_fits}

@@ -1,4 +1,4 @@
-use Rattle.std.proofs.Common.{rules, ℕ, List, Result, IfErr, subst}
+use Rattle.std.proofs.Common.{rules, Result, IfErr, subst}
 use Rattle.std.proofs.lemmas.Result.{on_ok_weaker}
 use Rattle.std.specs.Io.KnownBytes.{Appends}
 use Rattle.inspect.specs.declared.error.InspectError.{InspectError}

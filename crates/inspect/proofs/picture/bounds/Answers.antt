@@ -1,11 +1,10 @@
-use Rattle.std.proofs.Common.{ℕ, ◌≡◌, ◌+◌, ◌-◌, ◌<◌, ◌∙◌, ◌++◌, List, [], ◌∷◌, length, take, reverse, refl, sym, ap, ap₂, subst, arith, slice_set}
+use Rattle.std.proofs.Common.{ℕ, ◌≡◌, ◌+◌, ◌-◌, ◌<◌, ◌∙◌, ◌++◌, List, [], ◌∷◌, length, take, reverse, sym, ap, ap₂, arith, slice_set}
 use Rattle.std.proofs.lemmas.List.{length-set, take_more_set}
 use Rattle.heap_model.specs.declared.record.UndoRecord.{UndoRecord}
 use Rattle.recover_logs.specs.Lanes.{count_of}
 use Rattle.recover_heap.specs.Logs.{records_of}
 use Rattle.inspect.specs.declared.numbering.Numbering.{Numbering}
 use Rattle.inspect.specs.Drawn.{drawn_from}
-use Rattle.inspect.specs.Sections.{by_lane, numbering_of}
 use Rattle.inspect.proofs.LaneLemmas.{lanes_more}
 use Rattle.inspect.proofs.picture.bounds.Goals as goal
 

@@ -1,4 +1,4 @@
-use Rattle.std.proofs.Common.{◌≤◌, List, length, arith, reverse, sym, subst}
+use Rattle.std.proofs.Common.{List, length, arith, reverse, sym, subst}
 use Rattle.std.proofs.lemmas.List.{take_all}
 use Rattle.heap_model.specs.declared.record.UndoRecord.{UndoRecord}
 use Rattle.recover_logs.specs.Lanes.{count_of}

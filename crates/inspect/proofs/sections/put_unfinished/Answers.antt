@@ -1,4 +1,4 @@
-use Rattle.std.proofs.Common.{rules, ℕ, ◌≡◌, ◌==◌, Bool, true, false, List, [], ◌∷◌, sym, ap, subst, OnOk, OnErr}
+use Rattle.std.proofs.Common.{rules, ℕ, ◌≡◌, ◌==◌, true, false, List, [], ◌∷◌, sym, ap, subst, OnOk, OnErr}
 use Rattle.std.specs.Io.KnownBytes.{Appends}
 use Rattle.std.proofs.KnownBytes.{Appends-nil}
 use Rattle.inspect.specs.declared.section.Section.{Section}
