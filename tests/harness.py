@@ -43,6 +43,8 @@ WORDS = {
 }
 OVER = "t1 enter o0\nt1 store f0 11\nt1 exit o0\nlog\nhome\nsettle\n"
 IN_USE = 3
+# Seconds, in which what doesn't hang has ended. A machine may be slow, or lose its processors for a while.
+WITHIN = 240
 
 # What the cases have counted, by part.
 COUNTS = collections.defaultdict(collections.Counter)
@@ -83,18 +85,18 @@ def start(words, stdin="", program=None, memory=None, file_size=None, closed=(),
         return subprocess.Popen([program or HEAPCTL, *map(str, words)], preexec_fn=prepare, **how)
 
 
-def end(running, within=60):
+def end(running, within=WITHIN):
     """Waits for it, and kills it where it doesn't end in time."""
     try:
         out, told = running.communicate(timeout=within)
     except subprocess.TimeoutExpired:
         running.kill()
         running.communicate()
-        return Ran(None, "", "it didn't end")
+        return Ran(None, "", f"it didn't end in {within} s")
     return Ran(running.returncode, (out or b"").decode(errors="surrogateescape"), told.decode(errors="replace"))
 
 
-def run(words, stdin="", within=60, **how):
+def run(words, stdin="", within=WITHIN, **how):
     return end(start(words, stdin, **how), within)
 
 
@@ -206,8 +208,9 @@ class InFolder(unittest.TestCase):
         """An image that a killed run of two workers has left in the midst of its work, and its heap."""
         with tempfile.TemporaryDirectory() as folder:
             image = Path(folder, "image")
-            for number in range(100):
-                ended = kill(start(["drive", "--image", image, "--rounds", "10000"]), random.uniform(0.005, 0.03) * (number + 1))
+            for number in range(300):
+                # Later and later, on a slow machine for many rounds too.
+                ended = kill(start(["drive", "--image", image, "--rounds", "10000"]), random.uniform(0.005, 0.03) * (number % 100 + 1))
                 heap = heap_of(image) if ended.status == -signal.SIGKILL and image.exists() else None
                 if heap and heap[0] > 0:
                     return image.read_bytes(), heap

@@ -19,7 +19,7 @@ import time
 import unittest
 from pathlib import Path
 
-from .harness import COUNTS, TOP, needs_cc, tries
+from .harness import COUNTS, TOP, WITHIN, needs_cc, tries
 
 LIBS = Path(os.environ.get("ZELAMIKU_LIBS", TOP / "crates/zelamiku/out/host"))
 needs_archive = unittest.skipUnless((LIBS / "libzelamiku.a").exists(), "no libzelamiku.a (tools/c-library makes it)")
@@ -29,7 +29,8 @@ HAS_CARGO = shutil.which("cargo") and subprocess.run(["cargo", "--version"], cap
 
 
 class Judge:
-    """Hears the lines of all runs of an example, one after the other; raises AssertionError where one is wrong."""
+    """Hears the lines of all runs of an example, one after the other; raises AssertionError where one is wrong. The first FOUND lines of a run
+    say what it found."""
 
     def hear(self, line):
         for pattern, answer in self.LINES.items():
@@ -41,7 +42,7 @@ class Judge:
 class Totals(Judge):
     """Of counters."""
 
-    TOLD = "counts acknowledged"
+    TOLD, FOUND = "counts acknowledged", 1
     LINES = {r"total \d+ = \d+ \+ \d+ \+ \d+ \+ \d+": "found", r"acknowledged \d+": "told"}
     total = acknowledged = all = runs = 0
 
@@ -62,7 +63,7 @@ class Totals(Judge):
 class Transfers(Judge):
     """Of the bank: whether an acknowledged transfer was lost."""
 
-    TOLD = "transfers acknowledged"
+    TOLD, FOUND = "transfers acknowledged", 1
     LINES = {r"found( \d+)+": "found", r"acknowledged \d+ \d+": "told"}
 
     def __init__(self):
@@ -83,7 +84,7 @@ class Transfers(Judge):
 class Jobs(Judge):
     """Of the queue, by producer: whether a job was lost or done twice."""
 
-    TOLD = "jobs done"
+    TOLD, FOUND = "jobs done", 3
     LINES = {r"found \d+ put \d+ done \d+": "found", r"put \d+ \d+": "told_put", r"done \d+ \d+": "told_done"}
 
     def __init__(self):
@@ -142,15 +143,19 @@ class Examples(unittest.TestCase):
             how = {"stdin": subprocess.DEVNULL, "stdout": out, "stderr": subprocess.STDOUT, **how}
             return subprocess.Popen([program, self.image, *words], **how)
 
-    def await_output(self):
-        """Until the run has told what it found, so that the kill comes while it counts; for 20 seconds at most."""
-        end = time.monotonic() + 20
-        while self.out.stat().st_size == 0 and time.monotonic() < end:
+    def lines(self):
+        return self.out.read_text().split("\n")[:-1]
+
+    def await_lines(self, running, count):
+        """Until the run has told so many: by the first one, of what it found, it counts."""
+        end = time.monotonic() + WITHIN
+        while len(self.lines()) < count and running.poll() is None:
+            self.assertLess(time.monotonic(), end, f"in {WITHIN} s a run tells no {count} lines: {self.out.read_text()[-500:]}")
             time.sleep(0.02)
 
     def heard(self, judge):
         """Of what the run has told, each line but one that the kill has cut off."""
-        for line in self.out.read_text().split("\n")[:-1]:
+        for line in self.lines():
             judge.hear(line)
 
     def killed(self, program, judge, pauses, kills, last):
@@ -160,7 +165,8 @@ class Examples(unittest.TestCase):
             is_awaited, pause = pauses(number)
             running = self.started(program)
             if is_awaited:
-                self.await_output()
+                # One in three may come before more is told.
+                self.await_lines(running, judge.FOUND + (number % 3 != 0))
             time.sleep(pause)
             running.kill()
             self.assertEqual(running.wait(), -signal.SIGKILL, f"kill {number}: it has ended by itself: {self.out.read_text()[-500:]}")
@@ -170,7 +176,7 @@ class Examples(unittest.TestCase):
 
     def ended_well(self, program, judge, last):
         for words in last:
-            self.assertEqual(self.started(program, words).wait(60), 0, self.out.read_text()[-500:])
+            self.assertEqual(self.started(program, words).wait(WITHIN), 0, self.out.read_text()[-500:])
             self.heard(judge)
         self.assertGreater(judge.sum(), 0, "nothing was told, so nothing was tested")
 
@@ -179,7 +185,7 @@ class Examples(unittest.TestCase):
         heap = self.image.read_bytes()
         for content in (b"no heap\n", heap[:8] + b"\0" + heap[9:]):
             self.image.write_bytes(content)
-            status = self.started(program, "0").wait(60)
+            status = self.started(program, "0").wait(WITHIN)
             self.assertTrue(status > 0 and self.image.read_bytes() == content, f"status {status}")
 
 
@@ -231,6 +237,10 @@ class Leases(Examples):
         COUNTS["examples"].update({"kills of leases": tries(4)})
 
 
+# Of the bank, and of the queue with its consumers.
+MOST_THREADS = 16
+
+
 @needs_archive
 @needs_cc
 class Syncs(Examples):
@@ -251,7 +261,7 @@ class Syncs(Examples):
             for meet in (self.fails, self.hangs):
                 with open(self.error, "wb") as error:
                     running = self.started(program, env=env, stderr=error)
-                self.await_output()
+                self.await_lines(running, judge.FOUND)
                 time.sleep((number % 3) / 10 + (number % 9 + 1) / 100)
                 meet(running, number)
                 self.heard(judge)
@@ -260,20 +270,25 @@ class Syncs(Examples):
 
     def fails(self, running, _):
         Path(f"{self.fault}.sync").touch()
-        status = running.wait(60)
+        status = running.wait(WITHIN)
         Path(f"{self.fault}.sync").unlink()
         told = self.error.read_text()
         self.assertTrue(status == 2 and re.search("a sync .*failed", told), f"status {status}: {told}")
 
     def hangs(self, running, number):
-        hang = Path(f"{self.fault}.hang")
+        """Once a sync hangs, each thread may tell of one section more, of the round before. Threads that don't wait for durability go on."""
+        hang, hung = Path(f"{self.fault}.hang"), Path(f"{self.fault}.hung")
         hang.touch()
-        time.sleep(0.2)
-        told = self.out.stat().st_size
-        time.sleep(0.1)
-        self.assertEqual(self.out.stat().st_size, told, "a sync hangs, and more is told")
+        end = time.monotonic() + WITHIN
+        while not hung.exists():
+            self.assertLess(time.monotonic(), end, f"in {WITHIN} s no sync has begun: {self.out.read_text()[-500:]}")
+            time.sleep(0.002)
+        told = len(self.lines())
+        time.sleep(0.3)
+        self.assertLessEqual(len(self.lines()), told + MOST_THREADS, "a sync hangs, and more is told")
         hang.unlink()
         if number % 2:
-            time.sleep(0.2)
+            self.await_lines(running, told + MOST_THREADS + 1)
+        hung.unlink()
         running.kill()
         self.assertEqual(running.wait(), -signal.SIGKILL, "it has ended by a sync that hung")

@@ -14,7 +14,7 @@ import time
 import unittest
 from pathlib import Path
 
-from .harness import COUNTS, TOP, needs_heapctl, run, tries
+from .harness import COUNTS, TOP, WITHIN, needs_heapctl, run, tries
 from .test_examples import LIBS, needs_shared
 
 sys.path.insert(0, f"{TOP}/bindings/python")
@@ -100,13 +100,13 @@ class Lanes(unittest.TestCase):
                 met.append(heap.session.lane)
             except zelamiku.NoLaneFree as error:
                 met.append(type(error))
-            gate.wait(60)
+            gate.wait(WITHIN)
 
         threads = [threading.Thread(target=use) for _ in range(count)]
         for each in threads:
             each.start()
         for each in threads:
-            each.join(60)
+            each.join(WITHIN)
         return met
 
     def test_a_heap_of_four_threads_has_five_lanes_and_rounds_of_two_syncs(self):

@@ -28,7 +28,7 @@ from .harness import made_old, mounted, needs_root, refusal, run, tries
 
 OTHER = "object a\nfield x a a 7\n"
 # In bytes of address space, and in seconds: what a word may take that has to refuse a file.
-LIMITS = {"memory": 64 << 20, "within": 10}
+LIMITS = {"memory": 64 << 20}
 PAGE = 4096
 
 
@@ -201,7 +201,7 @@ class Blocks(InFolder):
                 subprocess.run(["losetup", "--detach", device], check=True)
 
     def fault_of(self, word, text, device):
-        ran, before = self.play(text.replace("{image}", device), OVER, within=10), bytes_of(self.image)
+        ran, before = self.play(text.replace("{image}", device), OVER), bytes_of(self.image)
         if word in ("show", "dot", "dump", "get"):
             is_so = ran == (0, self.play(text).out, "") and len(ran.out) > 0
         else:

@@ -6,7 +6,7 @@ these calls; with each thread refused (by `strace -e inject=`, which counts each
 image lies in two places on sectors, killed at each call while each sector that was written since the file's last sync gets other bytes.
 Without TRIES it is the first call, the second, the fourth, the eighth and so on.
 
-Each run ends by itself within a minute, with status 0 and the whole output or with another status, something told on standard error (but
+Each run ends by itself in time, with status 0 and the whole output or with another status, something told on standard error (but
 for `--help`) and a beginning of the output. Where a case has an image, each run begins on a copy of it, and afterwards recovery, or an
 upgrade where the image began with version 1, gives one of the heaps that the case allows, and where a run over it has printed anything, the
 one that it leaves; where workers were on it, each in which the total is the sum of what they counted each for itself. Beside it no file is

@@ -1,9 +1,10 @@
 /* Makes calls of a heap's file fail, as a system does: while there is a file at FAULTS.sync each fdatasync and fsync fails with EIO, and
- * while there is one at FAULTS.write each write at a place with ENOSPC. While there is one at FAULTS.hang no fdatasync returns. FAULTS is a
- * variable. For LD_PRELOAD, also by tests/test_examples.py. */
+ * while there is one at FAULTS.write each write at a place with ENOSPC. While there is one at FAULTS.hang no fdatasync returns; the first that
+ * doesn't makes FAULTS.hung. FAULTS is a variable. For LD_PRELOAD, also by tests/test_examples.py. */
 #define _GNU_SOURCE
 #include <dlfcn.h>
 #include <errno.h>
+#include <fcntl.h>
 #include <stdio.h>
 #include <stdlib.h>
 #include <sys/types.h>
@@ -20,8 +21,20 @@ static int fails(const char *what, int error) {
     return is_there;
 }
 
+static void tell_hang(void) {
+    char path[4096];
+    const char *folder = getenv("FAULTS");
+    if (folder == NULL) return;
+    (void)snprintf(path, sizeof path, "%s.hung", folder);
+    int file = open(path, O_WRONLY | O_CREAT | O_CLOEXEC, 0600);
+    if (file >= 0) (void)close(file);
+}
+
 int fdatasync(int file) {
     int (*next)(int) = (int (*)(int))dlsym(RTLD_NEXT, "fdatasync");
+    int cause = errno;
+    if (fails("hang", 0)) tell_hang();
+    errno = cause;
     while (fails("hang", 0)) usleep(1000);
     return fails("sync", EIO) ? -1 : next(file);
 }

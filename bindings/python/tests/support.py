@@ -15,8 +15,10 @@ from typing import Any
 
 import zelamiku
 
-# A test that hangs tells where, and ends.
-PATIENCE = 60
+# Seconds: a test that hangs tells where, and ends. A machine may be slow, or lose its processors for a while.
+PATIENCE = 240
+# What such a test waits for at most.
+LONG = PATIENCE / 2
 faulthandler.enable()
 
 
@@ -29,7 +31,7 @@ class Queue(zelamiku.Object):
 
 
 class OnFile(unittest.TestCase):
-    """A test with a folder of its own, which may not take longer than a minute."""
+    """A test with a folder of its own, which may not take longer than PATIENCE."""
 
     def setUp(self) -> None:
         self.be_patient()
@@ -40,7 +42,7 @@ class OnFile(unittest.TestCase):
         self.path = str(self.folder / "a.heap")
 
     def be_patient(self) -> None:
-        """It may take a minute from now on."""
+        """It may take so long from now on."""
         faulthandler.dump_traceback_later(PATIENCE, exit=True)
 
     def open(self, **declared: Any) -> zelamiku.Heap:

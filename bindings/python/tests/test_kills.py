@@ -72,11 +72,10 @@ class Kills(OnFile):
             self.be_patient()
             bank = subprocess.Popen([sys.executable, __file__, "serve", self.path], stdout=subprocess.PIPE, cwd=Path(__file__).parent)
             # One in four may come while the heap is made or opened.
-            if kill % 4:
-                bank.stdout.readline()
+            lines = [bank.stdout.readline()] if kill % 4 else []
             time.sleep(random.uniform(0, 0.3))
             bank.send_signal(signal.SIGKILL)
-            lines = bank.communicate()[0].splitlines(keepends=True)
+            lines += bank.communicate()[0].splitlines(keepends=True)
             self.assertEqual(bank.returncode, -signal.SIGKILL)
             for line in lines:
                 if line.endswith(b"\n"):

@@ -6,7 +6,7 @@ import time
 import unittest
 
 import zelamiku
-from support import Account, OnFile, Queue, bob_in_alice, held_elsewhere, in_process, in_thread
+from support import Account, LONG, OnFile, Queue, bob_in_alice, held_elsewhere, in_process, in_thread
 
 
 class Many(zelamiku.Object):
@@ -44,7 +44,7 @@ class Monitors(OnFile):
 
     @staticmethod
     def values_of_alice(heap):
-        with heap.synchronized(heap.alice, heap.queue, timeout=5):
+        with heap.synchronized(heap.alice, heap.queue, timeout=LONG):
             if (heap.alice.balance, heap.queue.count) != (1, 1):
                 raise ValueError
 
@@ -822,7 +822,7 @@ class Durability(OnFile):
                 with self.assertRaisesRegex(zelamiku.InSection, "leave it first"):
                     heap.durable()
                 heap.alice.balance = 1
-            self.assertTrue(heap.durable(timeout=10))
+            self.assertTrue(heap.durable(timeout=LONG))
 
     def test_it_waits_for_what_a_section_depends_on(self):
         with self.open() as heap:
@@ -843,17 +843,25 @@ class Durability(OnFile):
         def ring(*_):
             raise Ring
 
+        def ring_once_it_waits(heap, main):
+            while heap.stats().awaiting == 0:
+                time.sleep(0.001)
+            signal.pthread_kill(main, signal.SIGALRM)
+
         with self.open() as heap:
             with held_elsewhere(bob_in_alice(heap)):
                 with heap.synchronized(heap.bob):
                     heap.bob.balance = 2
                 before = signal.signal(signal.SIGALRM, ring)
+                other = threading.Thread(target=ring_once_it_waits, args=(heap, threading.get_ident()))
+                other.start()
                 try:
-                    signal.setitimer(signal.ITIMER_REAL, 0.3)
                     with self.assertRaises(Ring):
                         heap.durable()
+                        other.join()
                 finally:
                     signal.signal(signal.SIGALRM, before)
+                other.join()
             self.assertTrue(heap.durable())
 
     def test_what_is_answered_durable_survives_a_kill(self):

@@ -5,7 +5,6 @@ import json
 import subprocess
 import sys
 import tempfile
-import time
 import unittest
 from pathlib import Path
 from unittest import mock
@@ -16,7 +15,25 @@ from zelamiku.session import Lane
 HERE = Path(__file__).parent
 sys.path.insert(0, str(HERE))
 
+import table  # noqa: E402
 from table import MOST_SWEPT, NAME_BYTES, SLOTS, Full, Leases, Table  # noqa: E402
+
+
+# Seconds, in which a server that doesn't hang has answered or ended.
+PATIENCE = 240
+
+
+class Clock:
+    """In place of the module `time`: it goes on by what is slept alone, so that it doesn't matter how long a test takes."""
+
+    def __init__(self) -> None:
+        self.now = 1_000_000_000
+
+    def monotonic_ns(self) -> int:
+        return self.now
+
+    def sleep(self, seconds: float) -> None:
+        self.now += round(seconds * 1e9)
 
 
 class OnFile(unittest.TestCase):
@@ -24,6 +41,10 @@ class OnFile(unittest.TestCase):
         folder = tempfile.TemporaryDirectory()
         self.addCleanup(folder.cleanup)
         self.path = str(Path(folder.name, "leases.heap"))
+        self.clock = Clock()
+        patched = mock.patch.object(table, "time", self.clock)
+        patched.start()
+        self.addCleanup(patched.stop)
 
     def open(self) -> zelamiku.Heap:
         return zelamiku.open(self.path, table=Table, lanes=2)
@@ -35,7 +56,7 @@ class Tables(OnFile):
             leases = Leases(heap)
             first = leases.acquire("one", 7, 60)
             self.assertEqual((first.name, first.token), ("one", 1))
-            self.assertTrue(59 < first.seconds <= 60)
+            self.assertEqual(first.seconds, 60)
             self.assertIsNone(leases.acquire("one", 8, 60))
             # Who asks again has it.
             self.assertEqual(leases.acquire("one", 7, 30).token, 1)
@@ -55,13 +76,13 @@ class Tables(OnFile):
         with self.open() as heap:
             leases = Leases(heap)
             leases.acquire("one", 7, 0.05)
-            time.sleep(0.06)
+            self.clock.sleep(0.06)
             self.assertEqual(leases.all(), [])
             self.assertIsNone(leases.renew("one", 1, 60))
             self.assertEqual(leases.acquire("one", 8, 60).token, 2)
             self.assertIsNone(leases.renew("one", 1, 60))
             leases.acquire("two", 7, 0.05)
-            time.sleep(0.06)
+            self.clock.sleep(0.06)
             self.assertEqual(leases.acquire("two", 7, 60).token, 4)
 
     def test_an_opening_finds_leases_with_their_whole_time(self):
@@ -71,12 +92,13 @@ class Tables(OnFile):
             for holder, name in enumerate(names):
                 leases.acquire(name, 2**64 - 1 - holder, 0.5)
             leases.release("a", 1)
-            time.sleep(0.3)
+            self.clock.sleep(0.3)
+            self.assertEqual({round(lease.seconds, 6) for lease in leases.all()}, {0.2})
         with self.open() as heap:
             leases = Leases(heap)
             found = {lease.name: lease for lease in leases.all()}
             self.assertEqual({name: lease.token for name, lease in found.items()}, {name: token for token, name in enumerate(names[1:], 2)})
-            self.assertTrue(all(0.3 < lease.seconds <= 0.5 for lease in found.values()))
+            self.assertEqual({lease.seconds for lease in found.values()}, {0.5})
             self.assertEqual(leases.acquire("a", 1, 60).token, 5)
 
     def test_wrong_names(self):
@@ -92,7 +114,7 @@ class Tables(OnFile):
             leases = Leases(heap)
             for number in range(SLOTS):
                 leases.acquire(f"name {number}", 1, 60 if number % 2 else 0.001)
-            time.sleep(0.01)
+            self.clock.sleep(0.01)
             for number in range(SLOTS // 2):
                 self.assertIsNotNone(leases.acquire(f"more {number}", 1, 60))
             with self.assertRaises(Full):
@@ -144,7 +166,7 @@ class Reverts(OnFile):
             leases = Leases(heap)
             for number in range(SLOTS):
                 leases.acquire(f"name {number}", 1, 0.001)
-            time.sleep(0.002)
+            self.clock.sleep(0.002)
             for number in (0, MOST_SWEPT // 2, MOST_SWEPT - 1, MOST_SWEPT, MOST_SWEPT + 7):
                 self.assertTrue(self.broken_at(number, lambda: leases.acquire("one more", 8, 60)))
                 self.assertEqual(len(leases._slot_of), SLOTS)
@@ -158,7 +180,7 @@ class Reverts(OnFile):
 class Servers(OnFile):
     def test_one_of_leases_that_are_there_makes_no_file(self):
         words = [sys.executable, str(HERE), self.path, "--port", "0", "--existing"]
-        told = subprocess.run(words, capture_output=True, text=True, timeout=60, check=False)
+        told = subprocess.run(words, capture_output=True, text=True, timeout=PATIENCE, check=False)
         self.assertEqual((told.returncode, told.stdout), (1, ""))
         self.assertIn(f"leases: {self.path}: there is no heap", told.stderr)
         self.assertFalse(Path(self.path).exists())
@@ -168,7 +190,7 @@ class Servers(OnFile):
             self.addCleanup(server.communicate)
             self.assertIn("has 0 leases", server.stdout.readline())
             server.terminate()
-            self.assertEqual(server.wait(30), 0)
+            self.assertEqual(server.wait(PATIENCE), 0)
 
     def test_requests(self):
         server = subprocess.Popen([sys.executable, str(HERE), self.path, "--port", "0"], stdout=subprocess.PIPE, text=True)
@@ -177,18 +199,18 @@ class Servers(OnFile):
         port = int(server.stdout.readline().split("/")[2].split(":")[1])
 
         def ask(method, path):
-            connection = http.client.HTTPConnection("127.0.0.1", port, timeout=30)
+            connection = http.client.HTTPConnection("127.0.0.1", port, timeout=PATIENCE)
             connection.request(method, path)
             answer = connection.getresponse()
             told = answer.status, json.loads(answer.read())
             connection.close()
             return told
 
-        status, lease = ask("POST", "/leases/a%20b?holder=7&seconds=30")
+        status, lease = ask("POST", "/leases/a%20b?holder=7&seconds=3600")
         self.assertEqual((status, lease["name"], lease["token"]), (200, "a b", 1))
-        self.assertEqual(ask("POST", "/leases/a%20b?holder=8&seconds=30"), (409, {}))
-        self.assertEqual(ask("PUT", "/leases/a%20b?token=1&seconds=60")[0], 200)
-        self.assertEqual(ask("PUT", "/leases/a%20b?token=2&seconds=60")[0], 404)
+        self.assertEqual(ask("POST", "/leases/a%20b?holder=8&seconds=3600"), (409, {}))
+        self.assertEqual(ask("PUT", "/leases/a%20b?token=1&seconds=3600")[0], 200)
+        self.assertEqual(ask("PUT", "/leases/a%20b?token=2&seconds=3600")[0], 404)
         self.assertEqual([lease["name"] for lease in ask("GET", "/leases")[1]], ["a b"])
         for path in (
             "/leases/x?holder=7",
@@ -210,7 +232,7 @@ class Servers(OnFile):
         self.assertEqual(ask("DELETE", "/leases/a%20b?token=1"), (200, {}))
         self.assertEqual(ask("DELETE", "/leases/a%20b?token=1"), (404, {}))
         server.terminate()
-        self.assertEqual(server.wait(30), 0)
+        self.assertEqual(server.wait(PATIENCE), 0)
 
 
 if __name__ == "__main__":
