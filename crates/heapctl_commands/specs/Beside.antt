@@ -1,5 +1,5 @@
 -- What the program's words leave beside the path that they name (docs/SCRIPTS.md, "One process at a time").
-use Rattle.std.specs.Prelude.{ℕ, ◌≡◌, Bool, false, not, List, Option, None, Some, Result}
+use Rattle.std.specs.Prelude.{ℕ, ◌≡◌, false, not, List, Option, None, Some, Result}
 use Rattle.std.specs.Borrow.{Bor}
 use Rattle.disk_sectors.specs.declared.size.SectorSize.{SectorSize}
 use Rattle.image_file.specs.Beside.{KeepsBeside, LeavesBeside, MakesBeside, StaysBeside}

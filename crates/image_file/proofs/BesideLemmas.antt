@@ -1,5 +1,5 @@
 -- What is known of what lies beside a path, call by call.
-use Rattle.std.proofs.Common.{ℕ, ◌≡◌, ◌⊎◌, Bool, true, false, List, [], ◌∷◌, Option, None, Some, inl, inr, subst, sym, ◌∙◌}
+use Rattle.std.proofs.Common.{ℕ, ◌⊎◌, Bool, true, false, List, [], ◌∷◌, Option, None, Some, inl, inr, subst, sym, ◌∙◌}
 use Rattle.disk_sectors.specs.declared.size.SectorSize.{SectorSize}
 use Rattle.image_file.specs.Beside.{IsKept, KeepsBeside, LeavesBeside, LiesStill, OthersRemain, Remains, StaysBeside, kept_at}
 use Rattle.image_file.specs.Images.{IsThere}

@@ -1,6 +1,5 @@
 -- The schema of an image's objects and fields is one that a machine over it may have.
-use Rattle.std.proofs.Common.{ℕ, ◌≡◌, ◌+◌, ◌<◌, ◌==◌, ◌&&◌, Bool, true, false, List, Some, length, get_or, IsTrue, ⊎_elim, subst, refl, sym, ap, ◌∙◌, arith}
-use Rattle.std.specs.Prelude.{slice_get}
+use Rattle.std.proofs.Common.{ℕ, ◌≡◌, ◌+◌, ◌<◌, ◌==◌, Bool, true, false, List, Some, length, get_or, IsTrue, ⊎_elim, subst, refl, sym, ap, ◌∙◌, arith}
 use Rattle.std.proofs.lemmas.Bool.{and_parts, cases_eq, eqb-true}
 use Rattle.std.proofs.lemmas.Option.{slice_get-get_or}
 use Rattle.guards.specs.Schema.{Declarations, field_count, first_of, guard_of, is_transient_of}

@@ -1,5 +1,5 @@
 -- From a study, a schema and a machine to the image that they are of.
-use Rattle.std.proofs.Common.{ℕ, ◌≡◌, ◌⊎◌, Option, List, None, Some, Result, Ok, Err, IfErr, IfOk, inl, inr, sym, subst, ◌∙◌, ap}
+use Rattle.std.proofs.Common.{ℕ, ◌≡◌, Option, List, None, Some, Result, Ok, Err, IfErr, IfOk, inl, inr, sym, subst, ◌∙◌, ap}
 use Rattle.block_disk.specs.Device.{SameMoments}
 use Rattle.block_disk.specs.Memory.{Memory, device_of, fresh}
 use Rattle.guards.specs.Schema.{Declarations}
@@ -16,7 +16,7 @@ use Rattle.script_lines.specs.Orders as order
 use Rattle.script_machine.specs.Machine.{MachineState, Down, RecoversDevice, Steps}
 use Rattle.script_machine.specs.States.{Wreck}
 use Rattle.script_machine.specs.declared.answer.Answer.{Answer}
-use Rattle.script_machine.specs.declared.answer.Answer.TheVariants.{Recovered, Refused}
+use Rattle.script_machine.specs.declared.answer.Answer.TheVariants.{Refused}
 use Rattle.script_machine.specs.declared.answer.Refusal.{Refusal}
 use Rattle.script_machine.specs.Images.{DiskLaw}
 use Rattle.script_machine.specs.OfSchema.{IsDiskOf}

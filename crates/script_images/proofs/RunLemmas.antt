@@ -1,14 +1,13 @@
 -- From the play to the run, and from what is there to what is written.
-use Rattle.std.proofs.Common.{ℕ, Bool, ◌≡◌, ◌⊎◌, ◌++◌, ◌+◌, ◌<◌, ◌≤◌, Option, None, Some, List, [], Result, Ok, Err, IfErr, IfOk, OnErr, OnOk, arith, inl, inr, length, get_or, refl, sym, subst, ap, ◌∙◌}
+use Rattle.std.proofs.Common.{ℕ, Bool, ◌≡◌, ◌⊎◌, ◌+◌, ◌<◌, ◌≤◌, Option, List, [], Result, Ok, Err, IfErr, arith, inl, inr, length, get_or, refl, sym, subst, ap, ◌∙◌}
 use Rattle.std.proofs.lemmas.List.{ext_get_or}
 use Rattle.block_disk.proofs.Bytes.{length_spliced, spliced_at}
 use Rattle.block_disk.specs.Bytes.{spliced}
 use Rattle.block_disk.specs.Device.{Device, synced, written}
 use Rattle.image_file.proofs.PlaceLemmas.{reads_left}
 use Rattle.image_file.specs.Images.{IsLeft, IsThere}
-use Rattle.std.specs.Io.KnownBytes.{Appends}
 use Rattle.std.proofs.KnownBytes.{Appends-nil}
-use Rattle.block_disk.specs.Memory.{Memory, device_of, fresh}
+use Rattle.block_disk.specs.Memory.{device_of}
 use Rattle.guards.specs.Schema.{Declarations}
 use Rattle.image_file.specs.Showing.{told_of_attaching}
 use Rattle.image_file.specs.declared.error.FileFault.{FileFault}
@@ -17,14 +16,11 @@ use Rattle.image_file.specs.declared.error.NamedFault.{NamedFault}
 use Rattle.image_file.specs.declared.error.NamedFault.TheVariants as named
 use Rattle.recover.specs.Recovery.{RefusesOf}
 use Rattle.recover.specs.Reading.{RefusesImage}
-use Rattle.recover_heap.specs.declared.error.RecoverError.TheVariants as recover
 use Rattle.recover.specs.declared.versions.Versions.TheVariants.{Current}
-use Rattle.script_lines.specs.declared.error.ScriptError.{ScriptError}
 use Rattle.script_lines.specs.declared.reader.Ending.{Ending}
 use Rattle.script_machine.specs.Machine.{MachineState, Down}
 use Rattle.script_machine.specs.States.{Wreck}
-use Rattle.script_play.specs.Runs.{AppendsPart, EndsOn}
-use Rattle.script_images.specs.Playing.{IsDown, IsNotRecovered, IsOver, IsRecovered, IsStopped, PlaysDown, PlaysOver, RefusesAs, RefusesDown, RefusesNamed, RefusesOver, RefusesToPlay, shown_by}
+use Rattle.script_images.specs.Playing.{IsDown, IsNotRecovered, IsOver, IsRecovered, PlaysDown, PlaysOver, RefusesAs, RefusesDown, RefusesNamed, RefusesOver, RefusesToPlay}
 use Rattle.script_images.specs.Running.{PlaysHeld, RefusesHeld, RunsHeld}
 use Rattle.script_images.specs.declared.error.RunFault.{RunFault}
 use Rattle.script_images.specs.declared.error.RunFault.TheVariants.{Named, Refused, Script, Write}

@@ -1,5 +1,5 @@
 -- What a machine leaves at a stop.
-use Rattle.std.proofs.Common.{ℕ, ◌≡◌, ◌+◌, ◌-◌, ◌<◌, Bool, if◌then◌else◌, Option, None, Some, List, length, refl, sym, ap, ◌∙◌, arith}
+use Rattle.std.proofs.Common.{ℕ, ◌≡◌, ◌-◌, ◌<◌, Bool, if◌then◌else◌, None, Some, List, length, sym, ap, ◌∙◌, arith}
 use Rattle.std.proofs.lemmas.Bool.{lt-leb}
 use Rattle.block_disk.specs.Crash.{cut_short, done_at, first_stops}
 use Rattle.block_disk.specs.Memory.{Memory, bytes_after}

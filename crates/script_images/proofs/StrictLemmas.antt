@@ -1,5 +1,5 @@
 -- A strict run goes line by line, and stops at the first that is refused.
-use Rattle.std.proofs.Common.{◌≡◌, ℕ, zero, suc, ◌+◌, ◌-◌, ◌<◌, ◌≤◌, true, false, List, [], ◌∷◌, ◌++◌, ◌==◌, Option, None, Some, Bool, length, length-drop, take, drop, refl, sym, ap, subst, ◌∙◌, inl, inr, append-nil, take-append-drop, arith}
+use Rattle.std.proofs.Common.{◌≡◌, ℕ, zero, suc, ◌+◌, ◌-◌, ◌<◌, ◌≤◌, true, false, List, [], ◌∷◌, ◌++◌, ◌==◌, Option, None, Some, length, length-drop, take, drop, refl, sym, ap, subst, ◌∙◌, inl, inr, append-nil, take-append-drop, arith}
 use Rattle.std.proofs.KnownBytes.{Appends-nil, Appends-trans}
 use Rattle.std.proofs.Math.Seq.{take-add}
 use Rattle.std.proofs.lemmas.Bool.{eqb-true}
@@ -14,13 +14,12 @@ use Rattle.script_lines.specs.Orders.{Order}
 use Rattle.script_machine.specs.Machine.{MachineState, Steps}
 use Rattle.script_machine.specs.declared.answer.Answer.{Answer}
 use Rattle.script_machine.specs.declared.answer.Refusal.{Refusal}
-use Rattle.script_lines.specs.declared.error.ScriptError.{ScriptError}
 use Rattle.script_lines.specs.declared.error.ScriptErrorKind.TheVariants as kinds
 use Rattle.script_lines.specs.declared.error.ScriptErrorKind.{ScriptErrorKind}
 use Rattle.script_play.specs.Runs.{AreFit, MayStop, Plays, PlaysInPart, PlaysLine, PrintsFrom, PrintsOn, PrintsPartFrom, StopsAt}
-use Rattle.script_play.specs.Texts.{refused_line, text_of}
+use Rattle.script_play.specs.Texts.{text_of}
 use Rattle.script_images.specs.Reasons.{refusal_of}
-use Rattle.script_images.specs.Strict.{IsAnswered, IsFirstRefused, RefusesAndPrints, RefusesAt, RefusesLine, StopsThere, TakesAll, TakesAndPrints, TakesLine, TakesOn}
+use Rattle.script_images.specs.Strict.{IsAnswered, RefusesAndPrints, RefusesAt, StopsThere, TakesAll, TakesAndPrints, TakesLine, TakesOn}
 use Rattle.script_images.proofs.ReasonLemmas.{refusal_is}
 
 -- a line that is taken is played

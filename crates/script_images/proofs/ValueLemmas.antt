@@ -1,10 +1,10 @@
 -- Lines of fields, and assignments, one name after the other.
-use Rattle.std.proofs.Common.{ℕ, ◌≡◌, ◌+◌, ◌<◌, ◌⊎◌, Option, List, [], ◌∷◌, drop, length, get_or, refl, sym, subst, inl, inr, ◌∙◌}
+use Rattle.std.proofs.Common.{ℕ, ◌≡◌, ◌+◌, ◌<◌, ◌⊎◌, Option, List, drop, length, get_or, refl, sym, subst, inl, inr, ◌∙◌}
 use Rattle.std.proofs.lemmas.List.{drop_more}
 use Rattle.std.proofs.lemmas.Option.{slice_get-get_or}
 use Rattle.std.specs.Borrow.{Bor}
 use Rattle.guards.specs.Schema.{Declarations}
-use Rattle.script_images.specs.Assigning.{HasAssignments, HasHeap, IsAssigned, IsPlanned, IsPlayedPlan, IsSetOver, Misses, MissesAt, RefusesPlayed, RefusesTexts, RefusesToSet, told_of_miss}
+use Rattle.script_images.specs.Assigning.{HasAssignments, IsAssigned, IsPlanned, IsPlayedPlan, IsSetOver, Misses, MissesAt, RefusesPlayed, RefusesTexts, RefusesToSet, told_of_miss}
 use Rattle.script_images.specs.Values.{HasLine, HasLines, HasNoField, IsNoField, RefusesStudied, RefusesValues}
 use Rattle.image_file.specs.Images.{IsThere}
 use Rattle.recover.specs.Study.{IsStudyOf}

@@ -1,5 +1,5 @@
 -- What setting fields of an image leaves of it, and what is refused (docs/SCRIPTS.md, "The program's words").
-use Rattle.std.specs.Prelude.{ℕ, ◌≡◌, ◌≢◌, ◌⊎◌, ◌<◌, ◌^◌, ◌==◌, true, false, Option, Some, List, [], ◌∷◌, ◌++◌, Result, Ok, Err, codes, length, set, slice_get}
+use Rattle.std.specs.Prelude.{ℕ, ◌≡◌, ◌⊎◌, ◌<◌, ◌^◌, ◌==◌, true, false, Option, Some, List, [], ◌∷◌, ◌++◌, Result, Ok, Err, codes, length, set, slice_get}
 use Rattle.std.specs.List.{after_first, before_first, position_or_len}
 use Rattle.std.specs.Borrow.{Bor}
 use Rattle.std.specs.Fmt.{decimal}

@@ -6,12 +6,11 @@ use Rattle.image_file.specs.Images.{IsThere}
 use Rattle.image_file.specs.Naming.{IsNamedBy}
 use Rattle.image_file.specs.Showing.{told_of_attaching}
 use Rattle.image_file.specs.declared.error.FileFault.{FileFault}
-use Rattle.image_file.specs.declared.error.NamedFault.{NamedFault}
 use Rattle.image_file.specs.declared.error.NamedFault.TheVariants.{Image}
 use Rattle.script_lines.specs.Endings.{OfScript}
 use Rattle.script_lines.specs.declared.reader.Ending.{Ending}
 use Rattle.script_play.specs.Runs.{AppendsPart}
-use Rattle.script_images.specs.Playing.{IsStopped, PlaysOver, RefusesToPlay}
+use Rattle.script_images.specs.Playing.{PlaysOver, RefusesToPlay}
 use Rattle.script_images.specs.declared.error.RunFault.{RunFault}
 use Rattle.script_images.specs.declared.error.RunFault.TheVariants.{Named, Refused, Script, Write}
 

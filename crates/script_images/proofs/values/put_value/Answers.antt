@@ -1,4 +1,4 @@
-use Rattle.std.proofs.Common.{length, refl, rules}
+use Rattle.std.proofs.Common.{length, refl}
 use Rattle.std.proofs.lemmas.Option.{slice_get_read}
 use Rattle.script_images.proofs.values.put_value.Goals as goal
 

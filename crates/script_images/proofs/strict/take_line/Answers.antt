@@ -1,1 +1,0 @@
-use Rattle.script_images.proofs.strict.take_line.Goals as goal
