@@ -13,6 +13,7 @@
 #include <stdlib.h>
 #include <string.h>
 #include <sys/file.h>
+#include <sys/prctl.h>
 #include <sys/stat.h>
 #include <sys/types.h>
 #include <sys/wait.h>
@@ -643,16 +644,20 @@ static void remove_copy(void) {
 static pid_t lasting;
 
 /* A child that lives on keeps no lock, whether it has run yet or not: in the one that the system alone makes no handler of a fork runs. */
+static void stay(void) {
+    if (lasting == 0) _exit(prctl(PR_SET_PDEATHSIG, SIGKILL) == 0 ? pause() : 1);
+}
+
 static void leave_child(void) {
     lasting = fork();
     MUST(lasting >= 0);
-    if (lasting == 0) _exit(pause());
+    stay();
 }
 
 static void leave_child_that_has_not_run(void) {
     lasting = (pid_t)syscall(SYS_fork);
     MUST(lasting >= 0);
-    if (lasting == 0) _exit(pause());
+    stay();
 }
 
 /* Each write, sync and rename of a copy fails in turn: what was there stays, but where the folder's sync fails after the rename. Nothing is left
