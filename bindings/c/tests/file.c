@@ -643,21 +643,20 @@ static void remove_copy(void) {
 
 static pid_t lasting;
 
-/* A child that lives on keeps no lock, whether it has run yet or not: in the one that the system alone makes no handler of a fork runs. */
-static void stay(void) {
-    if (lasting == 0) _exit(prctl(PR_SET_PDEATHSIG, SIGKILL) == 0 ? pause() : 1);
+/* A child that lives on keeps no lock, whether it has run yet or not: in the one that the system alone makes no handler of a fork runs. It goes
+ * with the test. */
+static void let_live(pid_t child) {
+    MUST(child >= 0);
+    if (child == 0) _exit(prctl(PR_SET_PDEATHSIG, SIGKILL) == 0 ? pause() : 1);
+    lasting = child;
 }
 
 static void leave_child(void) {
-    lasting = fork();
-    MUST(lasting >= 0);
-    stay();
+    let_live(fork());
 }
 
 static void leave_child_that_has_not_run(void) {
-    lasting = (pid_t)syscall(SYS_fork);
-    MUST(lasting >= 0);
-    stay();
+    let_live((pid_t)syscall(SYS_fork));
 }
 
 /* Each write, sync and rename of a copy fails in turn: what was there stays, but where the folder's sync fails after the rename. Nothing is left
