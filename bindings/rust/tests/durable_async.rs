@@ -1,14 +1,16 @@
 //! Futures of durability: many on one lane, cancelled ones, and those that see the end of their session or their heap.
+use patience::until;
 use scratch::Scratch;
 use std::future::Future;
 use std::pin::Pin;
 use std::sync::atomic::{AtomicUsize, Ordering::SeqCst};
 use std::sync::{Arc, Mutex};
 use std::task::{Context, Poll, Wake, Waker};
-use std::time::{Duration, Instant};
+use std::time::Duration;
 use tasks::{block_on, run};
 use zelamiku::service::{Durable, ErrorKind, Heap, Options, Session};
 
+mod patience;
 mod scratch;
 mod tasks;
 
@@ -34,15 +36,6 @@ fn nobody() -> Waker {
 fn poll(durable: &mut Durable, waker: &Waker) -> Poll<Result<(), ErrorKind>> {
     let answer = Pin::new(durable).poll(&mut Context::from_waker(waker));
     answer.map(|answer| answer.map_err(|error| error.kind()))
-}
-
-// Until it is so, for 20 seconds at most.
-fn until(what: &str, mut is_so: impl FnMut() -> bool) {
-    let begin = Instant::now();
-    while !is_so() {
-        assert!(begin.elapsed() < Duration::from_secs(20), "{what}");
-        std::thread::sleep(Duration::from_millis(1));
-    }
 }
 
 fn count(session: &mut Session, object: u32) {
@@ -82,33 +75,6 @@ fn what_is_durable_is_answered_at_once_and_again() {
 }
 
 #[test]
-fn ten_thousand_futures_share_a_lane() {
-    const TASKS: u64 = 10_000;
-    let scratch = Scratch::new("async-many");
-    let heap = counters(1).linger(Duration::from_secs(3_600)).open(&scratch).unwrap();
-    let session = Arc::new(Mutex::new(heap.session().unwrap()));
-    let done = Arc::new(AtomicUsize::new(0));
-    run((0..TASKS).map(|_| {
-        let (session, done) = (Arc::clone(&session), Arc::clone(&done));
-        let task = async move {
-            let (number, durable) = {
-                let mut session = session.lock().unwrap();
-                count(&mut session, 0);
-                (session.sections(), session.durable_async())
-            };
-            durable.await.unwrap();
-            assert!(session.lock().unwrap().is_durable(number));
-            done.fetch_add(1, SeqCst);
-        };
-        Box::pin(task) as Pin<Box<dyn Future<Output = ()> + Send>>
-    }));
-    assert_eq!(done.load(SeqCst) as u64, TASKS);
-    let stats = heap.stats().unwrap();
-    assert!(stats.sections == TASKS && stats.rounds < TASKS / 10, "{stats:?}");
-    assert_eq!(session.lock().unwrap().synchronized(0, |s| s.load(0)).unwrap(), TASKS);
-}
-
-#[test]
 fn futures_of_all_lanes_are_awaited_by_another_thread() {
     let scratch = Scratch::new("async-lanes");
     let heap = counters(8).open(&scratch).unwrap();
@@ -142,11 +108,11 @@ fn a_section_that_depends_on_an_open_one_is_told_once_that_ends() {
     let woken = Arc::new(Count::default());
     let waker = Waker::from(Arc::clone(&woken));
     let mut durable = None;
+    let rounds = heap.stats().unwrap().rounds;
     while_nothing_is_durable(&heap, || {
         count(&mut session, 0);
         let durable = durable.insert(session.durable_async());
         assert!(poll(durable, &waker).is_pending());
-        let rounds = heap.stats().unwrap().rounds;
         until("a round", || heap.stats().unwrap().rounds > rounds);
         std::thread::sleep(Duration::from_millis(20));
         assert!(poll(durable, &waker).is_pending());

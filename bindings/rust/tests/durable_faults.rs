@@ -1,19 +1,22 @@
-//! Futures of durability on a device that fails, and the thread that wakes them.
+//! Futures of durability on a device that fails or hangs, and the thread that wakes them.
+use patience::until;
 use scratch::Scratch;
 use std::ffi::c_void;
 use std::future::Future;
 use std::pin::Pin;
-use std::sync::atomic::{AtomicBool, Ordering::SeqCst};
-use std::sync::{Mutex, PoisonError};
-use std::time::{Duration, Instant};
+use std::sync::atomic::{AtomicBool, AtomicUsize, Ordering::SeqCst};
+use std::sync::{Arc, Mutex, PoisonError};
+use std::time::Duration;
 use tasks::{block_on, run};
 use zelamiku::service::{Durable, Error, ErrorKind, Heap, Options, Session};
 
+mod patience;
 mod scratch;
 mod tasks;
 
 static SYNCS_FAIL: AtomicBool = AtomicBool::new(false);
 static WRITES_FAIL: AtomicBool = AtomicBool::new(false);
+static SYNCS_HANG: AtomicBool = AtomicBool::new(false);
 // A call that fails is the process's.
 static ALONE: Mutex<()> = Mutex::new(());
 
@@ -39,6 +42,9 @@ fn fail(error: i32) -> i32 {
 #[no_mangle]
 extern "C" fn fdatasync(file: i32) -> i32 {
     const EIO: i32 = 5;
+    while SYNCS_HANG.load(SeqCst) {
+        std::thread::sleep(Duration::from_millis(1));
+    }
     if SYNCS_FAIL.load(SeqCst) {
         return fail(EIO);
     }
@@ -74,21 +80,60 @@ fn stored(session: &mut Session, count: u64) -> Vec<Durable> {
     stored.collect()
 }
 
+type Boxed = Pin<Box<dyn Future<Output = ()> + Send>>;
+
+// Polled after others it lets syncs go on.
+fn syncs_go_on() -> Boxed {
+    Box::pin(async { SYNCS_HANG.store(false, SeqCst) })
+}
+
 // What they come to.
 fn answers(durables: Vec<Durable>) -> Vec<(Durable, Result<(), Error>)> {
     let count = durables.len();
-    let told = std::sync::Arc::new(Mutex::new(Vec::new()));
-    run(durables.into_iter().map(|mut durable| {
-        let told = std::sync::Arc::clone(&told);
+    let told = Arc::new(Mutex::new(Vec::new()));
+    let waits = durables.into_iter().map(|mut durable| {
+        let told = Arc::clone(&told);
         let task = async move {
             let answer = (&mut durable).await;
             told.lock().unwrap().push((durable, answer));
         };
-        Box::pin(task) as Pin<Box<dyn Future<Output = ()> + Send>>
-    }));
+        Box::pin(task) as Boxed
+    });
+    run(waits.chain([syncs_go_on()]));
     let mut told = told.lock().unwrap();
     assert_eq!(told.len(), count);
     std::mem::take(&mut *told)
+}
+
+#[test]
+fn ten_thousand_futures_share_a_lane() {
+    const TASKS: u64 = 10_000;
+    let _alone = ALONE.lock().unwrap_or_else(PoisonError::into_inner);
+    let scratch = Scratch::new("async-many");
+    // A lane has room for all of them, and no round comes by itself. The first round ends once each future was polled.
+    let heap = options().lanes(1).ring(65_536).capacity(65_536).linger(Duration::from_secs(3_600)).open(&scratch).unwrap();
+    let session = Arc::new(Mutex::new(heap.session().unwrap()));
+    let done = Arc::new(AtomicUsize::new(0));
+    SYNCS_HANG.store(true, SeqCst);
+    let tasks = (0..TASKS).map(|_| {
+        let (session, done) = (Arc::clone(&session), Arc::clone(&done));
+        let task = async move {
+            let (number, durable) = {
+                let mut session = session.lock().unwrap();
+                session.synchronized(0, |s| s.load(0).and_then(|count| s.store(0, count + 1))).unwrap();
+                (session.sections(), session.durable_async())
+            };
+            durable.await.unwrap();
+            assert!(session.lock().unwrap().is_durable(number));
+            done.fetch_add(1, SeqCst);
+        };
+        Box::pin(task) as Boxed
+    });
+    run(tasks.chain([syncs_go_on()]));
+    assert_eq!(done.load(SeqCst) as u64, TASKS);
+    let stats = heap.stats().unwrap();
+    assert!(stats.sections == TASKS && stats.rounds < 20, "{stats:?}");
+    assert_eq!(session.lock().unwrap().synchronized(0, |s| s.load(0)).unwrap(), TASKS + 5);
 }
 
 #[test]
@@ -108,8 +153,9 @@ fn a_sync_that_fails_is_told_to_all_that_wait() {
         std::thread::yield_now();
     }
     SYNCS_FAIL.store(true, SeqCst);
-    other.synchronized(2, |s| s.store(2, 7)).unwrap();
-    assert_eq!(other.durable().unwrap_err().kind(), ErrorKind::Sync);
+    // A round that is underway may fail before this section is there.
+    let failed = other.synchronized(2, |s| s.store(2, 7)).and_then(|()| other.durable());
+    assert_eq!(failed.unwrap_err().kind(), ErrorKind::Sync);
     SYNCS_FAIL.store(false, SeqCst);
     for (mut durable, answer) in thread.join().unwrap() {
         assert_eq!(answer.unwrap_err().kind(), ErrorKind::Sync);
@@ -157,11 +203,7 @@ fn a_write_that_failed_is_made_again_though_nobody_asks() {
     store(&mut session, 6);
     assert_eq!(block_on(session.durable_async()).unwrap_err().kind(), ErrorKind::Write);
     WRITES_FAIL.store(false, SeqCst);
-    let begin = Instant::now();
-    while !session.is_durable(1) {
-        assert!(begin.elapsed() < Duration::from_secs(20));
-        std::thread::sleep(Duration::from_millis(5));
-    }
+    until("the write is made again", || session.is_durable(1));
 }
 
 fn threads_that_wake() -> usize {
@@ -176,10 +218,7 @@ fn one_thread_wakes_all_of_a_heap_and_ends_with_it() {
     let (one, other) = (Scratch::new("async-thread"), Scratch::new("async-threads"));
     let heaps = [options().open(&one).unwrap(), options().open(&other).unwrap()];
     // Those of other tests may be about to end.
-    let begin = Instant::now();
-    while threads_that_wake() > 0 {
-        assert!(begin.elapsed() < Duration::from_secs(20));
-    }
+    until("no thread wakes", || threads_that_wake() == 0);
     for heap in &heaps {
         let mut sessions = [heap.session().unwrap(), heap.session().unwrap()];
         for session in &mut sessions {
@@ -188,15 +227,14 @@ fn one_thread_wakes_all_of_a_heap_and_ends_with_it() {
         }
         assert_eq!(threads_that_wake(), usize::from(!std::ptr::eq(heap, &heaps[0])));
         for session in &mut sessions {
+            // So that nothing is durable before it is polled.
+            SYNCS_HANG.store(true, SeqCst);
             assert!(answers(stored(session, 20)).into_iter().all(|(_, answer)| answer.is_ok()));
         }
     }
     assert_eq!(threads_that_wake(), 2);
     for (at, heap) in heaps.into_iter().enumerate() {
         drop(heap);
-        let begin = Instant::now();
-        while threads_that_wake() > 1 - at {
-            assert!(begin.elapsed() < Duration::from_secs(20));
-        }
+        until("the heap's thread has ended", || threads_that_wake() == 1 - at);
     }
 }

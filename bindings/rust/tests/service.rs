@@ -1,10 +1,12 @@
 //! Threads over a service, on a file.
+use patience::until;
 use scratch::Scratch;
 use std::sync::atomic::{AtomicU64, Ordering};
 use std::sync::Arc;
-use std::time::{Duration, Instant};
+use std::time::Duration;
 use zelamiku::service::{ErrorKind, Heap, Options, Session};
 
+mod patience;
 mod scratch;
 
 fn counters(lanes: u32) -> Options {
@@ -80,11 +82,7 @@ fn a_section_that_nobody_awaits_is_durable_in_time() {
     let heap = counters(1).linger(Duration::from_millis(1)).open(&scratch).unwrap();
     let mut session = heap.session().unwrap();
     count(&mut session, 0);
-    let begin = Instant::now();
-    while !session.is_durable(1) {
-        assert!(begin.elapsed() < Duration::from_secs(20));
-        std::thread::sleep(Duration::from_millis(1));
-    }
+    until("the section is durable", || session.is_durable(1));
 }
 
 #[test]

@@ -1,23 +1,17 @@
 //! Who a session is, whom it wakes, and who waits for whom.
+use patience::until;
 use scratch::Scratch;
+use std::panic::{catch_unwind, AssertUnwindSafe};
 use std::sync::{Arc, Mutex};
-use std::time::{Duration, Instant};
+use std::time::Duration;
 use zelamiku::service::{ErrorKind, Heap, Level, Options};
 use zelamiku::Why;
 
+mod patience;
 mod scratch;
 
 fn counters(lanes: u32) -> Options {
     Heap::options().lanes(lanes).objects(3).field(0, 0, 0).field(1, 1, 0).field(2, 2, 0)
-}
-
-// Until it is so, for 20 seconds at most.
-fn until(mut is_so: impl FnMut() -> bool) {
-    let begin = Instant::now();
-    while !is_so() {
-        assert!(begin.elapsed() < Duration::from_secs(20));
-        std::thread::sleep(Duration::from_millis(1));
-    }
 }
 
 type Lines = Arc<Mutex<Vec<(Level, String)>>>;
@@ -74,7 +68,7 @@ fn notifications_tell_whom_they_wake() {
                 waited.unwrap();
             });
         }
-        until(|| own.synchronized(0, |s| s.load(0)).unwrap() == 3);
+        until("three wait", || own.synchronized(0, |s| s.load(0)).unwrap() == 3);
         let (one, others) = own.synchronized(0, |s| Ok((s.notify()?, s.notify_all()?))).unwrap();
         let mut woken = others;
         assert!(woken.windows(2).all(|pair| pair[0] < pair[1]));
@@ -95,9 +89,9 @@ fn who_waits_for_whom_is_told() {
     std::thread::scope(|scope| {
         let guard = first.enter(0).unwrap();
         scope.spawn(move || second.synchronized(1, |s| s.synchronized(0, |s| s.load(0))).unwrap());
-        until(|| heap.waits().unwrap().len() == 1);
+        until("one wants a monitor", || heap.waits().unwrap().len() == 1);
         scope.spawn(move || third.synchronized(1, |s| s.load(1)).unwrap());
-        until(|| heap.waits().unwrap().len() == 2);
+        until("two want one", || heap.waits().unwrap().len() == 2);
         let mut waits = heap.waits().unwrap();
         waits.sort_by_key(|wait| wait.object);
         let told = |at: usize| (waits[at].lane, waits[at].object, waits[at].owner, waits[at].is_in_circle);
@@ -130,16 +124,14 @@ fn a_circle_is_told_and_goes_on_until_the_heap_is_stopped() {
             let told = lines.iter().filter(|(_, line)| line.contains("wait for each other"));
             told.map(|(level, _)| *level).collect::<Vec<_>>()
         };
-        let begin = Instant::now();
-        while told().is_empty() && begin.elapsed() < Duration::from_secs(20) {
-            std::thread::sleep(Duration::from_millis(1));
-        }
+        // A failure is told after the stop: else the threads would wait for ever.
+        let is_told = catch_unwind(AssertUnwindSafe(|| until("a circle is told", || !told().is_empty()))).is_ok();
         let waits = heap.waits().unwrap();
         // It isn't told again by the other one.
         std::thread::sleep(Duration::from_millis(1_500));
         let told = told();
-        // Before anything here can fail, since the threads would wait for ever.
         heap.stop();
+        assert!(is_told);
         assert!(waits.len() == 2 && waits.iter().all(|wait| wait.is_in_circle), "{waits:?}");
         assert_eq!(told, [Level::Warning]);
     });
@@ -156,13 +148,16 @@ fn a_file_that_was_removed_is_told() {
     assert!(!heap.stats().unwrap().is_astray);
     std::fs::remove_file(&scratch).unwrap();
     // Nothing stops.
-    until(|| {
+    until("the file is told to be gone", || {
         session.synchronized(0, |s| s.store(0, 2)).unwrap();
         session.durable().unwrap();
         heap.stats().unwrap().is_astray
     });
     session.synchronized(0, |s| s.store(0, 3)).unwrap();
     session.durable().unwrap();
-    let warnings = lines.lock().unwrap().iter().filter(|(level, _)| *level == Level::Warning).count();
-    assert_eq!(warnings, 1);
+    // Who has led says it after the round.
+    let warnings = || lines.lock().unwrap().iter().filter(|(level, _)| *level == Level::Warning).count();
+    until("a warning", || warnings() > 0);
+    drop((session, heap));
+    assert_eq!(warnings(), 1);
 }
