@@ -383,7 +383,7 @@ class Parts:
         monitor, may_hang = free(f"{self.folder}/monitor"), self.has_kvm and self.is_doubted
         guest = Guest(self, *words, "-qmp", f"unix:{monitor},server=on,wait=off")
         try:
-            guest.line(20 if may_hang else 600)
+            guest.line(90 if may_hang else 600)
             guest.save(monitor, path)
             self.is_doubted = False
         except TimeoutError:

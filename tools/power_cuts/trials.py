@@ -12,6 +12,9 @@ from machines import TOP, Wrong, must, must_run
 from works import LEASES, WORKS
 
 KEPT = f"{TOP}/out/power-cuts"  # the first wrong state of each run, in a folder
+# Seconds, in which a work has told or written something, also where the machine is slow or loses its processors for a while; and how many writes
+# and flushes a record has at least.
+PATIENCE, RECORDED = 400, 100
 
 
 @dataclasses.dataclass
@@ -126,10 +129,13 @@ class Trial:
         self.guest.run(f"{left_out}{self.command(self.work.run)} >/run.txt 2>&1 &")
 
     def await_told(self):
-        until = time.monotonic() + 300
-        while not self.disk.told(2**63).keys() - {"made"}:
+        self.until(lambda: self.disk.told(2**63).keys() - {"made"}, "nothing is told")
+
+    def until(self, is_so, text):
+        until = time.monotonic() + PATIENCE
+        while not is_so():
             if time.monotonic() > until:
-                raise Wrong(f"nothing is told: {self.guest.run('cat /run.txt; dmesg | tail -3')[1]}")
+                raise Wrong(f"in {PATIENCE} s {text}: {self.guest.run('cat /run.txt; dmesg | tail -3')[1]}")
             time.sleep(0.1)
 
     def prepare(self):
@@ -158,11 +164,11 @@ class Trial:
         if self.work.tells:
             self.await_told()
         time.sleep(seconds * self.chance.uniform(0.7, 1.3))
+        self.until(lambda: self.disk.count() > self.start + RECORDED, "little is written")
         self.cut()
         self.disk.ask("delay", 0)
         self.end = self.disk.count()
         self.flushes = [it for it in self.disk.flushes() if it > self.start]
-        must(self.end > self.start + 20, "nothing was recorded")
         self.take_lines()
 
     def policy(self):
