@@ -14,7 +14,7 @@ from works import LEASES, WORKS
 KEPT = f"{TOP}/out/power-cuts"  # the first wrong state of each run, in a folder
 # Seconds, in which a work has told or written something, also where the machine is slow or loses its processors for a while; and how many writes
 # and flushes a record has at least.
-PATIENCE, RECORDED = 400, 100
+PATIENCE, RECORDED = 400, 20
 
 
 @dataclasses.dataclass
