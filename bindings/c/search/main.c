@@ -64,9 +64,9 @@ static void watch_signals(void) {
     sigaction(SIGVTALRM, &action, NULL);
 }
 
-/* A run has so many seconds of a processor. */
+/* A run has so many seconds of a processor, many times what it takes: a machine may count those that it hasn't given. */
 static void watch_run(void) {
-    const struct itimerval most = {.it_value.tv_sec = 20};
+    const struct itimerval most = {.it_value.tv_sec = 100};
     setitimer(ITIMER_VIRTUAL, &most, NULL);
 }
 
