@@ -1,6 +1,7 @@
 """A run of tools/power-cuts: the record of one, the states that a cut may have left, cuts in recovery, and true cuts."""
 import dataclasses
 import json
+import math
 import os
 import random
 import re
@@ -15,6 +16,7 @@ KEPT = f"{TOP}/out/power-cuts"  # the first wrong state of each run, in a folder
 # Seconds, in which a work has told or written something, also where the machine is slow or loses its processors for a while; and how many writes
 # and flushes a record has at least.
 PATIENCE, RECORDED = 400, 20
+ends_at = math.inf  # when no further state is looked at; tools/power-cuts sets it
 
 
 @dataclasses.dataclass
@@ -86,6 +88,11 @@ def judge(work, printed, known):
     }
     wrong += [name for name, is_so in checks.items() if is_so]
     return Verdict(f"{', '.join(wrong)}: {text}" if wrong else "", heap)
+
+
+def is_over():
+    """Whether the time is over in which states are looked at."""
+    return time.monotonic() > ends_at
 
 
 class Trial:
@@ -291,6 +298,8 @@ class Trial:
         if stops:
             self.chance.shuffle(moments)
         for i, cut in enumerate(moments):
+            if is_over():
+                return
             policy, told = self.policy(), self.disk.told(cut)
             self.counts["volatile"] += self.disk.ask("state", cut, *policy)[1] != "0"
             known = Known(told, self.is_made or bool(told or floor), floor)
@@ -303,6 +312,8 @@ class Trial:
     def try_in_recovery(self, number):
         """Cuts in the mount and the recovery of states, eight of each."""
         for i, cut in enumerate(self.moments((number + 7) // 8, self.start, self.end, self.flushes)):
+            if is_over():
+                return
             told = self.disk.told(cut)
             self.switched_on()
             self.disk.ask("state", cut, *self.policy())
@@ -332,6 +343,8 @@ class Trial:
         told, floor = self.disk.told(self.end), ()
         self.disk.ask("state", self.end, *self.policy())
         for i in range(number + 1):
+            if is_over():
+                break
             self.disk.ask("anew")
             self.switched_on()
             self.disk.ask("delay", 300)
