@@ -218,6 +218,7 @@ static uint64_t load(zelamiku_handle *heap) {
     MUST(zelamiku_session(heap, &session) == ZELAMIKU_OK && zelamiku_try_enter(&session, 0) == ZELAMIKU_OK);
     MUST(zelamiku_load(&session, 0, &value) == ZELAMIKU_OK && zelamiku_exit(&session, 0) == ZELAMIKU_OK);
     MUST(zelamiku_end(&session) == ZELAMIKU_OK);
+    zelamiku_free(&session);
     return value;
 }
 
@@ -228,6 +229,7 @@ static void store(zelamiku_handle *heap, uint64_t value) {
     MUST(zelamiku_session(heap, &session) == ZELAMIKU_OK && zelamiku_try_enter(&session, 0) == ZELAMIKU_OK);
     MUST(zelamiku_store(&session, 0, value) == ZELAMIKU_OK && zelamiku_exit(&session, 0) == ZELAMIKU_OK);
     MUST(zelamiku_end(&session) == ZELAMIKU_OK && zelamiku_round(heap, ZELAMIKU_ALL, &applied) == ZELAMIKU_OK && applied > 0);
+    zelamiku_free(&session);
 }
 
 /* A heap on the export, which has zeros before, and in it 7 is durable. */
@@ -579,7 +581,10 @@ static void store_by_three(zelamiku_handle *heap) {
         MUST(zelamiku_session(heap, &sessions[i]) == ZELAMIKU_OK && zelamiku_try_enter(&sessions[i], 0) == ZELAMIKU_OK);
         MUST(zelamiku_store(&sessions[i], 0, 8 + i) == ZELAMIKU_OK && zelamiku_exit(&sessions[i], 0) == ZELAMIKU_OK);
     }
-    for (int i = 0; i < 3; i++) MUST(zelamiku_end(&sessions[i]) == ZELAMIKU_OK);
+    for (int i = 0; i < 3; i++) {
+        MUST(zelamiku_end(&sessions[i]) == ZELAMIKU_OK);
+        zelamiku_free(&sessions[i]);
+    }
     MUST(zelamiku_round(heap, ZELAMIKU_ALL, &applied) == ZELAMIKU_OK && applied == 9);
 }
 
