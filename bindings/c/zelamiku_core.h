@@ -279,7 +279,7 @@ ZELAMIKU_MUST_USE zelamiku_status zelamiku_pool_give(zelamiku_handle *session, u
 /* ---- the end of a session ---- */
 
 /* Ends the session, and gives it back to its heap: its lane may be handed out again. Exit all monitors first: else it isn't, and its heap can't
- * be closed. The handle keeps what is left of the session, a few hundred bytes, until it is opened again or freed: so free it, or hand it to
+ * be closed. The handle keeps 6 kB, and its lane's ring where the heap goes first, until it is opened again or freed: so free it, or hand it to
  * zelamiku_session. Until then each call of a session answers NOTHING for it, and each call of a heap WRONG_KIND.
  * WAITING, WRONG_KIND: the handle is as it was. */
 ZELAMIKU_MUST_USE zelamiku_status zelamiku_end(zelamiku_handle *session);
