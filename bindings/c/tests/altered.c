@@ -1,9 +1,8 @@
 /* Files of heaps that something else has altered: zelamiku_heap_open opens them, or refuses them and leaves each byte as it is. It makes a heap
  * in place of none, but for one of which nothing is left but what a making that was cut off leaves.
  *
- *     altered FOLDER [SEED]      prints the seed before, and what was tried after, and answers 0, where all is as it must be */
+ *     altered FOLDER [SEED]      1 is the seed where none is given. Prints it before, and what was tried after; answers 0 where all is as it must be */
 #define _GNU_SOURCE
-#include <time.h>
 #include "must.h"
 #include "altered.h"
 
@@ -138,7 +137,7 @@ static void by_chance(void) {
 
 int main(int argc, char **argv) {
     MUST((argc == 2 || argc == 3) && chdir(argv[1]) == 0 && mkdir("altered files", 0700) == 0 && chdir("altered files") == 0);
-    uint64_t seed = argc == 3 ? strtoull(argv[2], NULL, 10) : (uint64_t)time(NULL);
+    uint64_t seed = argc == 3 ? strtoull(argv[2], NULL, 10) : 1;
     printf("altered: seed %llu\n", (unsigned long long)seed);
     fflush(stdout);
     chance = seed;
