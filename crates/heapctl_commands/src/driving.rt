@@ -1,4 +1,4 @@
-//! The program's word `drive`.
+//! The program's word `drive`, in memory or over an image file.
 ghost use Rattle.std.specs.Prelude.{◌≡◌, IfErr, IfOk, OnErr, OnOk};
 ghost use Rattle.std.specs.Io.KnownBytes.{Appends};
 ghost use Rattle.heapctl_commands.specs.Beside.{DrivesBeside};
@@ -9,8 +9,8 @@ ghost use Rattle.heapctl_commands.specs.Telling.{WorkedAt};
 ghost use Rattle.heapctl_commands.specs.declared.fault.WorkFault.TheVariants.{Write};
 ghost use Rattle.inspect.specs.Written.{AppendsPart};
 
+use crate::driving_files::drive_at;
 use crate::fault::WorkFault;
-use crate::files::drive_at;
 use crate::progress::Watch;
 use crate::telling::write_driven;
 use block_disk::Disk;

@@ -6,11 +6,10 @@
 //! [`write_driven`] writes what they have done.
 #![tactic(auto)]
 
-mod causes;
 mod driving;
-mod explaining;
+mod driving_files;
+mod explaining_faults;
 mod fault;
-mod files;
 mod forms;
 mod head;
 mod kept_text;
@@ -18,14 +17,17 @@ mod obeying;
 mod progress;
 mod refused;
 mod status;
+mod system_errors;
 mod telling;
 mod told_images;
 mod values;
 
 pub use driving::drive;
-pub use explaining::{explain, is_left_by_reader, is_something_there, tell_kept, tell_salvaged};
+pub use driving_files::drive_at;
+pub use explaining_faults::{
+    explain, is_left_by_reader, is_something_there, tell_kept, tell_salvaged,
+};
 pub use fault::WorkFault;
-pub use files::drive_at;
 pub use kept_text::KeptText;
 pub use obeying::obey;
 pub use progress::Watch;

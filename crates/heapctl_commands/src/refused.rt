@@ -1,7 +1,7 @@
 //! What is told of an image, a schema file and a script that are refused.
 
-use crate::causes::{Path, is_wrong_path, tell, tell_cause};
 use crate::forms::{DECLARATIONS, LINES, text_of_line};
+use crate::system_errors::{Path, is_wrong_path, tell, tell_cause};
 use image_file::Trouble;
 use recover::RecoverError;
 use script_declarations::{SchemaFault, SchemaFaultKind};

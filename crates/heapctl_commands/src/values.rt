@@ -1,6 +1,6 @@
 //! What is told of the names of fields, and of the words that assign values to them.
 
-use crate::causes::tell;
+use crate::system_errors::tell;
 
 /// Tells of a name that no field of the image has.
 pub(crate) fn tell_unknown<R: Eprint>(rt: &R, image: &str, names: &[&str], place: usize) {

@@ -7,7 +7,7 @@ use Rattle.recover_heap.specs.declared.error.RecoverError.TheVariants.{Fault, No
 use Rattle.image_schema.specs.declared.error.DumpError.{DumpError}
 use Rattle.image_schema.specs.declared.error.DumpError.TheVariants.{Study, OtherSchema, Write}
 use Rattle.image_salvage.specs.Cells.{DumpsCells, DumpsRead, HasCells, RefusesCells, RefusesRead, RefusesToRead}
-use Rattle.image_salvage.specs.declared.found.Cells.{Cells}
+use Rattle.image_salvage.specs.declared.home_cells.Cells.{Cells}
 
 -- what refuses the values refuses the image
 pub refused_values : (image : List ℕ) (e : RecoverError) → RefusesHeap e → RefusesToRead image e

@@ -17,7 +17,7 @@ use Rattle.recover.specs.Reading.{HasBadHeader, HasFront, RefusesLayout}
 use Rattle.recover_heap.specs.declared.error.RecoverError.{RecoverError}
 use Rattle.recover_heap.specs.declared.error.RecoverError.TheVariants.{Fault, NotFormatted, BadHeader, TooSmall, NoMemory}
 use Rattle.image_salvage.specs.Notes.{cells_note, noted_text}
-use Rattle.image_salvage.specs.declared.found.Cells.{Cells}
+use Rattle.image_salvage.specs.declared.home_cells.Cells.{Cells}
 
 -- the image has this layout and these guard rows, and its fields have these values at home
 pub record HasCells (image : List ℕ) (cells : Cells) : Type 0 where

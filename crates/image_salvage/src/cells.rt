@@ -8,8 +8,8 @@ ghost use Rattle.recover_heap.specs.Heap.{RefusesHeap};
 ghost use Rattle.recover_heap.specs.declared.error.RecoverError.TheVariants.{Fault};
 ghost use Rattle.image_salvage.specs.Cells.{HasCells, RefusesToRead};
 
-use crate::found::Cells;
 use crate::front::{Front, read_front};
+use crate::home_cells::Cells;
 use block_disk::Disk;
 use heap_model::FieldId;
 use image::{GuardRow, Layout, get_cell};

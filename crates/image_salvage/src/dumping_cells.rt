@@ -2,7 +2,7 @@
 ghost use Rattle.image_salvage.specs.Cells.{AreOfImage, DumpedCells, DumpedRead};
 
 use crate::cells::read_cells;
-use crate::found::Cells;
+use crate::home_cells::Cells;
 use crate::naming::schema_for;
 use crate::notes::cells_note;
 use crate::writing::write_noted;

@@ -1,4 +1,4 @@
-//! The schema of an image of which only header and guard rows are known.
+//! Names for the fields of an image, of which only header and guard rows are known: those of a schema that fits it, or numbers.
 ghost use Rattle.std.specs.Prelude.{◌≡◌, ◌↔◌, IfOk, IsErrOf, length};
 ghost use Rattle.image_schema.specs.OfImage.{FitsImage};
 ghost use Rattle.image_schema.specs.declared.error.NamingError.TheVariants.{OtherSchema};

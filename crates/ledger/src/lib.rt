@@ -5,9 +5,9 @@
 //! balance. [`Accounts`] answers, and [`serve`](http_server::serve) reads and writes over any connection.
 #![tactic(auto)]
 
+mod account_access;
 mod accounts;
 mod answer;
-mod calls;
 mod moving;
 mod order;
 

@@ -8,7 +8,7 @@ ghost use Rattle.ledger.specs.declared.moving.Made.TheVariants.{Moved, NoAccount
 ghost use Rattle.ledger.specs.Transfers.{HasMade, HasPaid, HasStoredNothing, IsRefusedAMonitor, LacksAccount, monitors_of};
 ghost use Rattle.ledger.specs.Holding.{HasBoth, SameHolds, needs};
 
-use crate::calls::{leave, put, read, take};
+use crate::account_access::{leave, put, read, take};
 use crate::order::Order;
 use std::sync::Wait;
 use thread_work::{HeapThread, Joint, ObjectId, SessionError};

@@ -3,7 +3,7 @@ use Rattle.std.proofs.lemmas.Result.{IfErr-weaker, IfOk-weaker}
 use Rattle.image_file.specs.Images.{IsThere}
 use Rattle.heapctl_commands.specs.Faults.{HasNoImage}
 use Rattle.heapctl_commands.proofs.FileLemmas.{no_disk, none_there}
-use Rattle.heapctl_commands.proofs.files.disk_at.Goals as goal
+use Rattle.heapctl_commands.proofs.driving_files.disk_at.Goals as goal
 
 pub returns-then-vacant-clause-ok : goal.returns-then-vacant-clause-ok
 returns-then-vacant-clause-ok g c =

@@ -3,7 +3,7 @@ use Rattle.session.specs.declared.error.SessionError.{SessionError}
 use Rattle.session.specs.Calls.{StoresAs}
 use Rattle.ledger.specs.Transfers.{balance_of}
 use Rattle.ledger.proofs.Calling.{writes}
-use Rattle.ledger.proofs.calls.put.Goals as goal
+use Rattle.ledger.proofs.account_access.put.Goals as goal
 
 pub returns-clause-told : goal.returns-clause-told
 returns-clause-told g c = let w = writes g.J.Joint.home c.args.thread.now c.store.new.self c.args.account c.args.balance c.store.result c.requires.field c.requires.guard c.requires.room c.store.ensures.told in

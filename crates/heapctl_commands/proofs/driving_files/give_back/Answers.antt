@@ -1,7 +1,7 @@
 use Rattle.std.proofs.Common.{ℕ, List, ap, subst}
 use Rattle.image_file.proofs.PlaceLemmas.{reads_left}
 use Rattle.image_file.specs.Images.{IsThere}
-use Rattle.heapctl_commands.proofs.files.give_back.Goals as goal
+use Rattle.heapctl_commands.proofs.driving_files.give_back.Goals as goal
 
 pub returns-clause-left : goal.returns-clause-left
 returns-clause-left g c =

@@ -3,7 +3,7 @@ use Rattle.guards.specs.Schema.{Declarations}
 use Rattle.image_file.proofs.PlaceLemmas.{may_be_made, stays_same}
 use Rattle.image_file.specs.Formatting.{IsImageFor}
 use Rattle.heapctl_commands.specs.Telling.{asked_by}
-use Rattle.heapctl_commands.proofs.files.made_at.Goals as goal
+use Rattle.heapctl_commands.proofs.driving_files.made_at.Goals as goal
 
 pub returns-in-Ok-made-clause-ok : goal.returns-in-Ok-made-clause-ok
 returns-in-Ok-made-clause-ok g c =

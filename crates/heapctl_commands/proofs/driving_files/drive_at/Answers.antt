@@ -1,6 +1,6 @@
 use Rattle.image_file.proofs.BesideLemmas.{keeps_before}
 use Rattle.heapctl_commands.proofs.FileLemmas.{no_run}
-use Rattle.heapctl_commands.proofs.files.drive_at.Goals as goal
+use Rattle.heapctl_commands.proofs.driving_files.drive_at.Goals as goal
 
 pub returns-in-Ok-drive_on-clause-ok : goal.returns-in-Ok-drive_on-clause-ok
 returns-in-Ok-drive_on-clause-ok g c = record {

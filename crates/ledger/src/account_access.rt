@@ -1,4 +1,4 @@
-//! A thread's calls, as a transfer makes them: which of them can't be refused.
+//! How a transfer takes accounts' monitors, reads and stores their balances, and gives the monitors back: which of these can't be refused.
 ghost use Rattle.std.specs.Prelude.{◌≡◌, ◌+◌, ◌<◌, ◌≤◌, IfErr, IfOk, IfSome, None, Ok};
 ghost use Rattle.heap_model.specs.declared.limits.TheConstants.{SECTION_RECORDS};
 ghost use Rattle.thread_steps.specs.Views.{plan};

@@ -2,12 +2,12 @@
 //!
 //! The first line is fixed (docs/SCRIPTS.md, "The program's fault texts").
 
-use crate::causes::{Path, is_wrong_path, tell, tell_cause};
 use crate::fault::WorkFault;
 use crate::head::{Head, read_head, tell_slots};
 use crate::refused::{
     tell_refused_image, tell_refused_line, tell_refused_schema, tell_stopped_script,
 };
+use crate::system_errors::{Path, is_wrong_path, tell, tell_cause};
 use crate::values::{tell_other_heap, tell_transient, tell_unknown, tell_wrong_word};
 use disk_file::{BackingFile, VolatileDisk};
 use disk_sector_file::whole_image;

@@ -1,7 +1,7 @@
 use Rattle.std.proofs.Common.{ℕ, Option, IfSome, sym, ◌∙◌, subst}
 use Rattle.ledger.specs.Holding.{HasRead}
 use Rattle.ledger.proofs.Calling.{told}
-use Rattle.ledger.proofs.calls.read.Goals as goal
+use Rattle.ledger.proofs.account_access.read.Goals as goal
 
 pub returns-clause-some : goal.returns-clause-some
 returns-clause-some g c = subst (λ (r : Option ℕ). IfSome r (λ balance. HasRead g.J.Joint.home c.args.thread.now c.load.new.self c.args.account balance)) (sym c.ok.ensures.value)

@@ -1,4 +1,4 @@
-//! What the system says of a call that failed, and what is at a path.
+//! Tells why a call to the system failed and what mends it, and of a path that leads to no regular file.
 
 use image_file::{BESIDE, KEPT, Place};
 use std::fs::FileType;

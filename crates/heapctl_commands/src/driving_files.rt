@@ -1,4 +1,4 @@
-//! Workers on the image at a path.
+//! The program's word `drive` over an image file.
 ghost use Rattle.std.specs.Prelude.{false, IfErr, IfOk};
 ghost use Rattle.heapctl_commands.specs.Faults.{HasNoDisk, HasNoImage, RefusesAt};
 ghost use Rattle.image_file.specs.Beside.{KeepsBeside, LeavesBesideIt};
