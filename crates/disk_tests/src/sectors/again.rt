@@ -7,6 +7,9 @@ use block_disk::{Disk, MemDisk};
 use disk_sectors::{SectorSize, SectorsOf, TwoPlaces};
 use std::alloc::Global;
 
+// How many devices are tried with each size of sectors and each damage.
+const DEVICES: u64 = 100; // tools/quick: 10
+
 // How many second crashes of these devices, one each, lost a byte; `None` where there was no memory.
 fn wrong(alloc: Global, size: SectorSize, damage: Damage, devices: u64) -> Option<u64> {
     let mut chance = Chance::new(11);
@@ -144,7 +147,7 @@ fn no_second_crash_loses_a_byte_that_is_not_in_flight(rt: HostRuntime) {
     for size in sizes {
         for damage in models {
             assert_eq!(rt;
-                wrong(rt.alloc(), size, damage, 100),
+                wrong(rt.alloc(), size, damage, DEVICES),
                 Some(0),
                 "{size:?}, {damage:?}"
             );

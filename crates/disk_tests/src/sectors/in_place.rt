@@ -10,6 +10,8 @@ use std::alloc::Global;
 const COUNT: usize = 4;
 
 const SYNCS: u64 = 8;
+// How many devices are tried with each size of sectors and each damage.
+const DEVICES: u64 = 250; // tools/quick: 25
 
 type Tried = SectorsOf<MemDisk>;
 
@@ -138,7 +140,7 @@ fn read_one(sectors: &mut MemSectors, i: usize, out: &mut [u8]) -> bool {
 }
 
 fn loses(alloc: Global, size: SectorSize, damage: Damage) -> bool {
-    match wrong(alloc, size, damage, 250) {
+    match wrong(alloc, size, damage, DEVICES) {
         Some(count) => count > 0,
         None => false,
     }
@@ -149,8 +151,8 @@ fn sectors_over_themselves_lose_bytes_where_one_in_flight_may_hold_any(rt: HostR
     let sizes = [SectorSize::Bytes512, SectorSize::Bytes4096];
     for size in sizes {
         let found = [
-            wrong(rt.alloc(), size, Damage::OldOrNew, 250),
-            wrong(rt.alloc(), size, Damage::Torn, 250),
+            wrong(rt.alloc(), size, Damage::OldOrNew, DEVICES),
+            wrong(rt.alloc(), size, Damage::Torn, DEVICES),
         ];
         assert!(rt; found == [Some(0), Some(0)]);
         assert!(rt; loses(rt.alloc(), size, Damage::AnyBytes));

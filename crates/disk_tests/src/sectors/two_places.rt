@@ -9,6 +9,8 @@ use std::alloc::Global;
 pub(crate) const COUNT: usize = 4;
 
 const SYNCS: u64 = 8;
+// How many devices are tried with each size of sectors and each damage.
+const DEVICES: u64 = 250; // tools/quick: 25
 
 pub(crate) type Tried = TwoPlaces<SectorsOf<MemDisk>>;
 
@@ -120,7 +122,7 @@ fn no_crash_loses_a_byte_that_is_not_in_flight(rt: HostRuntime) {
     for size in sizes {
         for damage in models {
             assert_eq!(rt;
-                wrong(rt.alloc(), size, damage, 250),
+                wrong(rt.alloc(), size, damage, DEVICES),
                 Some(0),
                 "{size:?}, {damage:?}"
             );
