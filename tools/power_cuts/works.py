@@ -274,6 +274,7 @@ WHOLE = {
         *(Run(work, without=number) for number in (1, 2) for work in ("threads", "histories")),
         *(Run(work, lies=True) for work in ("threads", "histories", "drive", "set", "a file, served")),
         *(Run(work, failures=60, fails=("write", "flush"), is_unmended=True) for work in ("drive", "threads")),
-        Run("two places", failures=60, fails=("write",), torn=3, is_unmended=True),
+        # (seen within 118 to 193 states in four of five runs; in 485, of 60 failures, not once in the fifth)
+        Run("two places", failures=180, fails=("write",), torn=3, is_unmended=True),
     ],
 }
