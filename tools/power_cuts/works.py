@@ -273,8 +273,8 @@ WHOLE = {
     "control": [
         *(Run(work, without=number) for number in (1, 2) for work in ("threads", "histories")),
         *(Run(work, lies=True) for work in ("threads", "histories", "drive", "set", "a file, served")),
-        *(Run(work, failures=60, fails=("write", "flush"), is_unmended=True) for work in ("drive", "threads")),
-        # (seen within 118 to 193 states in four of five runs; in 485, of 60 failures, not once in the fifth)
-        Run("two places", failures=180, fails=("write",), torn=3, is_unmended=True),
+        # (each ends once it is seen, mostly within 60 failures; not so in two of ten runs)
+        *(Run(work, failures=240, fails=("write", "flush"), is_unmended=True) for work in ("drive", "threads")),
+        Run("two places", failures=240, fails=("write",), torn=3, is_unmended=True),
     ],
 }
