@@ -273,7 +273,7 @@ WHOLE = {
     "control": [
         *(Run(work, without=number) for number in (1, 2) for work in ("threads", "histories")),
         *(Run(work, lies=True) for work in ("threads", "histories", "drive", "set", "a file, served")),
-        # (each ends once it is seen, mostly within 60 failures; not so in two of ten runs)
+        # (each ends once it is seen: in ten of thirteen runs within 60 failures, at the latest within some 130 where it went on)
         *(Run(work, failures=240, fails=("write", "flush"), is_unmended=True) for work in ("drive", "threads")),
         Run("two places", failures=240, fails=("write",), torn=3, is_unmended=True),
     ],
