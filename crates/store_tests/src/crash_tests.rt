@@ -201,7 +201,7 @@ fn told_of_crashes(
 }
 
 // The second thread's section depends on the first one's, which ends after the first settling.
-#[test]
+#[test] // tools/quick: not
 fn a_dependent_section_waits(rt: HostRuntime) {
     let calls = [
         one(acq(0, 0)),
@@ -224,7 +224,7 @@ fn a_dependent_section_waits(rt: HostRuntime) {
 }
 
 // Each of two sections depends on the other.
-#[test]
+#[test] // tools/quick: not
 fn two_sections_wait_for_each_other(rt: HostRuntime) {
     let calls = [
         one(acq(0, 0)),
@@ -247,7 +247,7 @@ fn two_sections_wait_for_each_other(rt: HostRuntime) {
 }
 
 // A wait that frees the thread's one monitor ends its section.
-#[test]
+#[test] // tools/quick: not
 fn a_wait_ends_a_section(rt: HostRuntime) {
     let calls = [
         one(acq(0, 0)),

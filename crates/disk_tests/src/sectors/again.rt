@@ -8,7 +8,7 @@ use disk_sectors::{SectorSize, SectorsOf, TwoPlaces};
 use std::alloc::Global;
 
 // How many devices are tried with each size of sectors and each damage.
-const DEVICES: u64 = 100; // tools/quick: 10
+const DEVICES: u64 = 100; // tools/quick: 2
 
 // How many second crashes of these devices, one each, lost a byte; `None` where there was no memory.
 fn wrong(alloc: Global, size: SectorSize, damage: Damage, devices: u64) -> Option<u64> {

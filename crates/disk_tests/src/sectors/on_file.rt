@@ -14,6 +14,9 @@ const LEN: usize = 1024;
 // Those of a sector, of which the second is the gate.
 const SECTOR: usize = 512;
 
+// How many files are tried.
+const FILES: u64 = 100; // tools/quick: 10
+
 // What is done with the gate before a file is opened.
 #[derive(Clone, Copy, PartialEq, Eq)]
 enum Gate {
@@ -24,10 +27,10 @@ enum Gate {
 }
 
 // How many crashes of these files, eight each, lost a byte; `None` where there was no memory.
-fn wrong(alloc: Global, gate: Gate, files: u64) -> Option<u64> {
+fn wrong(alloc: Global, gate: Gate) -> Option<u64> {
     let mut chance = Chance::new(5);
     let mut wrong: u64 = 0;
-    for _ in 0..files {
+    for _ in 0..FILES {
         wrong = wrong.saturating_add(live(alloc, gate, &mut chance)?);
     }
     Some(wrong)
@@ -148,11 +151,11 @@ fn write_some<D: Disk>(disk: &mut D, truth: &mut Truth, chance: &mut Chance) -> 
 
 #[test]
 fn no_crash_of_a_file_loses_a_byte_that_is_not_in_flight(rt: HostRuntime) {
-    assert_eq!(rt; wrong(rt.alloc(), Gate::Left, 100), Some(0));
+    assert_eq!(rt; wrong(rt.alloc(), Gate::Left), Some(0));
 }
 
 fn loses(alloc: Global, gate: Gate) -> bool {
-    match wrong(alloc, gate, 100) {
+    match wrong(alloc, gate) {
         Some(count) => count > 0,
         None => false,
     }

@@ -10,7 +10,7 @@ pub(crate) const COUNT: usize = 4;
 
 const SYNCS: u64 = 8;
 // How many devices are tried with each size of sectors and each damage.
-const DEVICES: u64 = 250; // tools/quick: 25
+const DEVICES: u64 = 250; // tools/quick: 2
 
 pub(crate) type Tried = TwoPlaces<SectorsOf<MemDisk>>;
 

@@ -104,7 +104,7 @@ fn told_of_larger(alloc: Global) -> Option<(u32, bool, bool)> {
     Some((undone, at_end, is_so))
 }
 
-#[test]
+#[test] // tools/quick: not
 fn nothing_is_written_behind_the_image(rt: HostRuntime) {
     assert!(rt; told_of_larger(rt.alloc()) == Some((1, true, true)));
 }

@@ -262,12 +262,12 @@ fn a_round_is_atomic_over_one_lane(rt: HostRuntime) {
     assert!(rt; is_so(rt.alloc(), ONE_LANE));
 }
 
-#[test]
+#[test] // tools/quick: not
 fn a_round_is_atomic_over_two_lanes(rt: HostRuntime) {
     assert!(rt; is_so(rt.alloc(), TWO_LANES));
 }
 
-#[test]
+#[test] // tools/quick: not
 fn a_round_is_atomic_over_three_lanes(rt: HostRuntime) {
     assert!(rt; is_so(rt.alloc(), THREE_LANES));
 }
@@ -336,7 +336,7 @@ fn is_left_by_fault(alloc: Global, call: u64) -> bool
 
 // The format takes 13 calls of the device. The round takes 21: a write for each of its 10 records and for its field, and for
 // each of two controls a read of the other slot's head, its body, a sync, a gate and a sync.
-#[test]
+#[test] // tools/quick: not
 fn a_fault_at_each_call_of_a_round_leaves_the_old_cut_or_the_new_one(rt: HostRuntime) {
     for call in 14..35 {
         assert!(rt; is_left_by_fault(rt.alloc(), call), "{call}");

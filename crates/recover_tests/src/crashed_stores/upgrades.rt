@@ -119,7 +119,7 @@ fn goes_on_by_fills(alloc: Global) -> Option<bool> {
     Some(goes_on)
 }
 
-#[test]
+#[test] // tools/quick: not
 fn an_upgrade_cut_off_at_any_call_goes_on(rt: HostRuntime) {
     assert!(rt; goes_on_by_fills(rt.alloc()) == Some(true));
 }
