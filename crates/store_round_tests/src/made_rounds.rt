@@ -195,7 +195,7 @@ fn all_turn(alloc: Global, threads: u8) -> bool {
 }
 
 // With a lane for the helper, and with three threads and none.
-#[test]
+#[test] // tools/quick: not
 fn a_crash_gives_the_old_heap_or_the_new_one(rt: HostRuntime) {
     assert!(rt; all_turn(rt.alloc(), 2));
     assert!(rt; all_turn(rt.alloc(), 3));

@@ -376,7 +376,7 @@ fn the_number_told_of_a_chain_is_linear(rt: HostRuntime) {
 }
 
 // So is the search: one that took up for each section those that it depends on would take up 10^10, which no test's minute has.
-#[test]
+#[test] // tools/quick: not
 fn a_long_chain_is_searched_in_time(rt: HostRuntime) {
     assert!(rt; looks_at_bricks(rt.alloc(), 150_000, 900_000) == Some(299_998));
 }
@@ -420,7 +420,7 @@ fn what_is_left_out_is_not_told_again(rt: HostRuntime) {
 }
 
 // Nor is it taken up again: one that did so for each answer would take up 10^10 sections.
-#[test]
+#[test] // tools/quick: not
 fn what_is_left_out_takes_no_time_again(rt: HostRuntime) {
     assert!(rt; looks_with_one_open(rt.alloc(), 200_000, 1, 400_004) == Some([2, 200_001]));
 }
