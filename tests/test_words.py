@@ -338,6 +338,19 @@ class Kept(Played):
         self.done(FORMAT)
         self.assertEqual(self.kept.read_bytes(), second)
 
+    def test_an_image_that_is_kept_and_in_use_stays(self):
+        self.done(FORMAT)
+        self.done(OTHER)
+        kept = self.kept.read_bytes()
+        with open(self.kept, "rb") as other:
+            fcntl.flock(other, fcntl.LOCK_EX)
+            self.fails(FORMAT, FAULT, "fault", "image~: Device or resource busy (os error 16); another process has the image that is kept there")
+            self.assertEqual(self.kept.read_bytes(), kept)
+            # One that reads it, as `show`, does no harm.
+            fcntl.flock(other, fcntl.LOCK_SH)
+            self.done(FORMAT)
+        self.assertNotEqual(self.kept.read_bytes(), kept)
+
 
 # Paths that lead to no image: what is there, of an image's bytes, and which words make one there all the same.
 PATHS = {
@@ -424,6 +437,21 @@ class Paths(Played):
         self.image.symlink_to("led_to")
         self.assertEqual(self.play(f"{OTHER}").status, 0)
         self.assertTrue(self.image.is_symlink() and bytes_of(self.folder / "led_to") != before)
+
+    def test_what_no_making_has_left_beside_stays(self):
+        beside, notes = self.folder / "image.heapctl-new", self.folder / "notes"
+        notes.write_bytes(b"notes of mine")
+        for put in (lambda: beside.symlink_to("notes"), lambda: beside.symlink_to("nowhere"), lambda: os.link(notes, beside), beside.mkdir):
+            put()
+            for text in (FORMAT, "drive --rounds 1 --image {image}"):
+                self.fails(text, FAULT, "fault", "image.heapctl-new: File exists (os error 17); that isn't what a making leaves")
+            self.assertTrue(os.path.lexists(beside))
+            beside.rmdir() if beside.is_dir() else beside.unlink()
+        self.assertEqual((notes.read_bytes(), bytes_of(self.folder / "nowhere")), (b"notes of mine", None))
+        # What one has left is taken up.
+        beside.write_bytes(b"half of an image")
+        self.changes(FORMAT, FORMATTED)
+        self.assertFalse(os.path.lexists(beside))
 
     def test_a_folder_is_refused(self):
         self.image.mkdir()

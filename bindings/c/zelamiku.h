@@ -23,7 +23,7 @@
  *   CLOSED               it was closed or stopped
  *   ABANDONED            zelamiku_heap_abandon
  *   LOST                 a sync has failed: what wasn't durable may be gone, though the file still reads as it was written. Close the heap,
- *                        mount the file system again, and open the heap again
+ *                        mount the file system again, and open the heap again. Or the program has closed the heap's descriptor
  *   FAULT, FAILED, WORN  the library has stopped, mostly for want of memory. Close the heap, and open it again
  * A section of which an enter or a wait was underway just then may go on until its last exit, which answers why. What was durable stays in
  * each case. DEVICE is not the end: a write has failed, as on a full disk. Nothing is lost, and the write is made
@@ -105,7 +105,7 @@ typedef enum {
     ZELAMIKU_BAD_RECORD = 30,     /* the image has a record that can't be read */
     ZELAMIKU_ILLEGAL_LOG = 31,    /* no threads can have left the image's log */
     ZELAMIKU_DEVICE = 32,         /* of the hosts: a call of the file or the device has failed */
-    ZELAMIKU_LOST = 33,           /* of the hosts: a sync has failed, or the connection has ended, and the heap has stopped */
+    ZELAMIKU_LOST = 33,           /* of the hosts: a sync has failed, the connection has ended or the file was closed; the heap has stopped */
     ZELAMIKU_BUSY = 34,           /* of a heap by its name: another open of the file has its heap, or the file was replaced or removed */
     ZELAMIKU_STOPPED = 35,        /* the heap has stopped since the host told the proved library that it couldn't make a sync */
     ZELAMIKU_POOL_EMPTY = 36,     /* no slot of the pool is free */

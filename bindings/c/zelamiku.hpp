@@ -21,6 +21,7 @@
 #ifndef ZELAMIKU_HPP
 #define ZELAMIKU_HPP
 #include <cassert>
+#include <cerrno>
 #include <chrono>
 #include <cstring>
 #include <exception>
@@ -70,6 +71,7 @@ public:
     Heap(const std::string &path, Plan plan, zelamiku_report *report = nullptr) {
         plan.fields = plan.rows.data();
         plan.count = static_cast<std::uint32_t>(plan.rows.size());
+        if (path.find('\0') != path.npos) throw Error(ZELAMIKU_DEVICE, "open: the path has a zero byte", EINVAL);
         must(zelamiku_heap_open(&heap_, path.c_str(), &plan, report));
     }
     explicit Heap(zelamiku_heap heap) noexcept : heap_(heap) {} /* one that C has opened */

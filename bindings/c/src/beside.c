@@ -4,11 +4,15 @@
  * Else a draft is its caller's own. What keeps other processes out are locks of the system on the files (flock). */
 /* ---- locks and paths ---- */
 
-/* Opens a file whose descriptor the registry has: as soon as it is open, for a fork. */
+/* Opens a file whose descriptor the registry has: as soon as it is open, for a fork. One that was made for this goes where it can't be had. */
 static bool open_listed(int *descriptor, const char *path, int flags, mode_t mode) {
     pthread_mutex_lock(&registry);
-    *descriptor = AGAIN(open(path, flags | O_CLOEXEC | O_NOCTTY | O_NONBLOCK, mode));
+    int file = AGAIN(open(path, flags | O_CLOEXEC | O_NOCTTY | O_NONBLOCK, mode));
+    *descriptor = above_streams(file);
+    int error = errno;
+    if (SELDOM(file >= 0 && *descriptor < 0 && (flags & O_EXCL) != 0)) (void)unlink(path);
     pthread_mutex_unlock(&registry);
+    errno = error;
     return *descriptor >= 0;
 }
 

@@ -35,6 +35,17 @@ static bool has_functions(const zelamiku_device *it) {
     return it != NULL && it->read != NULL && it->write != NULL && it->sync != NULL && it->size != NULL;
 }
 
+/* Whether the heap's descriptor is its file's, as far as that can be known. One that the program has closed may be another file's by now: that is
+ * neither written nor taken for the heap's. errno is EBADF then. */
+static bool has_its_file(const heap *of) {
+    struct stat own;
+    if (of->file < 0 || of->inode == 0) return true; /* it is on a device, or not open yet */
+    bool is_there = fstat(of->file, &own) == 0;
+    if (is_there ? own.st_dev == of->volume && own.st_ino == of->inode : errno != EBADF) return true;
+    errno = EBADF;
+    return false;
+}
+
 /* ---- the proved library's calls ---- */
 
 /* Makes one call. A sync that is LOST is told to the library, which lets the heap go; any other call is told again by it. */

@@ -126,7 +126,7 @@ static void drop_event(heap *of, seat *own) {
 /* Under the mutex: makes the lane's event. False: the system has no descriptor, by errno. */
 static bool make_event(heap *of, seat *own) {
     pthread_mutex_lock(&registry);
-    int file = eventfd(0, EFD_CLOEXEC | EFD_NONBLOCK), error = errno;
+    int file = above_streams(eventfd(0, EFD_CLOEXEC | EFD_NONBLOCK)), error = errno;
     if (file >= 0) {
         own->event = file + 1;
         own->begun = own->ended;

@@ -1,6 +1,17 @@
 /* A file as a device: read, write, sync, size. Who leads has it, or who opens the heap; there is no lock. */
 /* ---- the file ---- */
 
+/* The same open file by a number that no standard stream has: in a program that was started without them a file would get theirs, and what the
+ * program prints would be written to it. -1, by errno. */
+static int above_streams(int file) {
+    if (file < 0 || file > STDERR_FILENO) return file;
+    int above = fcntl(file, F_DUPFD_CLOEXEC, STDERR_FILENO + 1);
+    int error = above < 0 && errno == EINVAL ? EMFILE : errno; /* the process may have no such number */
+    (void)close(file);
+    errno = error;
+    return above;
+}
+
 static bool write_all(int file, const uint8_t *bytes, uint64_t size, uint64_t at) {
     while (size > 0) {
         ssize_t count = AGAIN(pwrite(file, bytes, size, (off_t)at));

@@ -14,8 +14,9 @@ static void forked(void) {
         of->end_status = ZELAMIKU_FORKED;
         shut(of, true);
         if (!of->is_used) continue;
+        if (of->file >= 0 && has_its_file(of)) (void)close(of->file);
+        of->file = -1; /* a child of this child may have another file by that number */
         of->volume = of->inode = 0;
-        if (of->file >= 0) (void)close(of->file);
     }
     for (const draft *it = drafts; it != NULL; it = it->next) {
         if (it->old >= 0) (void)close(it->old);
@@ -110,8 +111,10 @@ static void close_listed(int *descriptor) {
 }
 
 static void close_file(heap *of) {
+    bool is_ours = has_its_file(of);
     pthread_mutex_lock(&registry);
     of->volume = of->inode = 0;
+    if (!is_ours) of->file = -1;
     pthread_mutex_unlock(&registry);
     close_listed(&of->file);
 }

@@ -256,7 +256,7 @@ static zelamiku_status close_cleanly(heap *of) {
     uint64_t calls = 0;
     for (uint32_t lane = 0; status == ZELAMIKU_OK && lane < of->lanes; lane++) status = zelamiku_end(&seat_at(of, lane)->session);
     if (status == ZELAMIKU_OK) status = zelamiku_close(&of->handle);
-    if (status == ZELAMIKU_OK) status = make_calls(of, &calls);
+    if (status == ZELAMIKU_OK && has_its_file(of)) status = make_calls(of, &calls);
     return status == ZELAMIKU_DEVICE ? ZELAMIKU_OK : status == ZELAMIKU_STOPPED ? ZELAMIKU_LOST : status;
 }
 

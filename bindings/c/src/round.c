@@ -150,15 +150,17 @@ static zelamiku_status make_rounds_calls(heap *of, zelamiku_stats *count) {
     return status;
 }
 
-/* Makes the calls that a failed write left, a round of at most so many records, and its calls, and counts what is durable by them. */
+/* Makes the calls that a failed write left, a round of at most so many records, and its calls, and counts what is durable by them. What may have
+ * gone to another file isn't counted. */
 static zelamiku_status round_and_calls(heap *of, uint64_t most, zelamiku_stats *count) {
     uint64_t taking = 0;
-    zelamiku_status status = make_rounds_calls(of, count);
+    zelamiku_status status = has_its_file(of) ? make_rounds_calls(of, count) : ZELAMIKU_LOST;
     if (status == ZELAMIKU_OK) status = take(of, most, &count->records, &taking);
     uint64_t begun = zelamiku_now();
     if (status == ZELAMIKU_OK) status = make_rounds_calls(of, count);
     count->calls_time = zelamiku_now() - begun;
     note_times(of, count->records, taking, count->calls_time);
+    if (status == ZELAMIKU_OK && !has_its_file(of)) status = ZELAMIKU_LOST;
     for (uint32_t lane = 0; status == ZELAMIKU_OK && lane < of->lanes; lane++) {
         uint64_t sections = 0;
         status = zelamiku_acknowledged(&of->handle, lane, &sections);

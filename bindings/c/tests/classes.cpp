@@ -106,6 +106,7 @@ static void sections() {
     Heap again(PATH, accounts, &report);
     MUST(report.is_made == 0 && report.told.found.dropped == 0);
     MUST((seen(again) == Balances{80, -80}));
+    MUST(thrown([] { const Heap other(std::string(PATH) + '\0', accounts); }) == ZELAMIKU_DEVICE);
 }
 
 /* By what a section may be left: the work of a nested synchronized, a guard, a guard in a function below. */

@@ -1,6 +1,6 @@
 /* Tests of the heap's file (zelamiku_heap_open, zelamiku_heap_copy, zelamiku_make_calls): a file that moves a byte at a time, is interrupted,
  * fails at each call in turn, is cut off or killed at each call of its making, has an old image, is made by several at once, and is replaced
- * while it is opened or copied to.
+ * while it is opened or copied to. A program closes it by mistake.
  *
  *     file FOLDER      prints nothing but a last line, and answers 0, where all is as it must be */
 #define _GNU_SOURCE
@@ -70,8 +70,15 @@ static ssize_t flaky_pread(int file, void *bytes, size_t size, off_t at) {
     return pread(file, bytes, moves_one_byte && size > 4095 ? 4095 : size, at);
 }
 
+static int stolen_at; /* at which sync from now on the program closes the heap's descriptor, and another file gets its number; 0: at none */
+
+static void steal(int file) {
+    if (close(file) != 0 || open("notes", O_RDWR | O_CREAT | O_CLOEXEC, 0600) != file) abort();
+}
+
 static int flaky_sync(int file) {
     if (is_interrupted() || is_due()) return -1;
+    if (stolen_at > 0 && --stolen_at == 0) steal(file);
     note(SYNCED, NULL, 0, 0);
     return fcntl(file, F_GETFD) < 0 ? -1 : 0; /* no power fails here */
 }
@@ -753,6 +760,26 @@ static void astray(void) {
     MUST(zelamiku_heap_close(heap) == ZELAMIKU_OK && chdir("..") == 0);
 }
 
+/* The program has closed the heap's descriptor, before a round or at this sync of it, and another file may have its number. What doesn't go to
+ * the heap's file isn't told as durable. Nothing goes to the other one once that is known, and it stays open. The heap can be opened again. */
+static void closed_by_the_program(int at, bool is_reused) {
+    zelamiku_heap heap;
+    zelamiku_thread own;
+    struct stat info;
+    life();
+    MUST(open_heap(&heap) == ZELAMIKU_OK && zelamiku_thread_begin(&own, heap) == ZELAMIKU_OK);
+    int file = heaps[heap.number >> 8 & (ZELAMIKU_MOST_HEAPS - 1)].file;
+    if (at == 0 && is_reused) steal(file);
+    if (!is_reused) MUST(close(file) == 0);
+    stolen_at = at;
+    MUST(zelamiku_thread_enter(own, 0) == ZELAMIKU_OK && zelamiku_thread_store(own, 0, 100) == ZELAMIKU_OK);
+    MUST(zelamiku_thread_exit(own, 0) == ZELAMIKU_OK && zelamiku_thread_await(own) == ZELAMIKU_LOST && zelamiku_heap_error() == EBADF);
+    MUST(zelamiku_thread_end(own) == ZELAMIKU_LOST && zelamiku_heap_close(heap) == ZELAMIKU_LOST && stolen_at == 0);
+    if (is_reused) MUST(fstat(file, &info) == 0 && info.st_size == 0 && close(file) == 0 && unlink("notes") == 0);
+    uint64_t value = found();
+    MUST(value == 8 || (at > 0 && value == 100));
+}
+
 int main(int argc, char **argv) {
     MUST(argc == 2 && chdir(argv[1]) == 0);
     life();
@@ -768,12 +795,15 @@ int main(int argc, char **argv) {
     at_once();
     links();
     astray();
+    closed_by_the_program(0, false);
+    closed_by_the_program(0, true);
+    closed_by_the_program(2, true);
     moves_one_byte = 1;
     remove_file();
     life();
     old();
     MUST(copies() > copy_calls);
-    printf("file: lives, an old image, other opens, large files, rings, the helper's lane, links, a file that goes, a fault at each of %d calls of a making, %d of a round and %d of a copy, "
+    printf("file: lives, an old image, other opens, large files, rings, the helper's lane, links, a file that goes, one that the program closes, a fault at each of %d calls of a making, %d of a round and %d of a copy, "
            "%d crashes of a making, %d of one in place, %d kills (%d before the heap was there), and calls that are short and interrupted\n",
            makings, calls, copy_calls, crashes, old_crashes, 2 * makings + TIMED_KILLS, killed);
     return 0;

@@ -518,6 +518,15 @@ static void abandoned(void) {
     by_nobody(own, ZELAMIKU_CLOSED, "closed or stopped");
 }
 
+/* In a child: its own files stay open in a child of its own, also one that has the number which the parent's heap had. */
+static void fork_again(void) {
+    int file = open("/dev/null", O_RDONLY), status = 1;
+    pid_t child = fork();
+    MUST(file >= 0 && child >= 0);
+    if (child == 0) _exit(fcntl(file, F_GETFD) >= 0 ? 0 : 1);
+    MUST(waitpid(child, &status, 0) == child && status == 0 && close(file) == 0);
+}
+
 /* In a child every call answers FORKED, also of a thread in its section, and the parent goes on. */
 static void forks(void) {
     zelamiku_heap heap, other;
@@ -536,6 +545,7 @@ static void forks(void) {
         IS(zelamiku_heap_open(&other, "forks", &plan, NULL), BUSY, "another process has the heap");
         IS(zelamiku_heap_open(&other, "child", &plan, NULL), OK, "");
         IS(zelamiku_heap_close(other), OK, "");
+        fork_again();
         _exit(wrong == 0 ? 0 : 1);
     }
     int status = 1;
@@ -550,6 +560,43 @@ static void forks(void) {
     MUST(zelamiku_heap_close(heap) == ZELAMIKU_OK);
     IS(zelamiku_heap_open(&heap, "forks", &plan, NULL), OK, "");
     MUST(zelamiku_heap_close(heap) == ZELAMIKU_OK && waitpid(child, &status, 0) == child && status == 0);
+}
+
+/* In a program that was started without standard streams, and may have no other descriptors: nothing is made. */
+static bool makes_nothing(void) {
+    zelamiku_heap heap;
+    struct rlimit before, few;
+    bool is_well = getrlimit(RLIMIT_NOFILE, &before) == 0;
+    few = before, few.rlim_cur = STDERR_FILENO + 1;
+    is_well &= setrlimit(RLIMIT_NOFILE, &few) == 0 && zelamiku_heap_open(&heap, "streams", &plan, NULL) == ZELAMIKU_DEVICE;
+    is_well &= zelamiku_heap_error() == EMFILE;
+    return is_well && access("streams", F_OK) != 0 && access("streams.heapctl-new", F_OK) != 0 && setrlimit(RLIMIT_NOFILE, &before) == 0;
+}
+
+/* What a program without standard streams prints goes nowhere, and not into the heap. */
+static bool prints_nowhere(void) {
+    zelamiku_heap heap;
+    zelamiku_thread own;
+    int event = -1;
+    for (int stream = 0; stream <= STDERR_FILENO; stream++) (void)close(stream);
+    bool is_well = makes_nothing();
+    is_well &= zelamiku_heap_open(&heap, "streams", &plan, NULL) == ZELAMIKU_OK && zelamiku_thread_begin(&own, heap) == ZELAMIKU_OK;
+    is_well &= zelamiku_thread_event(own, &event) == ZELAMIKU_OK && event > STDERR_FILENO;
+    for (int stream = 0; stream <= STDERR_FILENO; stream++) is_well &= write(stream, "told", 4) == -1;
+    is_well &= zelamiku_heap_copy(heap, "streams' copy") == ZELAMIKU_OK && zelamiku_thread_end(own) == ZELAMIKU_OK;
+    return is_well && zelamiku_heap_close(heap) == ZELAMIKU_OK;
+}
+
+static void no_streams(void) {
+    zelamiku_heap heap;
+    int status = 1;
+    fflush(stdout);
+    pid_t child = fork();
+    MUST(child >= 0);
+    if (child == 0) _exit(prints_nowhere() ? 0 : 1);
+    MUST(waitpid(child, &status, 0) == child && status == 0);
+    IS(zelamiku_heap_open(&heap, "streams", &plan, NULL), OK, "");
+    MUST(zelamiku_heap_close(heap) == ZELAMIKU_OK);
 }
 
 /* ---- hosts ---- */
@@ -667,6 +714,7 @@ int main(int argc, char **argv) {
     copies();
     abandoned();
     forks();
+    no_streams();
     full();
     printf("wrong calls: %u, of which %u were answered wrongly\n", calls, wrong);
     return wrong == 0 ? 0 : 1;

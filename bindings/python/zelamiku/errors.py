@@ -48,7 +48,7 @@ class FileError(OpenError):
 
 
 class Busy(OpenError):
-    """Another process has the heap, or this one has it open already; or the file was replaced while it was opened."""
+    """Another process has the heap or makes one there, or this one has it open already; or the file was replaced while it was opened."""
 
 
 class NotAHeap(OpenError):
@@ -210,8 +210,8 @@ KINDS = {
     30: Kind(BrokenFile, "the heap has a record that can't be read", _BACKUP),
     31: Kind(BrokenFile, "no threads can have left the heap's log", _BACKUP),
     32: Kind(WriteFailed, "a write to the file failed, and will be made again", "make room on the disk"),
-    33: Kind(SyncFailed, "a sync of the file failed", "close the heap, mount the file system again, and open the heap again"),
-    34: Kind(Busy, "another process has the heap, or this one has it open already", "end that one, or share the heap that is open"),
+    33: Kind(SyncFailed, "a sync of the file failed, or something closed it", "close the heap, mount the file system again, and open the heap again"),
+    34: Kind(Busy, "another process has the heap or makes one there, or this one has it open", "end that one, or share the heap that is open"),
     35: Kind(Stopped, "the heap has stopped", _REOPEN),
     37: Kind(NotTaken, "the slot isn't taken", "give back what take() answered, and once"),
     38: Kind(DamagedPool, "a field of the pool names no slot", "store to a pool's fields by take() and give() alone"),
@@ -247,7 +247,7 @@ MONITOR_KINDS = {
 # The same of a copy.
 COPY_KINDS = {
     32: Kind(CopyFailed, "the copy can't be written", "see the system's cause"),
-    34: Kind(CopyFailed, "a heap of that path is open", "choose another path"),
+    34: Kind(CopyFailed, "a heap of that path is open, or something is being made there", "choose another path, or try again"),
 }
 
 

@@ -66,7 +66,7 @@ refusals! {
     30 BadRecord "the heap has a record that can't be read"
     31 IllegalLog "no threads can have left the heap's log"
     32 Device "a call of the device has failed"
-    33 Lost "a sync has failed, or the connection has ended, and the heap has stopped"
+    33 Lost "a sync has failed, the connection has ended or the file was closed, and the heap has stopped"
     34 Busy "another process has the heap"
     35 Stopped "the heap has stopped since its host couldn't make a sync"
     36 PoolEmpty "no slot of the pool is free"

@@ -1,6 +1,6 @@
 //! Tells why a call to the system failed and what mends it, and of a path that leads to no regular file.
 
-use image_file::{BESIDE, KEPT, Place};
+use image_file::{BESIDE, KEPT, KEPT_IN_USE, Place};
 use std::fs::FileType;
 use std::io;
 use std::io::ErrorKind;
@@ -91,11 +91,12 @@ pub(crate) fn tell_cause<R: Files + Eprint>(rt: &R, path: &Path<'_>, error: &Opt
 // What mends it, where a user can.
 fn cure_of<R: Files>(rt: &R, path: &Path<'_>, error: &io::Error) -> &'static str {
     match (error.kind(), path.place) {
-        (_, Place::Kept) => {
-            "; the image that is there can't be kept beside a new one: make room for that, or type '--force'"
-        }
+        (_, Place::Kept) => kept_cure(error),
         (ErrorKind::NotFound, Place::Image) => "; 'heapctl format' and 'heapctl drive' make images",
         (ErrorKind::NotFound, Place::Beside) => "; make the folder first",
+        (ErrorKind::AlreadyExists, Place::Beside) => {
+            "; that isn't what a making leaves, so it stays: give it another name"
+        }
         (ErrorKind::NotFound, Place::Schema) => "; name the schema file",
         (ErrorKind::PermissionDenied, _) => "; ask its owner for the right to read and write it",
         (ErrorKind::ReadOnlyFilesystem, _) => {
@@ -106,6 +107,15 @@ fn cure_of<R: Files>(rt: &R, path: &Path<'_>, error: &io::Error) -> &'static str
         (ErrorKind::IsADirectory, _) => "; name a file",
         (_, Place::Output) => "",
         _ => disk_cure(error),
+    }
+}
+
+// What mends it where an image can't be kept.
+fn kept_cure(error: &io::Error) -> &'static str {
+    if error.raw_os_error() == Some(KEPT_IN_USE) {
+        "; another process has the image that is kept there: wait until it has ended, or give that image another name"
+    } else {
+        "; the image that is there can't be kept beside a new one: make room for that, or type '--force'"
     }
 }
 

@@ -5,7 +5,7 @@ use crate::trouble::{Place, Trouble};
 use disk_file::{BackingFile, Claim};
 use disk_sector_file::label_of;
 use image::{HEADER_BYTES, is_formatted};
-use std::fs::{OpenFile, OpenOptions};
+use std::fs::{Metadata, OpenFile, OpenOptions};
 use std::io;
 use std::io::ErrorKind;
 use std::os::unix::fs::MetadataExt;
@@ -136,17 +136,26 @@ where
             return Err(FileFault::Fault);
         }
     }
-    if is_at(rt, path, file) {
+    if is_at(rt, path, file, place) {
         Ok(())
     } else {
         Err(FileFault::InUse)
     }
 }
 
-// Whether the path leads to this file.
-fn is_at<F: OpenFile, R: Files<File = F>>(rt: &R, path: &str, file: &F) -> bool {
-    match (rt.metadata(path), file.metadata()) {
-        (Ok(there), Ok(here)) => there.dev() == here.dev() && there.ino() == here.ino(),
+// Whether the path leads to this file; of the one beside an image whether it is this file, and no link to it.
+fn is_at<F: OpenFile, R: Files<File = F>>(rt: &R, path: &str, file: &F, place: Place) -> bool {
+    let there = match place {
+        Place::Beside => rt.symlink_metadata(path),
+        _ => rt.metadata(path),
+    };
+    match (there, file.metadata()) {
+        (Ok(there), Ok(here)) => is_same(&there, &here),
         _ => false,
     }
+}
+
+/// Whether these are of one file.
+pub(crate) fn is_same(there: &Metadata, here: &Metadata) -> bool {
+    there.dev() == here.dev() && there.ino() == here.ino()
 }

@@ -1,19 +1,20 @@
 //! The images in files of the system.
 ghost use Rattle.std.specs.Prelude.{None};
 
-use crate::claiming::{Content, claim, claim_at, claim_image, content_of, no_file};
+use crate::claiming::{Content, claim, claim_at, claim_image, content_of, is_same, no_file};
 use crate::error::FileFault;
 use crate::images::Images;
 use crate::reading::read_there;
 use crate::trouble::{Place, Trouble};
 use crate::watched::Watched;
 use block_disk::Disk;
-use disk_file::BackingFile;
+use disk_file::{BackingFile, Claim};
 use disk_sector_file::{ImageDisk, label_of};
 use disk_sectors::SectorSize;
 use std::alloc::Global;
 use std::fs::{OpenFile, OpenOptions};
 use std::io::{ErrorKind, Read};
+use std::os::unix::fs::MetadataExt;
 use std::path::Path;
 use std::rt::Files;
 use std::{fs, io};
@@ -23,6 +24,9 @@ pub const BESIDE: &str = ".heapctl-new";
 
 /// What stands at the end of the path at which a replaced image is kept.
 pub const KEPT: &str = "~";
+
+/// What is noted where another process has the image that is kept there (EBUSY).
+pub const KEPT_IN_USE: i32 = 16;
 
 // What stands at the end of the path at which it passes, on its way there.
 const PASSING: &str = ".heapctl-old";
@@ -458,7 +462,7 @@ where
     }
 }
 
-// The file at this path, and whether it was made for this.
+// The file at this path, and whether it was made for this. What no making has left there stays as it is: `AlreadyExists`.
 fn open_beside<F, R>(rt: &R, beside: &str) -> io::Result<(F, bool)>
 where
     R: Files<File = F>,
@@ -468,7 +472,7 @@ where
     match options.open(rt, beside) {
         Ok(file) => return Ok((file, true)),
         Err(error) => {
-            if error.kind() != ErrorKind::AlreadyExists {
+            if error.kind() != ErrorKind::AlreadyExists || !may_be_left(rt, beside) {
                 return Err(error);
             }
         }
@@ -477,6 +481,16 @@ where
     match options.open(rt, beside) {
         Ok(file) => Ok((file, false)),
         Err(error) => Err(error),
+    }
+}
+
+// Whether a making that was cut off may have left what is there: a regular file without another name, and no link. Whatever else it is,
+// its bytes are somebody's.
+fn may_be_left<R: Files>(rt: &R, path: &str) -> bool {
+    match rt.symlink_metadata(path) {
+        Ok(metadata) => metadata.is_file() && metadata.nlink() < 2,
+        // It is gone by now, or can't be opened either.
+        Err(_) => true,
     }
 }
 
@@ -512,10 +526,10 @@ fn folder_of(path: &str) -> &str {
     }
 }
 
-// An image that is there stays, at the path with `~` at its end; what was there goes.
+// An image that is there stays, at the path with `~` at its end; what was there goes, unless another process has it.
 fn keep_old<F, R>(rt: &R, taken: &Taken<F>) -> io::Result<()>
 where
-    F: BackingFile + Drop,
+    F: BackingFile + OpenFile + Drop,
     R: Files<File = F>,
 {
     let Some(old) = &taken.old else {
@@ -524,7 +538,39 @@ where
     if old.len()? == 0 {
         return Ok(());
     }
-    link_over(rt, &taken.names)
+    let last = last_kept(rt, taken.names.kept.as_str(), old)?;
+    let kept = link_over(rt, &taken.names);
+    drop(last);
+    kept
+}
+
+// The file that is kept already. While it is claimed here no other process gets it for itself. `None` where there is none, where it is the old
+// image's own, and where that can't be known.
+fn last_kept<F, R>(rt: &R, kept: &str, old: &F) -> io::Result<Option<F>>
+where
+    F: BackingFile + OpenFile + Drop,
+    R: Files<File = F>,
+{
+    let (Ok(there), Ok(here)) = (rt.symlink_metadata(kept), old.metadata()) else {
+        return Ok(None);
+    };
+    if !there.is_file() || is_same(&there, &here) {
+        return Ok(None);
+    }
+    let Ok(file) = fs::open(rt, kept) else {
+        return Ok(None);
+    };
+    match file.claim(Claim::Shared) {
+        Ok(true) => Ok(Some(file)),
+        Ok(false) => {
+            drop(file);
+            Err(io::Error::from_raw_os_error(KEPT_IN_USE))
+        }
+        Err(_) => {
+            drop(file);
+            Ok(None)
+        }
+    }
 }
 
 // Lets a second name lead to the old image, in place of what it leads to: it takes another name first, so that what is kept already is
