@@ -159,7 +159,8 @@ class Closed(Stopped):
 
 
 class SyncFailed(Stopped):
-    """A sync of the file failed: ``__cause__`` says why. What wasn't durable may be lost, though the file still reads as it was written."""
+    """A sync of the file failed, or the program has closed it: ``__cause__`` says why. What wasn't durable may be lost, though the file still
+    reads as it was written."""
 
 
 class Abandoned(Stopped):

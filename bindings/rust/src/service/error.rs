@@ -43,7 +43,8 @@ pub enum ErrorKind {
     /// The heap was closed, or stopped.
     Closed,
     /// A sync of the file failed, and the heap was let go: what was acknowledged stays, and anything else may be lost, though the file
-    /// still reads as it was written. Mount the file system again, and open the heap again.
+    /// still reads as it was written. Mount the file system again, and open the heap again. Or the program has closed the heap's
+    /// descriptor.
     Sync,
     /// The heap has stopped, mostly for want of memory: the cause is the library's refusal. What was acknowledged stays. Open it again.
     Stopped,
