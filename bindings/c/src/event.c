@@ -20,18 +20,27 @@ static void count_loop(heap *of, seat *own) {
     }
 }
 
+/* Whether the lane has an event, as far as that can be known. One that the program has closed may be another file's by now: that is neither
+ * written, read nor closed. */
+static bool has_its_event(const seat *own) {
+    struct stat its;
+    if (own->event == 0) return false;
+    bool is_there = fstat(own->event - 1, &its) == 0;
+    return is_there ? its.st_dev == own->event_volume && its.st_ino == own->event_inode : errno != EBADF;
+}
+
 /* Under the mutex, by which the descriptor stays open. */
 static void ring_event(seat *other) {
     static const uint64_t one = 1;
     other->is_rung = true;
-    if (other->event != 0) (void)!write(other->event - 1, &one, sizeof one);
+    if (has_its_event(other)) (void)!write(other->event - 1, &one, sizeof one);
 }
 
 /* Under the mutex: makes the event unreadable. */
 static void quieten_event(seat *own) {
     uint64_t rung;
     own->is_rung = false;
-    if (own->event != 0) (void)!read(own->event - 1, &rung, sizeof rung);
+    if (has_its_event(own)) (void)!read(own->event - 1, &rung, sizeof rung);
 }
 
 /* Under the mutex, after a round or at the heap's end: rings for each loop that waits for that. At the end it rings for all. A loop that has
@@ -99,7 +108,7 @@ static void note_no_room(heap *of, seat *own) {
 /* Under the registry's mutex, for a fork; or in a child. */
 static void close_event(heap *of, seat *own) {
     if (own->event == 0) return;
-    (void)close(own->event - 1);
+    if (has_its_event(own)) (void)close(own->event - 1);
     own->event = 0;
     own->has_event = 0;
     of->events--;
@@ -123,11 +132,16 @@ static void drop_event(heap *of, seat *own) {
     pthread_mutex_unlock(&of->mutex);
 }
 
-/* Under the mutex: makes the lane's event. False: the system has no descriptor, by errno. */
+/* Under the mutex: makes the lane's event, in place of one that the program has closed. False: the system has no descriptor, by errno. */
 static bool make_event(heap *of, seat *own) {
     pthread_mutex_lock(&registry);
+    close_event(of, own);
     int file = above_streams(eventfd(0, EFD_CLOEXEC | EFD_NONBLOCK)), error = errno;
     if (file >= 0) {
+        struct stat its = {0};
+        (void)fstat(file, &its);
+        own->event_volume = its.st_dev;
+        own->event_inode = its.st_ino;
         own->event = file + 1;
         own->begun = own->ended;
         own->has_event = 1; /* after that, which who leads reads then */
@@ -153,9 +167,9 @@ static zelamiku_status lock_lane(heap *of, seat *own, zelamiku_thread thread, co
 static zelamiku_status event_of(heap *of, seat *own, zelamiku_thread thread, int *descriptor) {
     zelamiku_status status = lock_lane(of, own, thread, "event");
     if (status != ZELAMIKU_OK) return status;
-    bool is_lent = own->is_lent, is_there = own->event != 0 || (is_lent && make_event(of, own));
+    bool is_lent = own->is_lent, is_there = has_its_event(own) || (is_lent && make_event(of, own));
     int error = is_there ? 0 : errno;
-    *descriptor = own->event - 1;
+    *descriptor = is_there ? own->event - 1 : -1;
     pthread_mutex_unlock(&of->mutex);
     if (is_there) return ZELAMIKU_OK;
     return is_lent ? fail(of->path, ZELAMIKU_NO_MEMORY, error, "no descriptor could be made", NULL, "event") : nothing("event", NULL);

@@ -113,6 +113,8 @@ typedef struct {
     bool lacks_room;                     /* mutex: the loop has found no room */
     bool counts_as_waiting;              /* mutex: the loop counts among `awaiting` */
     bool is_rung;                        /* mutex: its event is readable, or is to be once there is one */
+    dev_t event_volume;                  /* as `event`: which file that is */
+    ino_t event_inode;
     _Alignas(128) _Atomic uint64_t number; /* the handle that it is lent by; 0: calls look at `lent_number` and the heap */
     _Atomic uint64_t open;               /* the same while a section is open, so that one look is enough for a load */
     _Atomic uint64_t ended;              /* how many sections the lane has ended */

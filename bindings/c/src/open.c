@@ -446,7 +446,7 @@ static zelamiku_status open_door(door *at, const zelamiku_device *device, zelami
         of->objects = found->objects;
         of->fields = found->fields;
         set_room(of, at->ring, found->capacity);
-        if (device == NULL) of->where = path_from_root(at->path);
+        if (of->inode != 0) of->where = path_from_root(at->path);
         of->path_checked = zelamiku_now();
         status = occupy(of, &at->handle, opened);
     }

@@ -240,14 +240,14 @@ static void finish(heap *of, zelamiku_status status, int error, const zelamiku_s
 
 /* Looks each second, while rounds are made, whether the path leads to the heap's file still. Where that can't be known it is as it was. */
 static bool is_astray(heap *of) {
-    struct stat own, named;
+    struct stat named;
     uint64_t now = zelamiku_now();
     bool was = of->stats.is_astray != 0;
     if (of->where == NULL || now - of->path_checked < SECOND) return was;
     of->path_checked = now;
     bool is_there = stat(of->where, &named) == 0;
-    if ((!is_there && errno != ENOENT && errno != ENOTDIR) || fstat(of->file, &own) != 0) return was;
-    return !is_there || own.st_dev != named.st_dev || own.st_ino != named.st_ino;
+    if (!is_there && errno != ENOENT && errno != ENOTDIR) return was;
+    return !is_there || named.st_dev != of->volume || named.st_ino != of->inode;
 }
 
 /* Makes a round. The caller has begun to lead; afterwards it doesn't any more. */

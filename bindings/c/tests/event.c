@@ -272,6 +272,48 @@ static void forks(void) {
     close_heap_well();
 }
 
+/* Another file gets the event's number, as after a program's close too many. */
+static void give_away(int event) {
+    int other = open("another", O_RDWR | O_CREAT | O_TRUNC | O_CLOEXEC, 0600);
+    MUST(other >= 0 && other != event && write(other, "another file's", 14) == 14 && lseek(other, 0, SEEK_SET) == 0);
+    MUST(dup2(other, event) == event && close(other) == 0);
+}
+
+/* Whether that file is as it was: open, at its beginning, and with its bytes. */
+static bool is_untouched(int event) {
+    char bytes[32];
+    return lseek(event, 0, SEEK_CUR) == 0 && pread(event, bytes, sizeof bytes, 0) == 14 && memcmp(bytes, "another file's", 14) == 0;
+}
+
+static void closed_by_the_program(void) {
+    int event, other, two, answer = -1;
+    begin_heap(true);
+    zelamiku_thread a = begin_loop(&event), b = begin_loop(&two);
+    give_away(event);
+    add(a, 0);
+    (void)ask_well(a);
+    UNTIL(zelamiku_thread_durable(a) == 1 && stats().awaiting == 0);
+    MUST(ask_well(a) == 1 && is_untouched(event));
+    pid_t child = fork();
+    if (child == 0) _exit(is_untouched(event) && is_closed(two) ? 0 : 1);
+    MUST(waitpid(child, &answer, 0) == child && answer == 0);
+    /* There is another event for the thread, and once it has closed that, one more. */
+    MUST(zelamiku_thread_event(a, &other) == ZELAMIKU_OK && other != event && its_heap()->events == 2);
+    add(a, 0);
+    await_event(a, other);
+    MUST(close(other) == 0 && ask_well(a) == 2 && zelamiku_thread_event(a, &other) == ZELAMIKU_OK && its_heap()->events == 2);
+    add(a, 0);
+    await_event(a, other);
+    MUST(is_untouched(event) && close(event) == 0);
+    give_away(other);
+    MUST(zelamiku_thread_end(a) == ZELAMIKU_OK && is_untouched(other) && close(other) == 0 && its_heap()->events == 1);
+    /* So it is at the heap's end. */
+    give_away(two);
+    close_heap_well();
+    MUST(is_untouched(two) && zelamiku_thread_event(b, &event) == ZELAMIKU_OK && event != two && is_readable(event, 0));
+    MUST(zelamiku_thread_end(b) == ZELAMIKU_CLOSED && is_closed(event) && is_untouched(two) && close(two) == 0);
+}
+
 static void failing_writes(void) {
     int event, idle;
     uint64_t durable = 0;
@@ -475,6 +517,7 @@ int main(int argc, char **argv) {
     room();
     ends_and_begins();
     forks();
+    closed_by_the_program();
     failing_writes();
     failing_syncs();
     stops();
@@ -482,6 +525,6 @@ int main(int argc, char **argv) {
     loops_beside_sleepers();
     ends_in_full_run();
     places();
-    printf("event loops: asks, room, ends, forks, failing writes and syncs, stops, loops beside sleepers, places\n");
+    printf("event loops: asks, room, ends, forks, events that the program has closed, failing writes and syncs, stops, loops beside sleepers, places\n");
     return 0;
 }

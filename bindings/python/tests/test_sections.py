@@ -1,4 +1,5 @@
 """Sections: monitors, exceptions, waits, durability, and the threads that have them."""
+import math
 import random
 import signal
 import threading
@@ -74,6 +75,20 @@ class Monitors(OnFile):
                     self.assertIsInstance(caught.exception, TimeoutError)
                 # What it had taken was given back.
                 self.assertIsNone(in_thread(lambda: heap.synchronized(heap.alice, timeout=0).__enter__()))
+
+    def test_a_timeout_of_any_length(self):
+        with self.open() as heap:
+
+            def take():
+                with heap.synchronized(heap.bob, timeout=timeout):
+                    heap.bob.balance += 1
+                return heap.durable(timeout)
+
+            # The second one is 0 in 64 bits of nanoseconds.
+            for timeout in (math.inf, 2**64 / 1e9, 1e300):
+                with held_elsewhere(heap.synchronized(heap.bob)) as let_go:
+                    threading.Timer(0.05, let_go).start()
+                    self.assertIs(in_thread(take), True)
 
     def test_limits_of_a_section(self):
         with self.open(many=Many, queues=[Queue] * 17) as heap:

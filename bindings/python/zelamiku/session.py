@@ -452,7 +452,7 @@ def _tell(stopped: Error, error: BaseException | None) -> None:
 
 
 def _deadline(timeout: float | None) -> int:
-    """In nanoseconds of time.monotonic_ns(): 0 where no time is left to sleep."""
+    """In nanoseconds of time.monotonic_ns(): 0 where no time is left to sleep. To the library it is a number of 64 bits."""
     if timeout is None:
         return NO_DEADLINE
-    return time.monotonic_ns() + round(timeout * 1e9) if timeout > 0 else 0
+    return time.monotonic_ns() + round(min(timeout, threading.TIMEOUT_MAX) * 1e9) if timeout > 0 else 0

@@ -10,7 +10,8 @@ use std::sync::Arc;
 #[non_exhaustive]
 #[derive(Clone, Copy, Debug, PartialEq, Eq)]
 pub enum ErrorKind {
-    /// The file couldn't be opened, locked, read or made. There is no heap; the file has what it had, or less where it was being made.
+    /// The file couldn't be opened, locked, read or made. There is no heap, and a file that was there has what it had; but where a new heap's
+    /// folder can't be synced, one that was free may have the heap.
     File,
     /// Another process has the heap of the file, or this one has it open already; or the file was replaced or removed while it was opened.
     Busy,
