@@ -35,13 +35,10 @@ static bool has_functions(const zelamiku_device *it) {
     return it != NULL && it->read != NULL && it->write != NULL && it->sync != NULL && it->size != NULL;
 }
 
-/* Whether the heap's descriptor is its file's, as far as that can be known. One that the program has closed may be another file's by now: that is
- * neither written nor taken for the heap's. errno is EBADF then. */
+/* Whether the heap's descriptor is its file's. Another file is neither written nor taken for the heap's. errno is EBADF then. */
 static bool has_its_file(const heap *of) {
-    struct stat own;
     if (of->file < 0 || of->inode == 0) return true; /* it is on a device, or not open yet */
-    bool is_there = fstat(of->file, &own) == 0;
-    if (is_there ? own.st_dev == of->volume && own.st_ino == of->inode : errno != EBADF) return true;
+    if (is_of_file(of->file, of->volume, of->inode)) return true;
     errno = EBADF;
     return false;
 }

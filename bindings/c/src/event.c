@@ -20,13 +20,9 @@ static void count_loop(heap *of, seat *own) {
     }
 }
 
-/* Whether the lane has an event, as far as that can be known. One that the program has closed may be another file's by now: that is neither
- * written, read nor closed. */
+/* Whether the lane has an event. Another file that has its number is neither written, read nor closed. */
 static bool has_its_event(const seat *own) {
-    struct stat its;
-    if (own->event == 0) return false;
-    bool is_there = fstat(own->event - 1, &its) == 0;
-    return is_there ? its.st_dev == own->event_volume && its.st_ino == own->event_inode : errno != EBADF;
+    return own->event != 0 && is_of_file(own->event - 1, own->event_volume, own->event_inode);
 }
 
 /* Under the mutex, by which the descriptor stays open. */

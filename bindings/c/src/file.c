@@ -12,6 +12,13 @@ static int above_streams(int file) {
     return above;
 }
 
+/* Whether the descriptor is that file's still, as far as that can be known: one that the program has closed may be another's by now. */
+static bool is_of_file(int descriptor, dev_t volume, ino_t inode) {
+    struct stat its;
+    if (fstat(descriptor, &its) != 0) return errno != EBADF;
+    return its.st_dev == volume && its.st_ino == inode;
+}
+
 static bool write_all(int file, const uint8_t *bytes, uint64_t size, uint64_t at) {
     while (size > 0) {
         ssize_t count = AGAIN(pwrite(file, bytes, size, (off_t)at));
