@@ -21,7 +21,7 @@ import subprocess
 import unittest
 from collections import namedtuple
 
-from .harness import HEAPCTL, InFolder, SCHEMA, TOP, each, heap_of, left_open, made_old, needs_cc, placed, run
+from .harness import HEAPCTL, InFolder, SCHEMA, TOP, each, heap_of, left_open, made_old, needs_cc, placed, Ran, run
 
 FILES = "open,openat,flock,lseek,read,write,pread64,pwrite64,fsync,fdatasync,ftruncate,rename,renameat,renameat2,unlink,unlinkat"
 THREADS = "clone,clone3"
@@ -97,7 +97,7 @@ Case = namedtuple("Case", "words stdin image allows told sectors", defaults=("",
 
 def is_counted(least):
     """The workers' total is the sum of their own counts, and none of these is below what it was."""
-    return lambda heap: heap[0] == sum(heap[1:]) and min(heap[1:]) >= least
+    return lambda heap: heap is not None and heap[0] == sum(heap[1:]) and min(heap[1:]) >= least
 
 
 def over_images(suffix, **how):
@@ -217,6 +217,11 @@ class RefusedCalls(InFolder):
         wrong = [self.tried(case, "damage", "fdatasync", at, "", before) for at in range(1, 8)]
         self.assertIn("recover gives None", wrong)
 
+    def test_an_image_that_is_removed_is_a_fault(self):
+        self.put(None)
+        allowed = {name for name, case in CASES.items() if case.allows and self.fault_of_left(case, Ran(1, "", "")) is None}
+        self.assertEqual(allowed, {"format", "format-placed", "drive-new"})
+
     def traced(self, case, *how):
         words = ["-f", "-y", "-qq", "-o", self.log, "-e", f"trace={FILES},{THREADS}", *how, HEAPCTL, *self.words(case.words)]
         return run(words, case.stdin, program="strace")
@@ -248,12 +253,12 @@ class RefusedCalls(InFolder):
         return None if whole.startswith(ran.out) else "its output is no beginning of the whole"
 
     def fault_of_left(self, case, ran):
-        if case.allows is None or not self.image.exists():
+        if case.allows is None:
             return None
         by = "upgrade" if case.words.startswith("upgrade") else "recover"
         heap = heap_of(self.image, by)
         if not (case.allows(heap) if callable(case.allows) else heap in case.allows):
-            return f"{by} gives {heap}"
+            return f"{by} gives {heap}" if self.image.exists() else "the image is gone"
         if case.told and ran.out and heap != case.told:
             return f"it printed {ran.out[:40]!r}, and {by} gives {heap}"
         again = heap_of(self.image, "recover") if by == "upgrade" else heap

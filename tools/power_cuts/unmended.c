@@ -1,9 +1,10 @@
-/* Runs a program as if its openings didn't write back what they read, for controls of tools/power-cuts.
+/* Runs a program whose opening doesn't write back what it has read, for controls of tools/power-cuts.
  *
  *     unmended PROGRAM WORD..
  *
- * A write to a file whose bytes are those that the file shows already is left out, and so is each request that the system drop a file's pages
- * (posix_fadvise). Its status is the program's. */
+ * The write-back is the program's first writes to a file, up to its next sync: they write the bytes that the file shows already. These writes are
+ * left out, and so is each request that the system drop a file's pages (posix_fadvise). Later writes stay, also those of the same bytes: recovery
+ * makes such writes too, and without them a heap is lost for another reason. Its status is the program's. */
 #define _GNU_SOURCE
 #include <errno.h>
 #include <fcntl.h>
@@ -13,6 +14,7 @@
 #include <stdlib.h>
 #include <string.h>
 #include <sys/ptrace.h>
+#include <sys/stat.h>
 #include <sys/syscall.h>
 #include <sys/uio.h>
 #include <sys/user.h>
@@ -53,14 +55,31 @@ static off_t place_of(pid_t of, int file) {
     return at;
 }
 
-/* Before a call: leaves it out where it is one of those, and then is what it answers. -1: it stays. */
+static bool has_left_out, is_over; /* over: the opening has written back, or has begun to write something else */
+
+/* The place of the file or disk to which the call writes; -1: it writes to none. */
+static off_t written_at(pid_t of, const struct user_regs_struct *call) {
+    char path[64];
+    struct stat info;
+    (void)snprintf(path, sizeof path, "/proc/%d/fd/%d", of, (int)call->rdi);
+    if ((call->orig_rax != SYS_pwrite64 && call->orig_rax != SYS_write) || call->rdi <= STDERR_FILENO || stat(path, &info) != 0) return -1;
+    if (!S_ISREG(info.st_mode) && !S_ISBLK(info.st_mode)) return -1;
+    return call->orig_rax == SYS_pwrite64 ? (off_t)call->r10 : place_of(of, (int)call->rdi);
+}
+
+/* Before a call: leaves it out where it is one of those, and then returns what the call returns instead. -1: the call stays. */
 static long answer_instead(pid_t of, struct user_regs_struct *call) {
     long number = (long)call->orig_rax, answer = -1;
+    off_t at = written_at(of, call);
     if (number == SYS_fadvise64) answer = 0;
-    if (number == SYS_pwrite64 && has_bytes(of, call, (off_t)call->r10)) answer = (long)call->rdx;
-    off_t at = number == SYS_write ? place_of(of, (int)call->rdi) : -1;
-    /* One that goes on from a place has to move it. */
-    if (at >= 0 && has_bytes(of, call, at)) {
+    if (number == SYS_fsync || number == SYS_fdatasync) is_over |= has_left_out;
+    if (at >= 0 && !is_over) {
+        is_over = !has_bytes(of, call, at);
+        has_left_out |= !is_over;
+        if (!is_over) answer = (long)call->rdx;
+    }
+    /* A write that goes on from a place has to move it. */
+    if (answer >= 0 && number == SYS_write) {
         call->orig_rax = SYS_lseek;
         call->rsi = call->rdx;
         call->rdx = SEEK_CUR;

@@ -1,0 +1,205 @@
+"""What judges runs can refuse: made-up lives, each of which a judge must refuse, beside others that it must pass.
+
+Histories (tools/power_cuts/history.py) are judged for each subset of the sections of a life. Two or three threads take monitors in an order that
+a seed chooses. A heap must pass exactly where its sections are a closed set: the first ones of each thread, and of each monitor those that took it
+first. The other judges are those of tools/power-cuts (trials.py), of the examples that are killed (test_examples.py), and of the lease server
+(examples/python/leases/kill.py).
+"""
+import importlib.util
+import itertools
+import random
+import sys
+import unittest
+from unittest import mock
+
+from .harness import COUNTS, TOP
+from .test_examples import Jobs, Totals, Transfers
+
+sys.path.insert(0, f"{TOP}/tools/power_cuts")
+import history  # noqa: E402
+import trials  # noqa: E402
+from works import WORKS  # noqa: E402
+
+FOUND = "found 0 put 2 done 1"
+# By judge: lives that pass, and lives whose last line is wrong.
+LIVES = {
+    Totals: (
+        [["total 0 = 0 + 0 + 0 + 0", "acknowledged 3", "acknowledged 3", "total 5 = 1 + 2 + 1 + 1"]],
+        [
+            ["total 5 = 1 + 2 + 1 + 2"],
+            ["total 0 = 0 + 0 + 0 + 0", "acknowledged 3", "acknowledged 2"],
+            ["total 2 = 2 + 0 + 0 + 0", "acknowledged 3", "total 4 = 4 + 0 + 0 + 0"],
+            ["total 2 = 2 + 0 + 0 + 0", "total 1 = 1 + 0 + 0 + 0"],
+            ["total 1"],
+        ],
+    ),
+    Transfers: (
+        [["found 0 0", "acknowledged 1 2", "acknowledged 0 1", "found 1 3"]],
+        [
+            ["found 0 0", "acknowledged 1 2", "found 7 1"],
+            ["found 0 0", "acknowledged 1 2", "acknowledged 1 2"],
+            ["found 0 0", "acknowledged 1 2", "acknowledged 1 1"],
+            ["acknowledged 1"],
+        ],
+    ),
+    Jobs: (
+        [[FOUND, "put 0 3", "done 0 2", "found 0 put 3 done 2", "done 0 3"]],
+        [
+            [FOUND, "put 0 4"],
+            [FOUND, "put 0 2"],
+            [FOUND, "done 0 1"],
+            [FOUND, "done 0 2", "done 0 2"],
+            [FOUND, "done 0 2", "found 0 put 2 done 1"],
+            [FOUND, "put 0 3", "found 0 put 2 done 1"],
+            ["found 0 put 1 done 2"],
+            ["put 0"],
+        ],
+    ),
+}
+# What a look at a heap of four counters has printed, what was told before, and why it is wrong. What it has at least, and must be, is a Known.
+GOOD = ["show 0 10 1 2 3 4", "look 0 10 1 2 3 4", "recover 0 10 1 2 3 4"]
+LOOKS = [
+    (GOOD, trials.Known({"3": 3}, floor=(10, 1, 2), same=(10, 1, 2, 3, 4)), ""),
+    (["no heap"], trials.Known({}, is_made=False), ""),
+    (GOOD, trials.Known({"3": 4}), "which was told"),
+    (GOOD, trials.Known({}, floor=(0, 2)), "which is durable"),
+    (GOOD, trials.Known({}, same=(10, 1, 2, 4, 3)), "as at the first recovery"),
+    ([*GOOD[:2], "recover 0 10 2 1 3 4"], trials.Known({}), "looks differ"),
+    ([it.replace(" 10 ", " 11 ") for it in GOOD], trials.Known({}), "the sum"),
+    ([*GOOD[:2], "recover 2"], trials.Known({}), "it is refused"),
+    (GOOD[:1], trials.Known({}), "it is refused"),
+    ([], trials.Known({}), "it is refused"),
+    (["no heap"], trials.Known({}), "it is refused"),
+    (["no heap"], trials.Known({"1": 1}, is_made=False), "it is refused"),
+    ([*GOOD, "copy 0 9 1 2 3 3"], trials.Known({"copy4": 4}), "the copy"),
+    ([*GOOD, "copy 1"], trials.Known({"copy4": 4}), "the copy"),
+]
+
+
+def is_refused(judge, life):
+    """Whether the judge refuses the life's last line, and nothing before."""
+    for line in life[:-1]:
+        judge.hear(line)
+    try:
+        judge.hear(life[-1])
+    except AssertionError:
+        return True
+    return False
+
+
+def made(chance, threads, monitors=2):
+    """A life's lines, its first heap and its sections. The heap has the total, a counter of each thread, and a value of each monitor."""
+    base = [0] + [chance.randrange(3) for _ in range(threads)] + [chance.randrange(9) for _ in range(monitors)]
+    takes, lines, sections = [0] * (monitors + threads), ["#life 1 " + " ".join(map(str, base))], []
+    counts = base[1 : 1 + threads]
+    for _ in range(5):
+        thread, inside = chance.randrange(threads), chance.sample(range(monitors), chance.randint(1, monitors))
+        counts[thread] += 1
+        # (the last monitors are one thread's each, and guard its counter)
+        stores = [(monitors + thread, 1 + thread, counts[thread])]
+        stores += [(monitor, 1 + threads + monitor, chance.randrange(10, 1000)) for monitor in inside]
+        for monitor, _, _ in stores:
+            takes[monitor] += 1
+        steps = [f"{monitor}:{takes[monitor]}" for monitor, _, _ in stores] + [f"{monitor}.{place}={value}" for monitor, place, value in stores]
+        lines.append(f"#section 1 {thread + 1} {counts[thread]} {' '.join(steps)}")
+        sections.append((thread, set(inside), stores))
+    return lines, base, sections
+
+
+def is_closed(sections, kept):
+    """Whether no section that is left out comes before a kept one of its thread, or of one of its monitors."""
+    return not any(
+        sections[before][0] == sections[at][0] or sections[before][1] & sections[at][1] for at in kept for before in range(at) if before not in kept
+    )
+
+
+def heap_of(base, sections, kept):
+    found = list(base)
+    for at in kept:
+        for _, place, value in sections[at][2]:
+            found[place] = value
+    return found
+
+
+class Judges(unittest.TestCase):
+    def refused(self, by, is_right, wrong):
+        """Counts what a judge has refused, which has to be all of it."""
+        self.assertTrue(is_right, wrong)
+        COUNTS["judges"][f"lives refused by {by}"] += 1
+
+    def test_examples(self):
+        for judge, (passed, wrong) in LIVES.items():
+            for life in passed:
+                self.assertFalse(is_refused(judge(), life), life)
+            for life in wrong:
+                self.refused("examples", is_refused(judge(), life), (judge, life))
+        jobs = Jobs()
+        jobs.hear(FOUND)
+        with self.assertRaises(AssertionError, msg="a job that was put is never done"):
+            jobs.sum()
+
+    def test_looks_of_power_cuts(self):
+        for printed, known, why in LOOKS:
+            found = trials.judge(WORKS["threads"], printed, known).wrong
+            if not why:
+                self.assertEqual(found, "", printed)
+            else:
+                self.refused("power cuts", why in found, (printed, known, why, found))
+
+    def test_leases(self):
+        spec = importlib.util.spec_from_file_location("leases_kill", f"{TOP}/examples/python/leases/kill.py")
+        leases = importlib.util.module_from_spec(spec)
+        spec.loader.exec_module(leases)
+        # Leases that were acquired before, and one that mustn't be: its name, holder, token, and the last token before it was asked for.
+        for name, holder, token, floor in (("a", 2, 2, 1), ("b", 2, 1, 0), ("b", 2, 2, 2)):
+            truth = leases.Truth()
+            truth.acquired("a", 1, 1, 0)
+            with self.assertRaises(leases.Wrong):
+                truth.acquired(name, holder, token, floor)
+            self.refused("leases", True, "")
+        truth.releases("a")
+        truth.acquired("a", 3, 3, 2)
+        # A server that finds so many leases at each start, where one is held.
+        for count in (1, 0):
+            server = mock.Mock(**{"stdout.readline.return_value": f"it has {count} leases", "poll.return_value": None})
+            with mock.patch.object(leases, "started", return_value=server):
+                if count:
+                    leases.kill_often(None, 0, 2, truth, random.Random(1))
+                    continue
+                with self.assertRaises(leases.Wrong):
+                    leases.kill_often(None, 0, 2, truth, random.Random(1))
+                self.refused("leases", True, "")
+        # Answers of a server to a client that acquires, renews and releases.
+        for answers in ([(500, {})], [(200, {"token": 1}), (404, {})], [(200, {"token": 1}), (200, {"token": 2})], [(200, {"token": 1}), (404, {}), "released"]):
+            client, left = leases.Client(1, 0, leases.Truth(), 1), list(answers)
+            renews = 0 if left[-1] == "released" else 1
+            client._random.randrange = lambda _, count=renews: count  # noqa: SLF001
+            client._ask = lambda *_, left=left: left.pop(0)  # noqa: SLF001
+            with self.assertRaises(leases.Wrong):
+                client._turn("a", 1)  # noqa: SLF001
+            self.refused("leases", True, "")
+
+    def test_histories(self):
+        passed = 0
+        for seed in range(40):
+            chance = random.Random(seed)
+            threads = chance.choice([2, 3])
+            lines, base, sections = made(chance, threads)
+            lives, numbers = history.lives_of(lines), range(len(sections))
+            subsets = [kept for size in range(len(sections) + 1) for kept in itertools.combinations(numbers, size)]
+            closed = {tuple(heap_of(base, sections, kept)) for kept in subsets if is_closed(sections, set(kept))}
+            whole = heap_of(base, sections, numbers)
+            others = [[*whole[:at], value, *whole[at + 1 :]] for at in range(1, len(base)) for value in (whole[at] + 1, whole[at] - 1, base[at] - 1)]
+            for heap in [*(heap_of(base, sections, kept) for kept in subsets), *others]:
+                why = history.what_is_wrong(lives, heap, threads)
+                if tuple(heap) in closed:
+                    self.assertEqual(why, "", (seed, heap))
+                    passed += 1
+                else:
+                    self.refused("histories", why, (seed, heap))
+        self.refused("histories", history.what_is_wrong([], [0, 0, 0], 2), "no life was told")
+        self.assertGreater(passed, 40)
+
+
+if __name__ == "__main__":
+    unittest.main()
