@@ -22,12 +22,14 @@
  * answers why, until its place serves another heap, and NOTHING then:
  *   CLOSED               it was closed or stopped
  *   ABANDONED            zelamiku_heap_abandon
- *   LOST                 a sync has failed: what wasn't durable may be gone, though the file still reads as it was written. Close the heap,
- *                        mount the file system again, and open the heap again. Or the program has closed the heap's descriptor
+ *   LOST                 what wasn't durable may be gone, though the file still reads as it was written: a sync has failed, or the program
+ *                        has closed the heap's descriptor. Close the heap and open it again; if that fails with EIO, mount the file system
+ *                        again first
  *   FAULT, FAILED, WORN  the library has stopped, mostly for want of memory. Close the heap, and open it again
  * A section of which an enter or a wait was underway just then may go on until its last exit, which answers why. What was durable stays in
  * each case. DEVICE is not the end: a write has failed, as on a full disk. Nothing is lost, and the write is made
- * again by the next call that waits for a round, and by the helper each second.
+ * again by the next call that waits for a round, and by the helper each second. A stop or an abandon, after which nobody makes it again, returns
+ * LOST for it.
  *
  * Rules. Use a thread's handle in one call at a time, except in calls of which it says "any thread may". No call comes from a signal handler,
  * and no thread is cancelled in one. Handles are numbers: they may be copied, kept, and handed to other threads.
@@ -105,7 +107,7 @@ typedef enum {
     ZELAMIKU_BAD_RECORD = 30,     /* the image has a record that can't be read */
     ZELAMIKU_ILLEGAL_LOG = 31,    /* no threads can have left the image's log */
     ZELAMIKU_DEVICE = 32,         /* of the hosts: a call of the file or the device has failed */
-    ZELAMIKU_LOST = 33,           /* of the hosts: a sync has failed, the connection has ended or the file was closed; the heap has stopped */
+    ZELAMIKU_LOST = 33,           /* of the hosts: a sync has failed, the connection has ended or the file was closed, or a stop's last write has failed; the heap has stopped */
     ZELAMIKU_BUSY = 34,           /* of a heap by its name: another open of the file has its heap, or the file was replaced or removed */
     ZELAMIKU_STOPPED = 35,        /* the heap has stopped since the host told the proved library that it couldn't make a sync */
     ZELAMIKU_POOL_EMPTY = 36,     /* no slot of the pool is free */
@@ -328,7 +330,9 @@ ZELAMIKU_MUST_USE zelamiku_status zelamiku_heap_dropped(zelamiku_heap heap, size
 ZELAMIKU_MUST_USE zelamiku_status zelamiku_heap_close(zelamiku_heap heap);
 
 /* The same for a heap whose threads are in sections or wait: these are answered CLOSED at once, also where they sleep. What has ended is
- * made durable first, but for what depends on a section that is open. The next open drops that and the open sections, as after a crash. */
+ * made durable first, but for what depends on a section that is open. The next open drops that and the open sections, as after a crash.
+ * LOST: that couldn't be written, or a sync has failed: the next open may drop sections that had ended, too. zelamiku_heap_error has the
+ * cause. The heap has ended in each case. */
 ZELAMIKU_MUST_USE zelamiku_status zelamiku_heap_stop(zelamiku_heap heap);
 
 /* The same, and calls answer ABANDONED: for a heap one of whose threads has ended, or failed, inside its section. The lane's memory is kept

@@ -73,8 +73,9 @@ static void end_heap(uint32_t heap, deed_kind kind) {
     zelamiku_status status = kind == CLOSE  ? zelamiku_heap_close(it->heap)
                              : kind == STOP ? zelamiku_heap_stop(it->heap)
                                             : zelamiku_heap_abandon(it->heap);
-    bool has_failed = status == ZELAMIKU_DEVICE && it->has_trouble, is_refused = kind == CLOSE && (status == ZELAMIKU_RUNNING || has_failed);
-    bool is_right = status == ZELAMIKU_OK || judge_is_end(it, status) || has_failed || is_refused;
+    bool is_refused = kind == CLOSE && (status == ZELAMIKU_RUNNING || (status == ZELAMIKU_DEVICE && it->has_trouble));
+    bool has_lost = kind != CLOSE && status == ZELAMIKU_LOST && it->has_trouble; /* nobody makes its last round's write again */
+    bool is_right = status == ZELAMIKU_OK || judge_is_end(it, status) || has_lost || is_refused;
     if (!is_right) search_fail("the end of heap %u answers %u", heap, status);
     judge_ended(it, why, is_refused);
     if (status != ZELAMIKU_OK) return;

@@ -317,6 +317,9 @@ static zelamiku_status stop_heap(heap *of, zelamiku_status why, const char *call
     }
     tell_end_of_rounds(of);
     release(of);
+    /* Nobody makes the last round's write again. */
+    if (status == ZELAMIKU_DEVICE)
+        return fail(of->path, ZELAMIKU_LOST, error, "a write has failed, and what wasn't durable is lost", NULL, "%s", call);
     return tell_end(of, status, error, call);
 }
 

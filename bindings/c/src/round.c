@@ -27,9 +27,9 @@ static bool is_durable(const seat *own, uint64_t sections) {
     return own->acknowledged >= sections;
 }
 
-/* DEVICE where a write has failed since there were so many troubles. */
+/* DEVICE where a write has failed since there were so many troubles, and is made again: not at the heap's end, which a waiting thread gets. */
 static zelamiku_status trouble_since(const heap *of, uint64_t troubles) {
-    return of->troubles == troubles ? ZELAMIKU_OK : ZELAMIKU_DEVICE;
+    return of->troubles == troubles || of->end_status != 0 ? ZELAMIKU_OK : ZELAMIKU_DEVICE;
 }
 
 /* Sleeps until the next step of who leads, or the deadline. */

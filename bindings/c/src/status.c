@@ -48,7 +48,7 @@ static const char *const TEXTS[][2] = {
     [ZELAMIKU_ILLEGAL_LOG] = {"no threads can have left the heap's log", "take the back-up: something else has written the file"},
     [ZELAMIKU_DEVICE] = {"a call of the device has failed", ""},
     [ZELAMIKU_LOST] = {"a sync has failed, the connection has ended or the file was closed, and the heap has stopped",
-                       "close the heap, mount the file system or connect again, and open it again"},
+                       "close the heap and open it again; if that fails with EIO, mount the file system again first"},
     [ZELAMIKU_BUSY] = {"another process has the heap", "wait for its end, or end it"},
     [ZELAMIKU_STOPPED] = {"the heap has stopped since its host couldn't make a sync", "free it, and open it again"},
     [ZELAMIKU_POOL_EMPTY] = {"no slot of the pool is free", "give one back before"},

@@ -32,9 +32,9 @@ static _Atomic bool refuses_more;       /* each call after the fault is refused:
 static _Atomic bool is_let_go, is_over; /* no call may come */
 static const char *kind_of_fault;       /* of the call that has met it */
 
-static const zelamiku_field FIELDS[] = {{0, 0, 5, 0}, {1, 1, 6, 0}, {0, 0, 9, 1}};
+static const zelamiku_field FIELDS[] = {{0, 0, 5, 0}, {1, 1, 6, 0}, {0, 0, 9, 1}, {2, 2, 4, 0}};
 /* No round comes by itself. */
-static const zelamiku_plan PLAN = {.fields = FIELDS, .count = 3, .objects = 2, .lanes = 4, .capacity = 2000, .linger = UINT32_MAX};
+static const zelamiku_plan PLAN = {.fields = FIELDS, .count = 4, .objects = 3, .lanes = 4, .capacity = 2000, .linger = UINT32_MAX};
 enum { SIZE = 1 << 18 };
 
 /* ---- the device ---- */
@@ -134,9 +134,9 @@ static zelamiku_thread begin_thread(void) {
 
 static uint64_t load(zelamiku_thread own, uint32_t field) {
     uint64_t value = 0;
-    OK(zelamiku_thread_enter(own, field % 2));
+    OK(zelamiku_thread_enter(own, FIELDS[field].guard));
     OK(zelamiku_thread_load(own, field, &value));
-    OK(zelamiku_thread_exit(own, field % 2));
+    OK(zelamiku_thread_exit(own, FIELDS[field].guard));
     return value;
 }
 
@@ -210,7 +210,7 @@ static void life(const char *folder) {
     empty();
     plant(NO_FAULT, 0);
     OK(zelamiku_heap_open_on(&heap, "device", &DEVICE, &PLAN, &report));
-    MUST(report.is_made == 1 && report.told.found.fields == 3 && report.told.found.lanes == 4 && report.told.found.size < SIZE);
+    MUST(report.is_made == 1 && report.told.found.fields == 4 && report.told.found.lanes == 4 && report.told.found.size < SIZE);
     zelamiku_thread own = begin_thread();
     MUST(load(own, 0) == 5 && load(own, 1) == 6 && load(own, 2) == 9);
     store(own, 7);
@@ -282,8 +282,8 @@ static void refusals(void) {
         held.now[at] ^= 4;
     }
     plan = PLAN;
-    plan.objects = 3;
-    refuses(ZELAMIKU_OTHER_HEAP, &plan, "objects: 2 in the file, and 3 in the plan");
+    plan.objects = 4;
+    refuses(ZELAMIKU_OTHER_HEAP, &plan, "objects: 3 in the file, and 4 in the plan");
     MUST(value_on(held.now) == 7);
 }
 
@@ -449,6 +449,46 @@ static void until_entering(uint32_t count) {
     }
 }
 
+/* A write of a stop's last round fails, and nobody makes it again: the stop says so where a section that had ended is lost. A thread that waits for
+ * what depends on an open section gets the heap's end, and never DEVICE. */
+static unsigned lossy_stops(bool abandons) {
+    zelamiku_status why = abandons ? ZELAMIKU_ABANDONED : ZELAMIKU_CLOSED;
+    unsigned lost = 0;
+    for (unsigned at = 1;; at++) {
+        pthread_t thread;
+        zelamiku_stats stats = {.awaiting = 0};
+        empty();
+        plant(NO_FAULT, 0);
+        begin();
+        zelamiku_thread holder = begin_thread(), own = begin_thread();
+        sleeper waiting = {.own = begin_thread()};
+        OK(zelamiku_thread_enter(holder, 1));
+        OK(zelamiku_thread_enter(holder, 0));
+        OK(zelamiku_thread_exit(holder, 0));
+        (void)load(waiting.own, 0);
+        MUST(pthread_create(&thread, NULL, await_asleep, &waiting) == 0);
+        while (stats.awaiting == 0) OK(zelamiku_heap_stats(heap, &stats));
+        OK(zelamiku_thread_enter(own, 2));
+        OK(zelamiku_thread_store(own, 3, 8));
+        OK(zelamiku_thread_exit(own, 2));
+        plant(REFUSED, at);
+        refuses_more = true;
+        zelamiku_status status = abandons ? zelamiku_heap_abandon(heap) : zelamiku_heap_stop(heap);
+        bool is_done = calls < at;
+        is_over = true;
+        MUST(status == (is_done ? ZELAMIKU_OK : ZELAMIKU_LOST) && (is_done || (zelamiku_heap_error() == ENOSPC && says("is lost: No space left"))));
+        MUST(pthread_join(thread, NULL) == 0 && waiting.status == why && zelamiku_thread_await(holder) == why);
+        fault_at = 0;
+        begin();
+        own = begin_thread();
+        uint64_t found = load(own, 3);
+        close_heap();
+        MUST(found == 8 || (found == 4 && !is_done));
+        lost += found == 4;
+        if (is_done) return lost;
+    }
+}
+
 /* A call of the round hangs, and the heap is stopped meanwhile: who sleeps for a monitor is answered at once, who waits for the round and the
  * stop itself once the call has returned. What the round has made durable is. */
 static bool hangs(unsigned at) {
@@ -497,7 +537,7 @@ static bool hangs(unsigned at) {
 }
 
 int main(int argc, char **argv) {
-    unsigned opened = 0, made = 0, rounded = 0, stopped = 0;
+    unsigned opened = 0, made = 0, rounded = 0, lost = 0, stopped = 0;
     bool is_short = argc == 3 && strcmp(argv[2], "threads") == 0;
     MUST(argc == 2 || is_short);
     held = new_memory(SIZE);
@@ -508,10 +548,11 @@ int main(int argc, char **argv) {
         made += makings(what);
         rounded += rounds(what);
     }
+    lost += lossy_stops(false) + lossy_stops(true);
     while (hangs(stopped + 1)) stopped++;
-    MUST(stopped > 0 && (is_short || (opened > 0 && made > 0 && rounded > 0)));
-    printf("device: a fault at each call of an opening %u, of a making %u, of a round %u; a stop while each call of a round hangs %u\n", opened, made,
-           rounded, stopped);
+    MUST(stopped > 0 && lost > 0 && (is_short || (opened > 0 && made > 0 && rounded > 0)));
+    printf("device: a fault at each call of an opening %u, of a making %u, of a round %u, of a stop %u; a stop while each call of a round hangs %u\n",
+           opened, made, rounded, lost, stopped);
     free_memory(&held);
     return 0;
 }

@@ -756,7 +756,7 @@ static void failing_syncs(void) {
     unsigned before = __atomic_load_n(&syncs, __ATOMIC_SEQ_CST);
     MUST(pthread_join(waiter, &answer) == 0 && (uintptr_t)answer == ZELAMIKU_LOST);
     MUST(zelamiku_thread_enter(own, TOTAL) == ZELAMIKU_LOST && zelamiku_heap_error() == EIO);
-    MUST(strstr(zelamiku_heap_message(), "Input/output error; close the heap, mount the file system") != NULL);
+    MUST(strstr(zelamiku_heap_message(), "Input/output error; close the heap and open it again; if that fails with EIO, mount the file system") != NULL);
     MUST(zelamiku_thread_begin(&other, all) == ZELAMIKU_LOST && zelamiku_heap_error() == EIO);
     MUST(zelamiku_heap_close(all) == ZELAMIKU_LOST && zelamiku_heap_error() == EIO);
     MUST(__atomic_load_n(&syncs, __ATOMIC_SEQ_CST) == before && logged[ZELAMIKU_LOG_ERROR] == 1);
