@@ -1,17 +1,15 @@
 /* counters_server: durable counters for clients that speak Redis' protocol (RESP2), by one thread, one event loop and one lane of a heap.
  *
- *     counters_server HEAP KEYS PORT|PATH [CLIENTS [SECONDS]]
+ *     counters_server HEAP KEYS PORT|PATH [CLIENTS]
  *
- * HEAP is the heap's file, which is made or recovered. KEYS is a file with a key's name on each line, in any order. The server listens on a
- * port of 127.0.0.1, or on a Unix socket. It serves so many CLIENTS at once (1,000). It cuts off one that has answers to read and hasn't
- * read any for so many SECONDS (30). SIGTERM and SIGINT stop it.
+ * HEAP is the heap's file, which is made or recovered. KEYS is a file with a counter's name on each line. The server listens on a port of
+ * 127.0.0.1 or on a Unix socket, and serves at most CLIENTS (1,000) at once. SIGTERM and SIGINT stop it.
  *
- * A command, or a transaction from MULTI to EXEC, is one section. Its answer leaves once no crash can take it back:
- *   - A client's turn runs the commands that have come by one read. Their answers wait for the last of their sections (`waits`).
+ * A command is one section. Its answer is sent once no crash can undo the section:
+ *   - A client's turn reads once and runs the commands that have come. Their answers wait for the last of their sections (`waits`).
  *   - After all turns the loop asks once for all sections (zelamiku_thread_ask), and sleeps in epoll for clients and the lane's event.
- *   - Answers up to the durable section are sent. A client's next turn comes after its answers are sent: so they keep their order, and a
- *     client that doesn't read is held back.
- * resp.c has the protocol, and commands.c has the commands. README.md says what differs from Redis. */
+ *   - Answers of durable sections are sent. A client's next turn comes after that, so answers keep their order, and a client that doesn't
+ *     read is held back. */
 #define _GNU_SOURCE
 #include <arpa/inet.h>
 #include <assert.h>
@@ -27,30 +25,24 @@
 #include <strings.h>
 #include <sys/epoll.h>
 #include <sys/queue.h>
-#include <sys/resource.h>
 #include <sys/signalfd.h>
 #include <sys/socket.h>
 #include <sys/stat.h>
 #include <sys/un.h>
+#include <time.h>
 #include <unistd.h>
 #include "zelamiku.h"
 
 enum {
-    MONITORS = ZELAMIKU_MOST_HELD,                      /* a section may hold all of them */
-    MOST_KEYS = ZELAMIKU_MOST_FIELDS - 1,               /* the heap has a field more, for the fingerprint of their names */
-    MOST_NAME = 128,                                    /* bytes of a name, or of a word that an error shows */
-    MOST_STORES = ZELAMIKU_MOST_RECORDS - 2 * MONITORS, /* of a section */
-    MOST_QUEUED = 1000,                                 /* commands of a transaction */
-    MOST_WORDS = 2048,                                  /* of a command */
-    MOST_BYTES = 1 << 16,                               /* of a command, of a transaction, and of answers before the next command waits */
-    MOST_READ = 1 << 14,                                /* bytes of one client in one turn */
-    RESERVED = 32                                       /* descriptors that aren't clients' */
+    MONITORS = ZELAMIKU_MOST_HELD,        /* a section may hold all of them */
+    MOST_KEYS = ZELAMIKU_MOST_FIELDS - 1, /* the heap has one field more, for the fingerprint */
+    MOST_NAME = 128,                      /* bytes of a name */
+    MOST_WORDS = 512,                     /* of a command */
+    MOST_BYTES = 1 << 14,                 /* of a command, and of answers that wait */
+    MOST_ANSWER = 512,                    /* bytes of one answer */
+    PATIENCE = 30                         /* seconds, until a client that doesn't read is cut off */
 };
 
-typedef struct {
-    char *at;
-    size_t used, room;
-} bytes;
 typedef struct {
     const char *at;
     size_t size;
@@ -61,37 +53,27 @@ struct client {
     TAILQ_ENTRY(client) link;
     clients *list; /* that it is in */
     int file;
-    bool may_read, is_hung; /* by its events: it has sent something, or its end */
-    bool is_ended;          /* it sends nothing more */
-    bool is_closing;        /* none of its commands is run any more */
-    bool has_more;          /* the last turn has left commands that may be whole */
-    bytes in, out;
-    size_t sent;            /* of `out` */
-    uint64_t waits;         /* the section that has to be durable before `out` is sent */
-    uint64_t since;         /* when something was sent last, or could be for the first time */
-    bool in_multi, is_aborted;
-    bytes queue;            /* the transaction's commands, as they came */
-    int queued, stores;     /* how many these are, and how often they store at most */
+    bool may_read, is_hung;          /* by its events: it has sent something, or its end */
+    bool is_ended, is_closing;       /* it sends nothing more; none of its commands is run any more */
+    bool has_more;                   /* `in` may begin with a whole command */
+    size_t in_used, out_used, sent;  /* `sent` bytes of `out` */
+    uint64_t waits;                  /* the section that has to be durable before `out` is sent */
+    time_t since;                    /* when something was sent last, or could be for the first time */
+    char in[MOST_BYTES], out[MOST_BYTES];
 };
 
-static word names[MOST_KEYS];       /* of keys, sorted: key and field k is the one at k, guarded by monitor k % MONITORS */
-static uint64_t stored[MOST_KEYS];  /* the section that stored it last */
-static uint32_t key_count;
+static word names[MOST_KEYS];      /* sorted: key k is field k, guarded by monitor k % MONITORS */
+static uint64_t stored[MOST_KEYS]; /* the section that stored it last */
+static uint32_t key_count, client_count, most_clients = 1000;
 static zelamiku_heap heap;
 static zelamiku_thread own;
-static uint64_t durable;            /* sections of the lane that are, by the last ask */
-static bool is_behind;              /* the lane has no room for a section, until its event */
-static bool is_short;               /* of memory, for the client whose turn it is */
-static bool is_deaf, is_stopping;
-static uint64_t now;                /* nanoseconds, when the turn began */
-static uint64_t patience;           /* the same, until a client that doesn't read is cut off */
-static uint32_t client_count, most_clients = 1000;
-static uint64_t commands_run, times_behind, turns;
-static int poll_file, listener, event, signals; /* the last three are known by their addresses there */
+static uint64_t durable; /* how many sections of the lane are, by the last ask */
+static bool is_behind;   /* the lane has no room for a section, until its event */
+static bool is_stopping;
+static int poll_file, listener, event, signals; /* epoll knows the last three by their addresses */
 static clients idle = TAILQ_HEAD_INITIALIZER(idle), work = TAILQ_HEAD_INITIALIZER(work), waiting = TAILQ_HEAD_INITIALIZER(waiting);
-static word words[MOST_WORDS];      /* of the command that is run */
-static uint32_t keys[MOST_WORDS];   /* those of them that are keys */
-static int word_count;
+static word words[MOST_WORDS]; /* of the command that is run */
+static size_t word_count;
 
 __attribute__((noreturn, format(printf, 1, 2))) static void die(const char *format, ...) {
     va_list more;
@@ -103,13 +85,223 @@ __attribute__((noreturn, format(printf, 1, 2))) static void die(const char *form
     exit(2);
 }
 
-/* After a sync that failed, too: nothing is confirmed any more, and the end of the process cuts all clients off. */
+/* Also after a failed sync: nothing is confirmed any more, and the end of the process cuts all clients off. */
 static void must(zelamiku_status status) {
     if (status != ZELAMIKU_OK) die("%s", zelamiku_heap_message());
 }
 
-#include "resp.c"
-#include "commands.c"
+static time_t seconds_now(void) {
+    struct timespec at;
+    clock_gettime(CLOCK_MONOTONIC, &at);
+    return at.tv_sec;
+}
+
+/* ---- keys ---- */
+
+static int compare(const void *one, const void *other) {
+    const word *a = one, *b = other;
+    int order = memcmp(a->at, b->at, a->size < b->size ? a->size : b->size);
+    return order != 0 ? order : (a->size > b->size) - (a->size < b->size);
+}
+
+static bool is_key(word name, uint32_t *key) {
+    const word *found = bsearch(&name, names, key_count, sizeof *names, compare);
+    if (found != NULL) *key = (uint32_t)(found - names);
+    return found != NULL;
+}
+
+/* The 64 bits of FNV-1a over the names, with a byte ff between two. */
+static uint64_t fingerprint(void) {
+    uint64_t sum = 0xcbf29ce484222325;
+    for (uint32_t k = 0; k < key_count; k++) {
+        if (k > 0) sum = (sum ^ 0xff) * 0x100000001b3;
+        for (size_t i = 0; i < names[k].size; i++) sum = (sum ^ (unsigned char)names[k].at[i]) * 0x100000001b3;
+    }
+    return sum != 0 ? sum : 1;
+}
+
+static void read_keys(const char *path) {
+    FILE *file = fopen(path, "r");
+    char *line = NULL;
+    size_t room = 0;
+    if (file == NULL) die("%s: %s", path, strerror(errno));
+    for (ssize_t size; (size = getline(&line, &room, file)) > 0; line = NULL, room = 0) {
+        if (line[size - 1] == '\n') line[--size] = 0;
+        if (key_count == MOST_KEYS) die("%s: more than %d keys", path, MOST_KEYS);
+        if (size == 0 || size > MOST_NAME) die("%s: line %" PRIu32 ": a name has 1 to %d bytes", path, key_count + 1, MOST_NAME);
+        names[key_count++] = (word){line, (size_t)size};
+    }
+    if (ferror(file) || key_count == 0) die("%s: %s", path, ferror(file) ? strerror(errno) : "no key");
+    free(line);
+    fclose(file);
+    qsort(names, key_count, sizeof *names, compare);
+    for (uint32_t k = 1; k < key_count; k++)
+        if (compare(&names[k - 1], &names[k]) == 0) die("%s: a name stands there twice: %s", path, names[k].at);
+}
+
+/* ---- the protocol ---- */
+
+__attribute__((format(printf, 2, 3))) static void say(client *c, const char *format, ...) {
+    va_list more;
+    va_start(more, format);
+    int size = vsnprintf(c->out + c->out_used, MOST_ANSWER, format, more);
+    va_end(more);
+    assert(size >= 0 && size < MOST_ANSWER && c->out_used + MOST_ANSWER <= MOST_BYTES);
+    c->out_used += (size_t)size;
+}
+
+static bool refuse(client *c, const char *why) {
+    say(c, "-ERR %s\r\n", why);
+    return false;
+}
+
+/* A number as Redis takes it: no sign but -, no zero before it, nothing beside it. */
+static bool number_of(word of, int64_t *value) {
+    char text[24], again[24], *end;
+    if (of.size == 0 || of.size >= sizeof text) return false;
+    memcpy(text, of.at, of.size);
+    text[of.size] = 0;
+    errno = 0;
+    *value = strtoll(text, &end, 10);
+    snprintf(again, sizeof again, "%" PRId64, *value);
+    return errno == 0 && end == text + of.size && strcmp(text, again) == 0;
+}
+
+/* Reads the line at `*done`: this sign, and a number up to `most`. 0: the line isn't whole; -1: it is something else. */
+static int read_length(const client *c, size_t *done, char sign, int64_t most, size_t *length) {
+    const char *from = c->in + *done, *end = memchr(from, '\n', c->in_used - *done);
+    int64_t number;
+    if (end == NULL) return 0;
+    if (from[0] != sign || end[-1] != '\r' || end - from < 2) return -1;
+    if (!number_of((word){from + 1, (size_t)(end - from) - 2}, &number) || number < 0 || number > most) return -1;
+    *length = (size_t)number;
+    *done = (size_t)(end - c->in) + 1;
+    return 1;
+}
+
+/* Splits the first command into `words`, and returns its bytes. 0: it isn't whole; -1: it is no command, or is too long. */
+static ssize_t split(const client *c) {
+    size_t done = 0, count, length;
+    word_count = 0;
+    int found = read_length(c, &done, '*', MOST_WORDS, &count);
+    while (found > 0 && word_count < count) {
+        found = read_length(c, &done, '$', MOST_BYTES, &length);
+        if (found > 0 && c->in_used - done < length + 2) found = 0;
+        if (found > 0) words[word_count++] = (word){c->in + done, length};
+        if (found > 0) done += length + 2;
+    }
+    if (found == 0 && c->in_used == MOST_BYTES) return -1;
+    return found > 0 && count > 0 ? (ssize_t)done : found > 0 ? -1 : found;
+}
+
+/* ---- commands: each runs in a section that holds the monitors of its keys ---- */
+
+static int64_t load(client *c, uint32_t key) {
+    uint64_t bits;
+    must(zelamiku_thread_load(own, key, &bits));
+    if (c->waits < stored[key]) c->waits = stored[key]; /* what is answered has to be durable too */
+    return (int64_t)bits;
+}
+
+static void store(client *c, uint32_t key, int64_t value) {
+    must(zelamiku_thread_store(own, key, (uint64_t)value));
+    c->waits = stored[key] = zelamiku_thread_sections(own) + 1; /* the one that is open */
+    assert(c->waits > durable);
+}
+
+static void run_get(client *c, const uint32_t *keys) {
+    char text[24];
+    int size = snprintf(text, sizeof text, "%" PRId64, load(c, keys[0]));
+    say(c, "$%d\r\n%s\r\n", size, text);
+}
+
+static void add(client *c, uint32_t key, int64_t by) {
+    int64_t value = load(c, key);
+    if (__builtin_add_overflow(value, by, &value)) {
+        (void)refuse(c, "increment or decrement would overflow");
+    } else {
+        store(c, key, value);
+        say(c, ":%" PRId64 "\r\n", value);
+    }
+}
+
+static void run_incr(client *c, const uint32_t *keys) { add(c, keys[0], 1); }
+
+static void run_incrby(client *c, const uint32_t *keys) {
+    int64_t by;
+    if (number_of(words[2], &by)) add(c, keys[0], by);
+    else (void)refuse(c, "value is not an integer or out of range");
+}
+
+/* SET and MSET: all or none. */
+static void run_set(client *c, const uint32_t *keys) {
+    int64_t value;
+    for (size_t i = 2; i < word_count; i += 2)
+        if (!number_of(words[i], &value)) return (void)refuse(c, "value is not an integer or out of range");
+    for (size_t i = 2; i < word_count; i += 2) {
+        (void)number_of(words[i], &value);
+        store(c, keys[i / 2 - 1], value);
+    }
+    say(c, "+OK\r\n");
+}
+
+static void run_ping(client *c, const uint32_t *keys) {
+    (void)keys;
+    say(c, "+PONG\r\n");
+}
+
+typedef struct {
+    const char *name;
+    size_t least, most; /* words, with its name */
+    size_t step;        /* from key to key among the words, which begin with the second; 0: it has none */
+    void (*run)(client *c, const uint32_t *keys);
+} command;
+
+static const command COMMANDS[] = {{"ping", 1, 1, 0, run_ping},   {"get", 2, 2, 1, run_get}, {"incr", 2, 2, 1, run_incr},
+                                   {"incrby", 3, 3, 2, run_incrby}, {"set", 3, 3, 2, run_set}, {"mset", 3, MOST_WORDS, 2, run_set}};
+
+static const command *find_command(void) {
+    for (size_t i = 0; i < sizeof COMMANDS / sizeof *COMMANDS; i++)
+        if (words[0].size == strlen(COMMANDS[i].name) && strncasecmp(words[0].at, COMMANDS[i].name, words[0].size) == 0)
+            return &COMMANDS[i];
+    return NULL;
+}
+
+/* Finds the command and the keys of `words`, and the monitors of these. False: it can't be run, which is said. */
+static bool check(client *c, const command *of, uint32_t *keys, uint32_t *monitors) {
+    if (of == NULL) return refuse(c, "unknown command: this server has PING, GET, SET, INCR, INCRBY and MSET");
+    if (word_count < of->least || word_count > of->most || (of->step == 2 && word_count % 2 == 0))
+        return refuse(c, "wrong number of arguments");
+    for (size_t i = 1; of->step > 0 && i < word_count; i += of->step) {
+        uint32_t *key = &keys[(i - 1) / of->step];
+        if (!is_key(words[i], key)) return refuse(c, "no such key: this server's keys are declared");
+        *monitors |= (uint32_t)1 << *key % MONITORS;
+    }
+    return true;
+}
+
+/* Begins a section with these monitors, in the order of their numbers. False: the lane has no room, which its event will tell. */
+static bool enter(uint32_t monitors) {
+    for (uint32_t left = monitors; left != 0; left &= left - 1) {
+        uint32_t object = (uint32_t)__builtin_ctz(left);
+        /* The first one takes room for a whole section. */
+        zelamiku_status status = left == monitors ? zelamiku_thread_try_enter(own, object) : zelamiku_thread_enter(own, object);
+        if (status == ZELAMIKU_BEHIND) return is_behind = true, false;
+        must(status);
+    }
+    return true;
+}
+
+/* Runs the command of `words`. False: the lane has no room for its section, and nothing was done. */
+static bool run(client *c) {
+    uint32_t keys[MOST_WORDS], monitors = 0;
+    const command *of = find_command();
+    if (!check(c, of, keys, &monitors)) return true;
+    if (!enter(monitors)) return false;
+    of->run(c, keys);
+    for (uint32_t left = monitors; left != 0; left &= left - 1) must(zelamiku_thread_exit(own, (uint32_t)__builtin_ctz(left)));
+    return true;
+}
 
 /* ---- clients ---- */
 
@@ -122,111 +314,76 @@ static void place(client *c, clients *list) {
 static void drop(client *c) {
     place(c, NULL);
     close(c->file);
-    free(c->in.at);
-    free(c->out.at);
-    free(c->queue.at);
     free(c);
-    assert(client_count > 0);
     client_count--;
 }
 
-/* Reads once. False: the connection is gone. If less came than was asked for, that was all, and epoll tells of more; but not of an end that
- * it has told already. */
+/* Reads once. False: the connection is gone. If less came than was asked for, that was all, and epoll reports more; but not an end that it
+ * has reported already. */
 static bool read_some(client *c) {
-    if (!c->may_read || c->is_closing || c->in.used >= MOST_BYTES) return true;
-    if (!grow(&c->in, MOST_READ)) return false;
-    ssize_t size = recv(c->file, c->in.at + c->in.used, MOST_READ, MSG_DONTWAIT);
+    size_t room = MOST_BYTES - c->in_used;
+    if (!c->may_read || room == 0) return true;
+    ssize_t size = recv(c->file, c->in + c->in_used, room, MSG_DONTWAIT);
     if (size < 0 && errno != EAGAIN && errno != EINTR) return false;
     if (size == 0) c->is_ended = true;
-    if (size == 0 || (size < 0 && errno == EAGAIN) || (size > 0 && size < MOST_READ && !c->is_hung)) c->may_read = false;
-    c->in.used += size > 0 ? (size_t)size : 0;
+    if (size == 0 || (size < 0 && errno == EAGAIN) || (size > 0 && (size_t)size < room && !c->is_hung)) c->may_read = false;
+    c->in_used += size > 0 ? (size_t)size : 0;
+    c->has_more = true;
     return true;
 }
 
-/* Runs what is whole, until there is enough to be sent. */
+/* Runs the commands that are whole, while there is room for their answers. */
 static void run_commands(client *c) {
-    size_t done = 0;
-    c->has_more = true;
-    while (!c->is_closing && !is_short && c->out.used < MOST_BYTES) {
-        ssize_t size = split(&c->out, c->in.at + done, c->in.used - done);
-        if (size < 0) c->is_closing = true;
+    while (c->has_more && !c->is_closing && c->out_used + MOST_ANSWER <= MOST_BYTES) {
+        ssize_t size = split(c);
+        if (size < 0) c->is_closing = !refuse(c, "Protocol error, or a command that is too long here");
         if (size == 0) c->has_more = false;
-        if (size <= 0 || (word_count > 0 && !run(c, c->in.at + done, (size_t)size))) break;
-        done += (size_t)size;
-        commands_run++;
+        if (size <= 0 || !run(c)) break;
+        c->in_used -= (size_t)size;
+        memmove(c->in, c->in + size, c->in_used);
     }
-    consume(&c->in, done);
 }
 
 /* Sends the answers, which may leave. The client may be gone then. */
 static void flush(client *c) {
-    assert(c->out.used == 0 || c->waits <= durable);
-    while (c->sent < c->out.used) {
-        ssize_t size = send(c->file, c->out.at + c->sent, c->out.used - c->sent, MSG_NOSIGNAL | MSG_DONTWAIT);
+    assert(c->out_used == 0 || c->waits <= durable);
+    while (c->sent < c->out_used) {
+        ssize_t size = send(c->file, c->out + c->sent, c->out_used - c->sent, MSG_NOSIGNAL | MSG_DONTWAIT);
         if (size < 0 && errno == EINTR) continue;
-        if (size < 0 && errno == EAGAIN) {
-            place(c, &idle); /* until it reads, or has lost our patience */
-            return;
-        }
-        if (size < 0) {
-            drop(c);
-            return;
-        }
+        if (size < 0 && errno == EAGAIN) return place(c, &idle); /* until it reads, or has exhausted our patience */
+        if (size < 0) return drop(c);
         c->sent += (size_t)size;
-        c->since = now;
+        c->since = seconds_now();
     }
-    consume(&c->out, c->out.used);
-    c->sent = 0;
-    if (c->is_closing || (c->is_ended && !c->has_more)) drop(c);
-    else place(c, c->has_more || c->may_read ? &work : &idle);
+    c->out_used = c->sent = 0;
+    if (c->is_closing || (c->is_ended && !c->has_more)) return drop(c);
+    place(c, c->has_more || c->may_read ? &work : &idle);
 }
 
-/* A client's turn, with answers that may leave, or with none. */
+/* A client's turn. */
 static void serve(client *c) {
-    assert(c->list == &work && c->sent <= c->out.used);
-    is_short = false;
-    if (c->out.used == 0) {
-        bool is_there = c->has_more || read_some(c);
-        if (is_there) run_commands(c);
-        if (!is_there || is_short) {
-            drop(c);
-            return;
-        }
-        c->since = now;
-        if (c->out.used == 0 && is_behind) return; /* it is the first again, once there is room */
-        if (c->out.used > 0 && c->waits > durable) {
-            place(c, &waiting);
-            return;
-        }
+    assert(c->list == &work && c->sent <= c->out_used);
+    if (c->out_used == 0) {
+        if (!c->has_more && !read_some(c)) return drop(c);
+        run_commands(c);
+        c->since = seconds_now();
+        if (c->out_used == 0 && is_behind) return; /* it is the first again, once there is room */
+        if (c->out_used > 0 && c->waits > durable) return place(c, &waiting);
     }
     flush(c);
 }
 
-static void refuse(int file) {
-    static const char TEXT[] = "-ERR max number of clients reached\r\n";
-    (void)send(file, TEXT, sizeof TEXT - 1, MSG_NOSIGNAL | MSG_DONTWAIT);
-    close(file);
-}
-
-static void hear(bool is_hearing) {
-    struct epoll_event e = {is_hearing ? EPOLLIN : 0, {.ptr = &listener}};
-    if (epoll_ctl(poll_file, EPOLL_CTL_MOD, listener, &e) != 0) die("epoll_ctl: %s", strerror(errno));
-    is_deaf = !is_hearing;
-}
-
 static void accept_client(void) {
     int file = accept4(listener, NULL, NULL, SOCK_NONBLOCK | SOCK_CLOEXEC), one = 1;
-    if (file < 0) {
-        /* Where the system has no descriptor or no memory it would tell of this client without an end. */
-        if (errno != EAGAIN && errno != EINTR && errno != ECONNABORTED) hear(false);
-        return;
-    }
+    if (file < 0) return;
     (void)setsockopt(file, IPPROTO_TCP, TCP_NODELAY, &one, sizeof one);
     client *c = client_count < most_clients ? calloc(1, sizeof *c) : NULL;
     struct epoll_event e = {EPOLLIN | EPOLLOUT | EPOLLRDHUP | EPOLLET, {.ptr = c}};
     if (c == NULL || epoll_ctl(poll_file, EPOLL_CTL_ADD, file, &e) != 0) {
+        static const char TEXT[] = "-ERR max number of clients reached\r\n";
+        (void)send(file, TEXT, sizeof TEXT - 1, MSG_NOSIGNAL | MSG_DONTWAIT);
+        close(file);
         free(c);
-        refuse(file);
         return;
     }
     c->file = file;
@@ -242,24 +399,23 @@ static void note(client *c, uint32_t events) {
 
 /* ---- the loop ---- */
 
-/* Every answer that may leave does. */
+/* Sends every answer that may leave. */
 static void release(void) {
     for (client *c = TAILQ_FIRST(&waiting), *next; c != NULL; c = next) {
         next = TAILQ_NEXT(c, link);
-        c->since = now;
+        c->since = seconds_now();
         if (c->waits <= durable) flush(c);
     }
 }
 
-/* Each second: clients that don't read are cut off. */
+/* Cuts off clients that don't read. */
 static void look_round(void) {
-    static uint64_t last;
-    if (now - last < 1000000000) return;
-    last = now;
-    if (is_deaf) hear(true);
+    static time_t last;
+    if (seconds_now() == last) return;
+    last = seconds_now();
     for (client *c = TAILQ_FIRST(&idle), *next; c != NULL; c = next) {
         next = TAILQ_NEXT(c, link);
-        if (c->out.used > 0 && now - c->since > patience) drop(c);
+        if (c->out_used > 0 && last - c->since > PATIENCE) drop(c);
     }
 }
 
@@ -272,21 +428,19 @@ static void ask(void) {
 
 static void turn(void) {
     struct epoll_event events[256];
-    bool is_told = false;
     int count = epoll_wait(poll_file, events, 256, TAILQ_EMPTY(&work) || is_behind ? 1000 : 0);
     if (count < 0 && errno != EINTR) die("epoll_wait: %s", strerror(errno));
-    turns++;
-    now = zelamiku_now();
+    bool is_rung = false;
     for (int i = 0; i < count; i++) {
         void *of = events[i].data.ptr;
-        if (of == &event) is_told = true;
+        if (of == &event) is_rung = true;
         else if (of == &listener) accept_client();
         else if (of == &signals) is_stopping = true;
         else note(of, events[i].events);
     }
-    /* It makes the event unreadable: after a try for room has failed that comes too late. */
-    if (is_told) ask();
-    if (is_told) is_behind = false;
+    /* An ask makes the event unreadable, so it comes before the next try for room. */
+    if (is_rung) ask();
+    if (is_rung) is_behind = false;
     client *last = TAILQ_LAST(&work, clients);
     for (bool is_last = last == NULL; !is_last && !is_behind;) {
         client *c = TAILQ_FIRST(&work);
@@ -305,7 +459,7 @@ static void watch(int *file) {
     if (epoll_ctl(poll_file, EPOLL_CTL_ADD, *file, &e) != 0) die("epoll_ctl: %s", strerror(errno));
 }
 
-/* A socket that a killed server has left is taken away. Nothing else is. */
+/* A socket that a killed server has left is removed. Nothing else is. */
 static void clear_path(const struct sockaddr_un *at) {
     struct stat found;
     int trial = socket(AF_UNIX, SOCK_STREAM | SOCK_CLOEXEC, 0);
@@ -322,12 +476,13 @@ static void listen_to(int family, const void *address, socklen_t size, const cha
     if (listener < 0 || bind(listener, address, size) != 0 || listen(listener, 511) != 0) die("%s: %s", name, strerror(errno));
 }
 
-static void open_port(uint16_t port, const char *name) {
-    struct sockaddr_in at = {.sin_family = AF_INET, .sin_port = htons(port), .sin_addr.s_addr = htonl(INADDR_LOOPBACK)};
-    listen_to(AF_INET, &at, sizeof at, name);
-}
-
-static void open_path(const char *name) {
+static void open_place(const char *name) {
+    int64_t port;
+    if (number_of((word){name, strlen(name)}, &port)) {
+        if (port < 1 || port > 65535) die("%s: no port", name);
+        struct sockaddr_in at = {.sin_family = AF_INET, .sin_port = htons((uint16_t)port), .sin_addr.s_addr = htonl(INADDR_LOOPBACK)};
+        return listen_to(AF_INET, &at, sizeof at, name);
+    }
     struct sockaddr_un at = {.sun_family = AF_UNIX};
     if (strlen(name) >= sizeof at.sun_path) die("%s: the path is too long for a socket", name);
     strcpy(at.sun_path, name);
@@ -347,14 +502,15 @@ static void open_heap(const char *path) {
     printf("%s: %s, %" PRIu32 " keys\n", path, report.is_made ? "made" : "opened", key_count);
 }
 
-/* Each client is a descriptor, and some are the server's. */
-static void allow_clients(void) {
-    struct rlimit limit;
-    rlim_t wanted = (rlim_t)most_clients + RESERVED;
-    if (getrlimit(RLIMIT_NOFILE, &limit) != 0) die("getrlimit: %s", strerror(errno));
-    if (limit.rlim_cur < wanted) limit.rlim_cur = wanted < limit.rlim_max ? wanted : limit.rlim_max;
-    if (limit.rlim_cur <= RESERVED || setrlimit(RLIMIT_NOFILE, &limit) != 0) die("the system allows too few descriptors");
-    if (limit.rlim_cur < wanted) most_clients = (uint32_t)limit.rlim_cur - RESERVED;
+/* SIGTERM and SIGINT become readable in the loop. They are blocked before the library's thread is there, which would get them. */
+static void take_signals(void) {
+    sigset_t stops;
+    sigemptyset(&stops);
+    sigaddset(&stops, SIGTERM);
+    sigaddset(&stops, SIGINT);
+    (void)sigprocmask(SIG_BLOCK, &stops, NULL);
+    signals = signalfd(-1, &stops, SFD_CLOEXEC | SFD_NONBLOCK);
+    if (signals < 0) die("signalfd: %s", strerror(errno));
 }
 
 /* What has ended becomes durable, and its answers leave. */
@@ -368,42 +524,15 @@ static void stop(void) {
     must(zelamiku_heap_close(heap));
 }
 
-/* Takes the words of the command line, and answers the port, or 0. */
-static uint16_t read_words(int argc, char **argv) {
-    int64_t number[] = {0, most_clients, 30}; /* port, clients, seconds */
-    bool is_right = argc >= 4 && argc <= 6;
-    bool is_port = is_right && number_of((word){argv[3], strlen(argv[3])}, &number[0]);
-    for (int i = 4; is_right && i < argc; i++)
-        is_right = number_of((word){argv[i], strlen(argv[i])}, &number[i - 3]) && number[i - 3] >= 1 && number[i - 3] <= 1000000;
-    if (!is_right || (is_port && (number[0] < 1 || number[0] > 65535))) die("give HEAP KEYS PORT|PATH [CLIENTS [SECONDS]]");
-    most_clients = (uint32_t)number[1];
-    patience = (uint64_t)number[2] * 1000000000;
-    return (uint16_t)number[0];
-}
-
-/* SIGTERM and SIGINT become a descriptor: before the library's thread is there, which would get them. */
-static void take_signals(void) {
-    sigset_t stops;
-    sigemptyset(&stops);
-    sigaddset(&stops, SIGTERM);
-    sigaddset(&stops, SIGINT);
-    (void)sigprocmask(SIG_BLOCK, &stops, NULL);
-    (void)signal(SIGPIPE, SIG_IGN);
-    signals = signalfd(-1, &stops, SFD_CLOEXEC | SFD_NONBLOCK);
-    if (signals < 0) die("signalfd: %s", strerror(errno));
-}
-
 int main(int argc, char **argv) {
-    int file;
-    while ((file = open("/dev/null", O_RDWR)) >= 0 && file <= 2) {} /* what is opened later is no standard stream */
-    (void)close(file);
-    uint16_t port = read_words(argc, argv);
+    int64_t most = most_clients;
+    if (argc < 4 || argc > 5 || (argc == 5 && (!number_of((word){argv[4], strlen(argv[4])}, &most) || most < 1 || most > 100000)))
+        die("give HEAP KEYS PORT|PATH [CLIENTS]");
+    most_clients = (uint32_t)most;
     take_signals();
-    allow_clients();
     read_keys(argv[2]);
     open_heap(argv[1]);
-    if (port != 0) open_port(port, argv[3]);
-    else open_path(argv[3]);
+    open_place(argv[3]);
     poll_file = epoll_create1(EPOLL_CLOEXEC);
     if (poll_file < 0) die("epoll: %s", strerror(errno));
     watch(&listener);
@@ -413,7 +542,6 @@ int main(int argc, char **argv) {
     (void)fflush(stdout);
     while (!is_stopping) turn();
     stop();
-    if (port == 0) (void)unlink(argv[3]);
     printf("stopped\n");
     return 0;
 }
