@@ -364,13 +364,13 @@ static bool goes_on_while_a_round_takes(void) {
 }
 
 /* A thread without room looks again while a round takes records, also before it has taken the first. A busy machine may keep it from that,
- * so that it tries ten times, and says where none has shown it: how quick a machine is, is no mistake. */
+ * so that it tries ten times, and says where none has shown it. A slow machine is no mistake. */
 static void room_while_a_round_takes(void) {
     bool has_gone_on = false;
     round_waits = 1000;
     sync_time = 20000;
     for (unsigned tries = 0; tries < 10 && !has_gone_on; tries++) has_gone_on = goes_on_while_a_round_takes();
-    if (!has_gone_on) printf("room: NOT SEEN on this machine: that a thread without room goes on while a round takes records\n");
+    if (!has_gone_on) printf("LEFT OUT: not seen on this machine: a thread without room that goes on while a round takes records\n");
 }
 
 /* One that has looked in vain, and sleeps, goes on once the round has taken them. */
