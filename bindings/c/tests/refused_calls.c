@@ -1,8 +1,8 @@
 /* Each call of the system that zelamiku_threads.c makes is refused in turn: memory, files, locks, links, threads, events. A life of a heap is lived
- * once for each. The call that meets the refusal says so, or goes on without what was refused. Nothing that was told durable is lost, no file is
+ * once for each. One call reports the refusal, with its cause, or all go on without what was refused. Nothing that was told durable is lost, no file is
  * left beside, and the next life has all again.
  *
- *     refused_calls FOLDER      prints how many calls were refused_one, and answers 0, where all is as it must be */
+ *     refused_calls FOLDER      prints how many calls were refused, and answers 0, where all is as it must be */
 #define _GNU_SOURCE
 #include <errno.h>
 #include <fcntl.h>
@@ -158,15 +158,22 @@ static bool is_missing(const char *path) {
     return lstat(path, &info) != 0 && errno == ENOENT;
 }
 
-static bool may_be_refused(zelamiku_status status) {
-    /* BUSY: it can't be told whether the path leads to the file still. */
-    return status == ZELAMIKU_DEVICE || status == ZELAMIKU_NO_MEMORY || status == ZELAMIKU_LOST || status == ZELAMIKU_BUSY;
+static zelamiku_status told; /* what the first call of this life that failed returned */
+
+/* Whether the status and its cause are those of the call that was refused. BUSY: it isn't known whether the path leads to the file still. */
+static bool is_of_refusal(zelamiku_status status) {
+    if (status == ZELAMIKU_BUSY || (status == ZELAMIKU_NO_MEMORY && with == ENOMEM)) return true;
+    return (status == ZELAMIKU_NO_MEMORY || status == ZELAMIKU_DEVICE || status == ZELAMIKU_LOST) && zelamiku_heap_error() == with;
 }
 
-/* OK, or refused because of what was. */
+/* OK, or the one call that reports what was refused, and why. Later calls fail only where the heap is lost. */
 static bool passes(zelamiku_status status) {
-    MUST(status == ZELAMIKU_OK || (refused_one > 0 && turn >= refused_one && may_be_refused(status) && zelamiku_heap_message()[0] != 0));
-    return status == ZELAMIKU_OK;
+    if (status == ZELAMIKU_OK) return true;
+    MUST(with != 0 && zelamiku_heap_message()[0] != 0);
+    if (told == ZELAMIKU_OK) MUST(is_of_refusal(status));
+    else MUST(told == ZELAMIKU_LOST && status == ZELAMIKU_LOST);
+    told = status;
+    return false;
 }
 
 static void begin_life(beginning how) {
@@ -189,9 +196,9 @@ static void add_one(zelamiku_thread own) {
     tried++;
     (void)passes(zelamiku_thread_event(own, &event));
     if (passes(zelamiku_thread_ask(own, &durable)) && durable > 0) kept = tried;
-    zelamiku_status status = zelamiku_thread_await(own);
-    if (status == ZELAMIKU_DEVICE) status = zelamiku_thread_await(own); /* the write is made again */
-    if (passes(status)) kept = tried;
+    bool is_kept = passes(zelamiku_thread_await(own));
+    if (!is_kept && told == ZELAMIKU_DEVICE) is_kept = passes(zelamiku_thread_await(own)); /* the write is made again */
+    if (is_kept) kept = tried;
 }
 
 static void live(beginning how) {
@@ -207,10 +214,8 @@ static void live(beginning how) {
     if (passes(zelamiku_thread_begin(&own, heap))) add_one(own);
     (void)passes(zelamiku_heap_copy(heap, "copy"));
     zelamiku_status status = zelamiku_thread_end(own);
-    MUST(status == ZELAMIKU_OK || status == ZELAMIKU_LOST);
-    status = zelamiku_heap_close(heap);
-    if (status == ZELAMIKU_DEVICE) status = zelamiku_heap_close(heap);
-    (void)passes(status);
+    MUST(status == ZELAMIKU_OK || (status == ZELAMIKU_LOST && !passes(status)));
+    if (!passes(zelamiku_heap_close(heap)) && told == ZELAMIKU_DEVICE) MUST(zelamiku_heap_close(heap) == ZELAMIKU_OK);
 }
 
 /* Nothing is refused any more: the heap is there, or can be made, and has what was durable; so has a copy that was told as written. */
@@ -334,6 +339,7 @@ int main(int argc, char **argv) {
             begin_life(how);
             turn = 0;
             with = 0;
+            told = ZELAMIKU_OK;
             refused_one = ++one;
             live(how);
             bool was_refused = with != 0;
