@@ -19,15 +19,17 @@
 #define OK(call) MUST((call) == ZELAMIKU_OK)
 
 /* What a fault does to a call. TORN: half of a write's bytes are there, and the answer is DEVICE. LATE: a write is whole, or a sync done, and the
- * answer is DEVICE. STRANGE: it answers what no function may. */
-enum { NO_FAULT, REFUSED, TORN, LATE, GONE, STRANGE, HANGS, FAULTS = HANGS };
-static const char *const NAMES[] = {"no fault", "refused", "torn", "late", "gone", "strange", "hangs"};
+ * answer is DEVICE. STRANGE: it answers what no function may. SILENT: as REFUSED, and errno stays what it was. */
+enum { NO_FAULT, REFUSED, TORN, LATE, GONE, STRANGE, SILENT, HANGS, FAULTS = HANGS };
+static const char *const NAMES[] = {"no fault", "refused", "torn", "late", "gone", "strange", "silent", "hangs"};
 
 static memory held;
 static _Atomic unsigned fault, fault_at; /* which call meets it, from 1 on; 0: none */
 static _Atomic unsigned calls;
 static pthread_mutex_t bytes_lock = PTHREAD_MUTEX_INITIALIZER; /* of what the device holds */
 static _Atomic unsigned in_call, hung;
+static _Atomic unsigned takes;          /* how many microseconds a sync takes */
+enum { PATIENT = 240000 };              /* looks a millisecond apart, after which something hangs */
 static _Atomic bool refuses_more;       /* each call after the fault is refused: else who makes it again would do so at any moment */
 static _Atomic bool is_let_go, is_over; /* no call may come */
 static const char *kind_of_fault;       /* of the call that has met it */
@@ -50,7 +52,7 @@ static zelamiku_status begin_call(const char *kind, unsigned *met) {
     *met = fault_of_call();
     if (*met == NO_FAULT) return ZELAMIKU_OK;
     kind_of_fault = kind;
-    errno = ENOSPC;
+    if (*met != SILENT) errno = ENOSPC;
     if (*met == HANGS) {
         hung++;
         while (!is_let_go) usleep(1000);
@@ -62,7 +64,6 @@ static zelamiku_status begin_call(const char *kind, unsigned *met) {
 
 static zelamiku_status end_call(zelamiku_status status) {
     in_call--;
-    if (status != ZELAMIKU_OK) errno = ENOSPC;
     return status;
 }
 
@@ -89,6 +90,7 @@ static zelamiku_status flaky_write(void *of, uint64_t at, const void *bytes, siz
 static zelamiku_status flaky_sync(void *of) {
     unsigned met;
     zelamiku_status status = begin_call("sync", &met);
+    usleep(takes);
     pthread_mutex_lock(&bytes_lock);
     if (met == NO_FAULT || met == LATE) (void)memory_sync(of);
     pthread_mutex_unlock(&bytes_lock);
@@ -109,8 +111,14 @@ static void empty(void) {
     memset(held.durable, 0, SIZE);
 }
 
+/* The cause that is reported. Where a function leaves errno as it was, no errno of before is its cause. */
+static int cause(void) {
+    return fault == SILENT ? EIO : ENOSPC;
+}
+
 /* From now on: the fault at the call from here. */
 static void plant(unsigned what, unsigned at) {
+    errno = ENOENT;
     fault = what;
     fault_at = at;
     calls = 0;
@@ -307,7 +315,7 @@ static unsigned openings(unsigned what) {
             close_heap();
         } else {
             /* Also where the device has answered LOST, or nothing that it may: no heap is open that could be lost (zelamiku.h). */
-            MUST(status == ZELAMIKU_DEVICE && heap.number == 0 && zelamiku_heap_error() == ENOSPC && says("No space left on device"));
+            MUST(status == ZELAMIKU_DEVICE && heap.number == 0 && zelamiku_heap_error() == cause() && says(strerror(cause())));
             is_over = true;
             if (strcmp(kind_of_fault, "read") == 0 || strcmp(kind_of_fault, "size") == 0) MUST(memcmp(before, held.now, SIZE) == 0);
         }
@@ -327,7 +335,7 @@ static unsigned makings(unsigned what) {
         zelamiku_status status = zelamiku_heap_open_on(&heap, "device", &DEVICE, &PLAN, NULL);
         bool is_done = calls < at;
         fault_at = 0;
-        if (!is_done) MUST(status == ZELAMIKU_DEVICE && heap.number == 0 && zelamiku_heap_error() == ENOSPC);
+        if (!is_done) MUST(status == ZELAMIKU_DEVICE && heap.number == 0 && zelamiku_heap_error() == cause());
         if (is_done) {
             OK(status);
             close_heap();
@@ -357,7 +365,7 @@ static void after_loss(zelamiku_thread own) {
 
 /* DEVICE is no end: the section is there still, and durable once the call was made again. */
 static void after_refusal(zelamiku_thread own) {
-    MUST(zelamiku_heap_error() == ENOSPC && says("No space left on device"));
+    MUST(zelamiku_heap_error() == cause() && says(strerror(cause())));
     uint64_t crashed = value_on(held.durable);
     MUST(crashed == 7 || (crashed == 8 && fault == LATE));
     MUST(load(own, 0) == 8);
@@ -401,6 +409,41 @@ static unsigned rounds(unsigned what) {
     }
 }
 
+/* ---- times ---- */
+
+/* The longest round stays the longest, times of calls add up, and a section that nobody waits for is durable after the plan's linger. */
+static void times(void) {
+    enum { SLOW = 30000, LINGER = 300000 }; /* microseconds */
+    zelamiku_plan plan = PLAN;
+    zelamiku_stats first, second;
+    plan.linger = LINGER;
+    empty();
+    plant(NO_FAULT, 0);
+    is_over = false;
+    OK(zelamiku_heap_open_on(&heap, "device", &DEVICE, &plan, NULL));
+    zelamiku_thread own = begin_thread();
+    takes = SLOW;
+    store(own, 1);
+    OK(zelamiku_thread_await(own));
+    OK(zelamiku_heap_stats(heap, &first));
+    takes = 0;
+    store(own, 2);
+    OK(zelamiku_thread_await(own));
+    OK(zelamiku_heap_stats(heap, &second));
+    MUST(first.longest_round >= SLOW * 1000 && second.longest_round >= first.longest_round);
+    MUST(first.calls_time >= SLOW * 1000 && second.calls_time > first.calls_time);
+    MUST(second.records > first.records && second.two_sync_rounds == first.two_sync_rounds + 1 && second.syncs == first.syncs + 2);
+    usleep(2 * LINGER); /* the helper has looked, and sleeps */
+    store(own, 3);
+    uint64_t begun = zelamiku_now();
+    for (unsigned tries = 0; zelamiku_thread_durable(own) < 3; tries++) {
+        MUST(tries < PATIENT);
+        usleep(1000);
+    }
+    MUST(zelamiku_now() - begun >= LINGER * 1000 / 2);
+    close_heap();
+}
+
 /* ---- a call that hangs ---- */
 
 typedef struct {
@@ -430,8 +473,6 @@ static void *stop_heap(void *data) {
     it->is_back = true;
     return NULL;
 }
-
-enum { PATIENT = 240000 }; /* looks a millisecond apart, after which something hangs */
 
 static void until(_Atomic bool *is_so) {
     for (unsigned tries = 0; !*is_so; tries++) {
@@ -543,6 +584,7 @@ int main(int argc, char **argv) {
     held = new_memory(SIZE);
     life(argv[1]);
     refusals();
+    times();
     for (unsigned what = REFUSED; what < FAULTS && !is_short; what++) {
         opened += openings(what);
         made += makings(what);

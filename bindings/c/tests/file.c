@@ -98,11 +98,14 @@ static int flaky_rename(const char *from, const char *to) {
     return rename(from, to);
 }
 
+static mode_t mode_made; /* that of the last file which was made, before any umask */
+
 static int flaky_open(const char *path, int flags, ...) {
     va_list more;
     va_start(more, flags);
     mode_t mode = (flags & O_CREAT) != 0 ? va_arg(more, mode_t) : 0;
     va_end(more);
+    if ((flags & O_CREAT) != 0) mode_made = mode;
     return is_interrupted() ? -1 : open(path, flags, mode);
 }
 
@@ -185,6 +188,44 @@ static mode_t mode_of(const char *path) {
     struct stat info;
     MUST(stat(path, &info) == 0);
     return info.st_mode & 0777;
+}
+
+/* How many descriptors there are. `inherited`: how many of them a program has too that this process executes. */
+static unsigned descriptors(unsigned *inherited) {
+    unsigned count = 0;
+    *inherited = 0;
+    for (int file = 0; file < 1024; file++) {
+        int flags = fcntl(file, F_GETFD);
+        count += flags >= 0;
+        *inherited += flags >= 0 && (flags & FD_CLOEXEC) == 0;
+    }
+    return count;
+}
+
+/* A new heap has the rights that the process' mask leaves. One in an empty file has that file's owner. A program that is executed has no descriptor
+ * of a heap, by which it would keep the heap's lock. */
+static void rights(void) {
+    zelamiku_heap heap;
+    zelamiku_thread own;
+    struct stat info;
+    int event;
+    unsigned inherited, before;
+    mode_t mask = umask(0026);
+    (void)descriptors(&before);
+    remove_file();
+    MUST(open_heap(&heap) == ZELAMIKU_OK && mode_of("heap") == 0640 && zelamiku_thread_begin(&own, heap) == ZELAMIKU_OK);
+    MUST(zelamiku_thread_event(own, &event) == ZELAMIKU_OK && event > 2);
+    (void)descriptors(&inherited);
+    MUST(inherited == before && zelamiku_thread_end(own) == ZELAMIKU_OK && zelamiku_heap_close(heap) == ZELAMIKU_OK);
+    (void)umask(mask);
+    remove_file();
+    make_file_of("heap", "", 0, 0600);
+    if (chown("heap", 1, 1) != 0) {
+        printf("LEFT OUT: a user that may give no file away: the owner of a heap in an empty file\n");
+        return;
+    }
+    MUST(open_heap(&heap) == ZELAMIKU_OK && zelamiku_heap_close(heap) == ZELAMIKU_OK);
+    MUST(stat("heap", &info) == 0 && info.st_uid == 1 && info.st_gid == 1 && unlink("heap") == 0);
 }
 
 static void life(void) {
@@ -698,6 +739,7 @@ static int copies(void) {
     zelamiku_heap heap, other;
     life();
     MUST(open_heap(&heap) == ZELAMIKU_OK && zelamiku_heap_copy(heap, "copy") == ZELAMIKU_OK && value_at("copy") == 8);
+    MUST(mode_made == 0600); /* nobody else reads a copy before it has the heap's own rights */
     MUST(chmod("heap", 0640) == 0 && zelamiku_heap_open(&other, "copy", &plan, NULL) == ZELAMIKU_OK && add(other, 1) == 9);
     MUST(zelamiku_heap_copy(heap, "copy") == ZELAMIKU_BUSY && zelamiku_heap_close(other) == ZELAMIKU_OK && value_at("copy") == 9);
     before_rename = open_copy;
@@ -781,7 +823,9 @@ static void closed_by_the_program(int at, bool is_reused) {
 }
 
 int main(int argc, char **argv) {
+    unsigned inherited, before = descriptors(&inherited);
     MUST(argc == 2 && chdir(argv[1]) == 0);
+    rights();
     life();
     old();
     others();
@@ -802,7 +846,7 @@ int main(int argc, char **argv) {
     remove_file();
     life();
     old();
-    MUST(copies() > copy_calls);
+    MUST(copies() > copy_calls && descriptors(&inherited) == before);
     printf("file: lives, an old image, other opens, large files, rings, the helper's lane, links, a file that goes, one that the program closes, a fault at each of %d calls of a making, %d of a round and %d of a copy, "
            "%d crashes of a making, %d of one in place, %d kills (%d before the heap was there), and calls that are short and interrupted\n",
            makings, calls, copy_calls, crashes, old_crashes, 2 * makings + TIMED_KILLS, killed);

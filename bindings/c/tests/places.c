@@ -65,12 +65,13 @@ static zelamiku_status ask(unsigned *seed, zelamiku_heap heap, zelamiku_thread t
     size_t told = 0;
     zelamiku_stats stats;
     zelamiku_wait waits[ZELAMIKU_MOST_LANES];
+    zelamiku_dropped dropped[SECTIONS];
     switch (rand_r(seed) % 8) {
     case 0: return zelamiku_heap_await_round(heap, UINT64_MAX, ZELAMIKU_NO_DEADLINE, &rounds); /* until its end */
     case 1: return zelamiku_heap_await_round(heap, 0, 1, &rounds);
     case 2: return zelamiku_heap_stats(heap, &stats);
     case 3: return zelamiku_heap_waits(heap, waits, ZELAMIKU_MOST_LANES, &told);
-    case 4: return zelamiku_heap_dropped(heap, 0, NULL, 0, &told);
+    case 4: return zelamiku_heap_dropped(heap, 0, dropped, SECTIONS, &told);
     case 5: return zelamiku_heap_copy(heap, "copy");
     case 6: return zelamiku_thread_await_until(thread, ZELAMIKU_ALL_SECTIONS, ZELAMIKU_NO_DEADLINE, &is);
     default:

@@ -669,9 +669,27 @@ static void shapes(void) {
     MUST(zelamiku_format(&handle, OBJECTS, fields, FIELDS, 3, 2000, 3, ZELAMIKU_MOST_RING + 1, &size) == ZELAMIKU_RING && !handle.is_open);
 }
 
-/* A full disk leaves no file, and as many heaps as there may be are open. */
+/* As many heaps as there may be are open, and then one too many. Each is asked what it dropped, and leaves its place when it is closed. */
+static void open_all(const zelamiku_plan *small) {
+    zelamiku_heap heaps[ZELAMIKU_MOST_HEAPS];
+    unsigned count = 0;
+    zelamiku_status status = ZELAMIKU_OK;
+    for (; count < ZELAMIKU_MOST_HEAPS; count++) {
+        char name[32];
+        size_t told = 1;
+        (void)snprintf(name, sizeof name, "many-%u", count);
+        status = zelamiku_heap_open(&heaps[count], name, small, NULL);
+        if (status != ZELAMIKU_OK) break;
+        MUST(zelamiku_heap_dropped(heaps[count], 0, NULL, 0, &told) == ZELAMIKU_OK && told == 0);
+    }
+    look_at(status, ZELAMIKU_NONE_LEFT, "255 heaps are open; close one", "one heap too many", __LINE__);
+    MUST(count == ZELAMIKU_MOST_HEAPS - 1);
+    for (unsigned i = 0; i < count; i++) MUST(zelamiku_heap_close(heaps[i]) == ZELAMIKU_OK);
+}
+
+/* A full disk leaves no file. */
 static void full(void) {
-    zelamiku_heap heap, heaps[ZELAMIKU_MOST_HEAPS];
+    zelamiku_heap heap;
     zelamiku_plan small = {.fields = fields, .count = 1, .objects = 1, .lanes = 1, .capacity = 2000};
     struct rlimit before, most;
     struct stat info;
@@ -684,15 +702,8 @@ static void full(void) {
     IS(zelamiku_heap_open(&heap, "full", &small, NULL), DEVICE, "File too large");
     MUST(stat("full", &info) == 0 && info.st_size == 0);
     MUST(setrlimit(RLIMIT_FSIZE, &before) == 0);
-    unsigned open_heaps = 0;
-    zelamiku_status status = ZELAMIKU_OK;
-    for (; status == ZELAMIKU_OK && open_heaps < ZELAMIKU_MOST_HEAPS; open_heaps++) {
-        char name[32];
-        (void)snprintf(name, sizeof name, "many-%u", open_heaps);
-        status = zelamiku_heap_open(&heaps[open_heaps], name, &small, NULL);
-    }
-    look_at(status, ZELAMIKU_NONE_LEFT, "255 heaps are open; close one", "one heap too many", __LINE__);
-    for (unsigned i = 0; i < open_heaps - 1; i++) MUST(zelamiku_heap_close(heaps[i]) == ZELAMIKU_OK);
+    open_all(&small);
+    open_all(&small);
 }
 
 int main(int argc, char **argv) {
