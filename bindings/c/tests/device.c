@@ -64,6 +64,7 @@ static zelamiku_status begin_call(const char *kind, unsigned *met) {
 
 static zelamiku_status end_call(zelamiku_status status) {
     in_call--;
+    if (status == ZELAMIKU_OK) errno = ENOENT; /* a function that succeeds may leave any errno */
     return status;
 }
 
@@ -118,7 +119,6 @@ static int cause(void) {
 
 /* From now on: the fault at the call from here. */
 static void plant(unsigned what, unsigned at) {
-    errno = ENOENT;
     fault = what;
     fault_at = at;
     calls = 0;

@@ -587,6 +587,7 @@ static bool prints_nowhere(void) {
     is_well &= zelamiku_heap_open(&heap, "streams", &plan, NULL) == ZELAMIKU_OK && zelamiku_thread_begin(&own, heap) == ZELAMIKU_OK;
     is_well &= zelamiku_thread_event(own, &event) == ZELAMIKU_OK && event > STDERR_FILENO;
     for (int stream = 0; stream <= STDERR_FILENO; stream++) is_well &= write(stream, "told", 4) == -1;
+    for (int file = 0; file < 256; file++) is_well &= fcntl(file, F_GETFD) < 0 || (fcntl(file, F_GETFD) & FD_CLOEXEC) != 0;
     is_well &= zelamiku_heap_copy(heap, "streams' copy") == ZELAMIKU_OK && zelamiku_thread_end(own) == ZELAMIKU_OK;
     return is_well && zelamiku_heap_close(heap) == ZELAMIKU_OK;
 }
