@@ -448,8 +448,9 @@ ZELAMIKU_MUST_USE zelamiku_status zelamiku_thread_store(zelamiku_thread thread, 
  *   - A wait with no other monitor held ends the section: what was stored before it stays. A revert after it takes back what was stored since.
  *   - Room is kept: for each persistent field that the section has stored to, one of its 1,000 records is left free, for the old value. So it
  *     stores to 499 fields under one monitor. A store, an enter or a wait that would need that room is SECTION_FULL; a revert never is.
- * WRONG_KIND: the plan hasn't set `reverts`. NOT_HELD: no section is open, or this one has freed a monitor under which it had stored. Nothing
- * was put back. At the heap's end it answers why: the section never ends, so that nothing of it is durable. */
+ * WRONG_KIND: the plan hasn't set `reverts`; but OK where the open section has stored nothing. NOT_HELD: no section is open, or this one has
+ * freed a monitor under which it had stored. Nothing was put back. At the heap's end it answers why: the section never ends, so that nothing
+ * of it is durable. */
 ZELAMIKU_MUST_USE zelamiku_status zelamiku_thread_revert(zelamiku_thread thread);
 
 /* Frees a monitor that is held, by all its locks, sleeps until another thread notifies this one, and takes it again by as many. It isn't

@@ -523,8 +523,12 @@ static void refusals(void) {
     for (int i = 0; i < 2; i++) {
         MUST(zelamiku_thread_revert(own) == ZELAMIKU_WRONG_KIND);
         MUST(says("revert.heap: revert: the heap's plan doesn't keep what a section changes; open it with reverts = 1"));
-        if (i == 0) OK(zelamiku_thread_enter(own, 0));
-        if (i == 0) OK(zelamiku_thread_store(own, 0, 77));
+        if (i > 0) break;
+        OK(zelamiku_thread_enter(own, 0));
+        OK(zelamiku_thread_revert(own)); /* nothing is stored yet */
+        OK(zelamiku_thread_store(own, 12, 77));
+        MUST(is_transient(12) && zelamiku_thread_revert(own) == ZELAMIKU_WRONG_KIND);
+        OK(zelamiku_thread_store(own, 0, 77));
     }
     OK(zelamiku_thread_exit(own, 0));
     MUST(seen(0) == 77);

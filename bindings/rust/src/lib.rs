@@ -5,7 +5,7 @@
 //! stands in [`service`] too, under the same names.
 //!
 //! ```
-//! use zelamiku::Heap;
+//! use zelamiku::{Heap, Session};
 //!
 //! # let folder = std::env::temp_dir().join(format!("zelamiku-front-{}", std::process::id()));
 //! # std::fs::create_dir_all(&folder)?;
@@ -13,21 +13,20 @@
 //! const ALICE: u32 = 0; // an object, which is a monitor, and a field of it: 64 bits that the monitor guards
 //! const BOB: u32 = 1;
 //!
+//! // One section: all of it is done, or nothing.
+//! fn pay(session: &mut Session, amount: u64) -> Result<(), Box<dyn std::error::Error>> {
+//!     session.synchronized_all(&[ALICE, BOB], |both| {
+//!         let (from, to) = (both.load(ALICE)?, both.load(BOB)?);
+//!         both.store(ALICE, from.checked_sub(amount).ok_or("too little")?)?;
+//!         both.store(BOB, to + amount)?;
+//!         Ok(())
+//!     })
+//! }
+//!
 //! let heap = Heap::options().lanes(8).objects(2).field(ALICE, ALICE, 100).field(BOB, BOB, 100).open("accounts.heap")?;
 //! let mut session = heap.session()?; // one for each thread
-//! let is_paid = session.synchronized(ALICE, |alice| {
-//!     alice.synchronized(BOB, |both| {
-//!         let (from, to) = (both.load(ALICE)?, both.load(BOB)?);
-//!         if from < 10 {
-//!             return Ok(false);
-//!         }
-//!         both.store(ALICE, from - 10)?;
-//!         both.store(BOB, to + 10)?;
-//!         Ok(true)
-//!     })
-//! })?;
+//! pay(&mut session, 10)?;
 //! session.durable()?; // returns when no crash loses it
-//! assert!(is_paid);
 //! heap.close()?;
 //! # std::env::set_current_dir(std::env::temp_dir())?;
 //! # std::fs::remove_dir_all(&folder)?;

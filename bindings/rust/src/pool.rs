@@ -11,8 +11,7 @@ use crate::{raw, Field, Refusal};
 /// Where a heap has a pool the program knows: it is no part of the file.
 ///
 /// ```
-/// use zelamiku::service::Heap;
-/// use zelamiku::Pool;
+/// use zelamiku::{Error, Heap, Pool};
 /// # let path = std::env::temp_dir().join(format!("zelamiku-pool-{}", std::process::id()));
 /// # let _ = std::fs::remove_file(&path);
 /// const STACK: u32 = 0; // the object
@@ -23,7 +22,7 @@ use crate::{raw, Field, Refusal};
 /// let heap = Heap::options().objects(1).field(TOP, STACK, 0).pool(POOL, STACK).fields(200, STACK, 0).open(&path)?;
 /// let mut session = heap.session()?;
 /// let is_pushed = session.synchronized(STACK, |stack| {
-///     let Some(slot) = stack.take(POOL)? else { return Ok(false) };
+///     let Some(slot) = stack.take(POOL)? else { return Ok::<_, Error>(false) };
 ///     let top = stack.load(TOP)?;
 ///     stack.store(VALUE + slot, 7)?;
 ///     stack.store(BELOW + slot, top)?;

@@ -52,6 +52,8 @@ fn while_nothing_is_durable(heap: &Heap, work: impl FnOnce()) {
     let mut outer = session.enter(2).unwrap();
     outer.synchronized(0, |s| s.store(0, 100)).unwrap();
     work();
+    // Refused at the heap's end.
+    let _ = outer.exit();
 }
 
 #[test]
@@ -150,7 +152,7 @@ fn a_thousand_cancelled_futures_leave_nothing() {
 
 #[test]
 fn the_heaps_end_is_told_to_all_that_wait() {
-    for (end, kind) in [(Heap::stop as fn(&Heap), ErrorKind::Closed), (Heap::abandon, ErrorKind::Panicked)] {
+    for (end, kind) in [(Heap::stop as fn(&Heap) -> _, ErrorKind::Closed), (Heap::abandon, ErrorKind::Abandoned)] {
         let scratch = Scratch::new("async-end");
         let heap = counters(3).open(&scratch).unwrap();
         let (mut own, mut other) = (heap.session().unwrap(), heap.session().unwrap());
@@ -167,7 +169,7 @@ fn the_heaps_end_is_told_to_all_that_wait() {
             let waits = std::thread::spawn(move || waited.wait().map_err(|error| error.kind()));
             assert!(poll(&mut lost, &nobody()).is_pending());
             std::thread::sleep(Duration::from_millis(20));
-            end(&heap);
+            end(&heap).unwrap();
             for thread in threads {
                 assert_eq!(thread.join().unwrap(), Err(kind));
             }
@@ -192,7 +194,7 @@ fn a_section_that_a_dropped_guard_has_lost_is_told() {
     block_on(session.durable_async()).unwrap();
     let mut guard = session.enter(0).unwrap();
     guard.store(0, 7).unwrap();
-    heap.stop();
+    heap.stop().unwrap();
     drop(guard);
     for _ in 0..2 {
         assert_eq!(block_on(session.durable_async()).unwrap_err().kind(), ErrorKind::Closed);
@@ -250,7 +252,7 @@ fn a_forgotten_guard_is_told_when_its_session_is_dropped() {
     std::mem::forget(guard);
     assert_eq!(block_on(session.durable_async()).unwrap_err().kind(), ErrorKind::Running);
     drop(session);
-    assert_eq!(other.enter(0).unwrap_err().kind(), ErrorKind::Panicked);
+    assert_eq!(other.enter(0).unwrap_err().kind(), ErrorKind::Abandoned);
     block_on(kept).unwrap();
 }
 

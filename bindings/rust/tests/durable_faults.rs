@@ -155,14 +155,14 @@ fn a_sync_that_fails_is_told_to_all_that_wait() {
     SYNCS_FAIL.store(true, SeqCst);
     // A round that is underway may fail before this section is there.
     let failed = other.synchronized(2, |s| s.store(2, 7)).and_then(|()| other.durable());
-    assert_eq!(failed.unwrap_err().kind(), ErrorKind::Sync);
+    assert_eq!(failed.unwrap_err().kind(), ErrorKind::Lost);
     SYNCS_FAIL.store(false, SeqCst);
     for (mut durable, answer) in thread.join().unwrap() {
-        assert_eq!(answer.unwrap_err().kind(), ErrorKind::Sync);
-        assert_eq!(block_on(&mut durable).unwrap_err().kind(), ErrorKind::Sync);
-        assert_eq!(durable.wait().unwrap_err().kind(), ErrorKind::Sync);
+        assert_eq!(answer.unwrap_err().kind(), ErrorKind::Lost);
+        assert_eq!(block_on(&mut durable).unwrap_err().kind(), ErrorKind::Lost);
+        assert_eq!(durable.wait().unwrap_err().kind(), ErrorKind::Lost);
     }
-    assert_eq!(block_on(own.durable_async()).unwrap_err().kind(), ErrorKind::Sync);
+    assert_eq!(block_on(own.durable_async()).unwrap_err().kind(), ErrorKind::Lost);
 }
 
 #[test]

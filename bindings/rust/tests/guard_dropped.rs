@@ -36,7 +36,7 @@ fn lose(heap: &Heap) {
     SYNCS_FAIL.store(true, Ordering::SeqCst);
     let mut other = heap.session().unwrap();
     other.synchronized(2, |s| s.store(2, 7)).unwrap();
-    assert_eq!(other.durable().unwrap_err().kind(), ErrorKind::Sync);
+    assert_eq!(other.durable().unwrap_err().kind(), ErrorKind::Lost);
     SYNCS_FAIL.store(false, Ordering::SeqCst);
 }
 
@@ -95,7 +95,7 @@ fn a_work_that_ends_well(session: &mut Session, end: &dyn Fn()) {
     let worked = session.synchronized(0, |s| {
         s.store(0, 7)?;
         end();
-        Ok(())
+        Ok::<_, Error>(())
     });
     assert!(worked.unwrap_err().kind().is_final());
 }
@@ -137,11 +137,11 @@ fn a_section_whose_guard_was_dropped_at_the_heaps_end_is_told_as_lost() {
         a_work_that_panics,
     ];
     for work in works {
-        is_told(&scratch, Heap::stop, ErrorKind::Closed, work);
+        is_told(&scratch, |heap| heap.stop().unwrap(), ErrorKind::Closed, work);
         let _ = std::fs::remove_file(&scratch);
-        is_told(&scratch, Heap::abandon, ErrorKind::Panicked, work);
+        is_told(&scratch, |heap| heap.abandon().unwrap(), ErrorKind::Abandoned, work);
         let _ = std::fs::remove_file(&scratch);
-        is_told(&scratch, lose, ErrorKind::Sync, work);
+        is_told(&scratch, lose, ErrorKind::Lost, work);
         let _ = std::fs::remove_file(&scratch);
     }
 }

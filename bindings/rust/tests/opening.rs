@@ -132,7 +132,7 @@ fn an_error_says_what_was_called_and_the_cure() {
     drop(guard);
     let _other = heap.session().unwrap();
     assert_eq!(heap.session().unwrap_err().kind(), ErrorKind::NoneLeft);
-    heap.stop();
+    heap.stop().unwrap();
     says(session.enter(0).unwrap_err(), "enter: the heap was closed or stopped; open it again");
     says(accounts().lanes(33).open(&scratch).unwrap_err(), "open: lanes is 33 in the plan; it may be 1 to 32");
     says(
@@ -196,7 +196,7 @@ fn a_section_that_depends_on_an_open_one_is_dropped_for_that_one() {
     let mut outer = first.enter(1).unwrap();
     outer.synchronized(0, |s| s.store(0, 7)).unwrap();
     second.synchronized(0, |s| s.store(0, 8)).unwrap();
-    heap.stop();
+    heap.stop().unwrap();
     drop(outer);
     drop((first, second, heap));
     let heap = accounts().open(&scratch).unwrap();

@@ -44,7 +44,7 @@ fn slots_are_taken_in_order_and_given_back() {
         assert_eq!(refusal(s.take(Pool::new(u32::MAX, u32::MAX))), Some(Refusal::UnknownField));
         s.store(TAKES, 100)?;
         assert_eq!(refusal(s.take(Pool::new(TAKES, 4))), Some(Refusal::Damaged));
-        Ok((taken, s.take(POOL)?))
+        Ok::<_, Error>((taken, s.take(POOL)?))
     });
     assert_eq!(answers.unwrap(), (vec![Some(0), Some(1), Some(2), Some(3), None], Some(2)));
     drop(session);
@@ -76,7 +76,7 @@ fn take_and_give(session: &mut Session, thread: u64) -> Result<(), Error> {
         let slot = loop {
             match s.take(POOL)? {
                 Some(slot) => break slot,
-                None => s.wait()?,
+                None => s.wait(0)?,
             }
         };
         assert_eq!(s.load(TAKEN_BY + slot)?, 0);
@@ -89,7 +89,7 @@ fn take_and_give(session: &mut Session, thread: u64) -> Result<(), Error> {
         s.give(POOL, slot)?;
         let takes = s.load(TAKES)?;
         s.store(TAKES, takes + 1)?;
-        s.notify()
+        s.notify(0)
     })?;
     Ok(())
 }
@@ -112,7 +112,7 @@ fn threads_take_and_give_and_a_later_opening_finds_all() {
         .unwrap()
         .synchronized(OBJECT, |s| {
             let slots: Vec<_> = (0..5).map(|_| s.take(POOL)).collect::<Result<_, _>>()?;
-            Ok((s.load(TAKES)?, slots))
+            Ok::<_, Error>((s.load(TAKES)?, slots))
         })
         .unwrap();
     slots.sort();

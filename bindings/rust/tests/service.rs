@@ -4,7 +4,7 @@ use scratch::Scratch;
 use std::sync::atomic::{AtomicU64, Ordering};
 use std::sync::Arc;
 use std::time::Duration;
-use zelamiku::service::{ErrorKind, Heap, Options, Session};
+use zelamiku::service::{Error, ErrorKind, Heap, Options, Session};
 
 mod patience;
 mod scratch;
@@ -173,11 +173,11 @@ fn producers_and_consumers_wait_and_notify() {
                 for _ in 0..500 {
                     let put = producer.synchronized(LIST, |s| {
                         while s.load(COUNT)? == 4 {
-                            s.wait()?;
+                            s.wait(0)?;
                         }
                         let count = s.load(COUNT)?;
                         s.store(COUNT, count + 1)?;
-                        s.notify_all()
+                        s.notify_all(0)
                     });
                     put.unwrap();
                 }
@@ -186,13 +186,13 @@ fn producers_and_consumers_wait_and_notify() {
                 for _ in 0..500 {
                     let took = consumer.synchronized(LIST, |s| {
                         while s.load(COUNT)? == 0 {
-                            s.wait()?;
+                            s.wait(0)?;
                         }
                         let count = s.load(COUNT)?;
                         s.store(COUNT, count - 1)?;
                         let taken = s.load(TAKEN)?;
                         s.store(TAKEN, taken + 1)?;
-                        s.notify_all()
+                        s.notify_all(0)
                     });
                     took.unwrap();
                     taken.fetch_add(1, Ordering::SeqCst);
@@ -205,7 +205,7 @@ fn producers_and_consumers_wait_and_notify() {
     let told = heap
         .session()
         .unwrap()
-        .synchronized(LIST, |s| Ok((s.load(COUNT)?, s.load(TAKEN)?)));
+        .synchronized(LIST, |s| Ok::<_, Error>((s.load(COUNT)?, s.load(TAKEN)?)));
     assert_eq!((told.unwrap(), taken.load(Ordering::SeqCst)), ((0, 2_000), 2_000));
 }
 
@@ -221,7 +221,7 @@ fn a_wait_frees_all_locks_of_one_monitor_and_keeps_others() {
                 s.synchronized(0, |s| {
                     s.store(0, 1)?;
                     while s.load(0)? == 1 {
-                        s.wait()?;
+                        s.wait(0)?;
                     }
                     s.store(1, 9)
                 })
@@ -237,9 +237,9 @@ fn a_wait_frees_all_locks_of_one_monitor_and_keeps_others() {
     other
         .synchronized(0, |s| {
             s.store(0, 2)?;
-            assert_eq!(s.notify()?, Some(lane));
-            assert_eq!(s.notify()?, None);
-            Ok(())
+            assert_eq!(s.notify(0)?, Some(lane));
+            assert_eq!(s.notify(0)?, None);
+            Ok::<_, Error>(())
         })
         .unwrap();
     // All of it was one section, since the outer monitor was held.
@@ -260,9 +260,9 @@ fn a_wait_with_one_monitor_ends_a_section() {
         let waited = waiter.synchronized(0, |s| {
             s.store(0, 1)?;
             while s.load(0)? == 1 {
-                s.wait()?;
+                s.wait(0)?;
             }
-            Ok(())
+            Ok::<_, Error>(())
         });
         waited.unwrap();
         assert_eq!(waiter.sections(), 2);
@@ -277,7 +277,7 @@ fn a_wait_with_one_monitor_ends_a_section() {
     assert_eq!(heap.close().unwrap_err().kind(), ErrorKind::Running);
     let notified = other.synchronized(0, |s| {
         s.store(0, 2)?;
-        s.notify_all()
+        s.notify_all(0)
     });
     assert_eq!(notified.unwrap(), [lane]);
     thread.join().unwrap();
@@ -291,7 +291,7 @@ fn a_heap_that_is_dropped_ends_those_that_wait() {
     let thread = std::thread::spawn(move || {
         waiter.synchronized(0, |s| {
             s.store(0, 1)?;
-            s.wait()
+            s.wait(0)
         })
     });
     while other.synchronized(0, |s| s.load(0)).unwrap() == 0 {
@@ -319,7 +319,7 @@ fn a_wait_that_the_heaps_end_cuts_off_with_its_section_is_told() {
             outer.store(1, 7)?;
             outer.synchronized(0, |s| {
                 s.store(0, 1)?;
-                s.wait()
+                s.wait(0)
             })
         });
         assert_eq!(waited.unwrap_err().kind(), ErrorKind::Closed);
@@ -328,7 +328,7 @@ fn a_wait_that_the_heaps_end_cuts_off_with_its_section_is_told() {
     while other.synchronized(0, |s| s.load(0)).unwrap() == 0 {
         std::thread::yield_now();
     }
-    heap.stop();
+    heap.stop().unwrap();
     assert_eq!(thread.join().unwrap(), (1, Err(ErrorKind::Closed)));
     drop((other, heap));
     let heap = counters(2).open(&scratch).unwrap();

@@ -1,56 +1,124 @@
-//! A section whose work fails is taken back: it ends as one that has stored nothing.
+//! A section that fails is taken back, and ends as one that has stored nothing: by its work's error or panic, or by a guard that is dropped.
 use scratch::Scratch;
-use std::error::Error as _;
 use std::panic::{catch_unwind, resume_unwind, AssertUnwindSafe};
 use zelamiku::service::{Error, ErrorKind, Heap, Held, Options, Session};
 use zelamiku::{Pool, Refusal};
 
 mod scratch;
 
-const SLOTS: Pool = Pool::new(3, 4);
-
-// Accounts 0 and 1 with 90 and 110, a third one, and a pool that the first one guards.
-fn accounts() -> Options {
-    let options = Heap::options().lanes(4).objects(3).field(0, 0, 90).field(1, 1, 110).field(2, 2, 0);
-    options.pool(SLOTS, 0)
+#[derive(Clone, Copy)]
+struct Account {
+    object: u32,
+    balance: u32,
 }
 
-fn transfer(session: &mut Session, from: u32, to: u32, amount: u64) -> Result<(), Error> {
-    session.synchronized(from, |s| {
-        let balance = s.load(from)?;
-        s.store(from, balance - amount)?;
-        s.synchronized(to, |s| {
-            let balance = s.load(to)?;
-            s.store(to, balance + amount)
-        })
+const fn account(number: u32) -> Account {
+    Account { object: number, balance: number }
+}
+
+const ALICE: Account = account(0);
+const BOB: Account = account(1);
+const CAROL: Account = account(2);
+const NOBODY: Account = account(99);
+const SLOTS: Pool = Pool::new(3, 4);
+const PASSING: u32 = 8;
+
+// Three accounts, a pool that the first one guards, and a transient field of it.
+fn accounts() -> Options {
+    let options = Heap::options().lanes(4).objects(3);
+    let options = [(ALICE, 90), (BOB, 110), (CAROL, 0)].into_iter().fold(options, |all, (of, first)| all.field(of.balance, of.object, first));
+    options.pool(SLOTS, ALICE.object).transient(PASSING, ALICE.object, 0)
+}
+
+// By what a program's own work fails.
+#[derive(Debug)]
+enum Failed {
+    TooLittle,
+    Heap(Error),
+}
+
+impl From<Error> for Failed {
+    fn from(error: Error) -> Failed {
+        Failed::Heap(error)
+    }
+}
+
+impl Failed {
+    fn refusal(&self) -> Option<Refusal> {
+        match self {
+            Failed::TooLittle => None,
+            Failed::Heap(error) => error.refusal(),
+        }
+    }
+}
+
+// It fails once it has stored.
+fn withdraw(s: &mut Held<'_>, of: Account, amount: u64) -> Result<(), Failed> {
+    let balance = s.load(of.balance)?;
+    s.store(of.balance, balance.wrapping_sub(amount))?;
+    if balance < amount { Err(Failed::TooLittle) } else { Ok(()) }
+}
+
+fn deposit(s: &mut Held<'_>, to: Account, amount: u64) -> Result<(), Failed> {
+    let balance = s.load(to.balance)?;
+    Ok(s.store(to.balance, balance + amount)?)
+}
+
+fn by_works(session: &mut Session, from: Account, to: Account, amount: u64) -> Result<(), Failed> {
+    session.synchronized(from.object, |s| {
+        withdraw(s, from, amount)?;
+        s.synchronized(to.object, |s| deposit(s, to, amount))
     })
 }
 
+fn by_all(session: &mut Session, from: Account, to: Account, amount: u64) -> Result<(), Failed> {
+    session.synchronized_all(&[from.object, to.object], |s| {
+        withdraw(s, from, amount)?;
+        deposit(s, to, amount)
+    })
+}
+
+fn by_guards(session: &mut Session, from: Account, to: Account, amount: u64) -> Result<(), Failed> {
+    let mut outer = session.enter(from.object)?;
+    withdraw(&mut outer, from, amount)?;
+    let mut inner = outer.enter(to.object)?;
+    deposit(&mut inner, to, amount)?;
+    inner.exit()?;
+    Ok(outer.exit()?)
+}
+
 fn values(session: &mut Session) -> [u64; 3] {
-    [0, 1, 2].map(|account| session.synchronized(account, |s| s.load(account)).unwrap())
+    [ALICE, BOB, CAROL].map(|of| session.synchronized(of.object, |s| s.load(of.balance)).unwrap())
 }
 
 fn found_again(scratch: &Scratch) -> [u64; 3] {
     values(&mut accounts().open(scratch).unwrap().session().unwrap())
 }
 
+// A field that there isn't.
+fn fail(s: &mut Held<'_>) -> Result<(), Error> {
+    s.load(99).map(|_| ())
+}
+
 #[test]
-fn a_transfer_to_an_account_that_there_isnt_changes_nothing() {
-    let scratch = Scratch::new("half");
-    let heap = accounts().open(&scratch).unwrap();
-    let mut session = heap.session().unwrap();
-    let error = transfer(&mut session, 0, 7, 10).unwrap_err();
-    assert_eq!((error.kind(), error.refusal()), (ErrorKind::Refused, Some(Refusal::UnknownObject)));
-    // The section has ended, as one that has stored nothing.
-    assert_eq!(session.sections(), 1);
-    assert_eq!(values(&mut session), [90, 110, 0]);
-    session.durable().unwrap();
-    // Both monitors are free, and the next one is whole.
-    transfer(&mut heap.session().unwrap(), 0, 1, 10).unwrap();
-    session.durable().unwrap();
-    heap.abandon();
-    drop((session, heap));
-    assert_eq!(found_again(&scratch), [90 - 10, 110 + 10, 0]);
+fn a_transfer_that_fails_in_the_middle_changes_nothing() {
+    for transfer in [by_works, by_all, by_guards] {
+        let scratch = Scratch::new("half");
+        let heap = accounts().open(&scratch).unwrap();
+        let mut session = heap.session().unwrap();
+        let failed = transfer(&mut session, ALICE, NOBODY, 10).unwrap_err();
+        assert_eq!(failed.refusal(), Some(Refusal::UnknownObject));
+        assert!(matches!(transfer(&mut session, ALICE, BOB, 91), Err(Failed::TooLittle)));
+        // Both sections have ended, as such that have stored nothing, and their monitors are free.
+        assert_eq!(session.sections(), 2);
+        assert_eq!(values(&mut session), [90, 110, 0]);
+        session.durable().unwrap();
+        transfer(&mut heap.session().unwrap(), ALICE, BOB, 10).unwrap();
+        session.durable().unwrap();
+        heap.abandon().unwrap();
+        drop((session, heap));
+        assert_eq!(found_again(&scratch), [80, 120, 0]);
+    }
 }
 
 #[test]
@@ -58,13 +126,13 @@ fn an_error_of_a_nested_work_takes_back_the_whole_section() {
     let scratch = Scratch::new("nested");
     let heap = accounts().open(&scratch).unwrap();
     let mut session = heap.session().unwrap();
-    let failed = session.synchronized(0, |outer| {
-        outer.store(0, 1)?;
-        outer.store(0, 2)?;
-        outer.synchronized(1, |inner| {
-            inner.store(1, 3)?;
-            inner.synchronized(0, |again| again.store(0, 4))?;
-            inner.load(9)
+    let failed = session.synchronized(ALICE.object, |outer| {
+        outer.store(ALICE.balance, 1)?;
+        outer.store(ALICE.balance, 2)?;
+        outer.synchronized(BOB.object, |inner| {
+            inner.store(BOB.balance, 3)?;
+            inner.synchronized(ALICE.object, |again| again.store(ALICE.balance, 4))?;
+            fail(inner)
         })
     });
     assert_eq!(failed.unwrap_err().refusal(), Some(Refusal::UnknownField));
@@ -73,11 +141,26 @@ fn an_error_of_a_nested_work_takes_back_the_whole_section() {
     assert_eq!(found_again(&scratch), [90, 110, 0]);
 }
 
-// The error of a section that goes on after a nested work has failed by a field that there isn't.
 fn is_reverted<T>(answer: Result<T, Error>) -> bool {
-    let Some(error) = answer.err() else { return false };
-    let own = error.source().and_then(|source| source.downcast_ref::<Error>());
-    error.kind() == ErrorKind::Reverted && own.map(Error::kind) == Some(ErrorKind::Refused) && error.refusal() == Some(Refusal::UnknownField)
+    answer.is_err_and(|error| error.kind() == ErrorKind::Reverted)
+}
+
+// By what an inner part takes its section back: a work's error or panic, a guard that is dropped, and one that has only loaded.
+fn fails(outer: &mut Held<'_>) {
+    assert!(outer.synchronized(BOB.object, fail).is_err());
+}
+
+fn panics(outer: &mut Held<'_>) {
+    let work = AssertUnwindSafe(|| outer.synchronized(BOB.object, |_| -> Result<(), Error> { resume_unwind(Box::new("of this test")) }));
+    assert!(catch_unwind(work).is_err());
+}
+
+fn drops(outer: &mut Held<'_>) {
+    outer.enter(BOB.object).unwrap().store(BOB.balance, 3).unwrap();
+}
+
+fn looks(outer: &mut Held<'_>) {
+    assert_eq!(outer.enter(BOB.object).unwrap().load(BOB.balance).unwrap(), 110);
 }
 
 #[test]
@@ -85,74 +168,53 @@ fn a_section_that_was_taken_back_stores_nothing_more() {
     let scratch = Scratch::new("swallowed");
     let heap = accounts().open(&scratch).unwrap();
     let mut session = heap.session().unwrap();
-    // Half of a change would be kept, where an outer work could go on after the other half was taken back.
-    let swallows = |outer: &mut Held<'_>| {
-        let before = outer.load(0)?;
-        outer.store(0, 1)?;
-        let failed = outer.synchronized(1, |inner| {
-            inner.store(1, 3)?;
-            inner.load(99)
-        });
-        assert_eq!(failed.unwrap_err().kind(), ErrorKind::Refused);
-        assert_eq!(outer.load(0)?, before);
-        assert!(is_reverted(outer.store(0, 2)));
-        assert!(is_reverted(outer.take(SLOTS)) && is_reverted(outer.give(SLOTS, 0)));
-        assert!(is_reverted(outer.wait()));
-        assert!(is_reverted(outer.synchronized(2, |inner| inner.store(2, 5))));
-        assert!(is_reverted(outer.synchronized(2, |inner| inner.load(2))));
-        assert!(is_reverted(outer.enter(2)?.exit()));
-        outer.revert()?;
-        assert!(is_reverted(outer.store(0, 2)));
-        Ok(())
-    };
-    assert!(is_reverted(session.synchronized(0, swallows)));
-    assert_eq!(session.sections(), 1);
-    // The next section is as any other.
-    session.synchronized(0, |s| s.store(0, 7)).unwrap();
-    // The same by guards.
-    let mut guard = session.enter(0).unwrap();
-    swallows(&mut guard).unwrap();
-    assert!(is_reverted(guard.exit()));
-    let mut guard = session.try_enter(0).unwrap().unwrap();
-    guard.store(0, 8).unwrap();
-    assert!(guard.synchronized(1, |s| s.load(99)).is_err());
-    drop(guard);
-    assert_eq!(values(&mut session), [7, 110, 0]);
-    // And a panic that is caught inside of the section.
-    let caught = session.synchronized(0, |outer| {
-        outer.store(0, 9)?;
-        panics_in(outer);
-        assert_eq!(outer.store(0, 10).unwrap_err().kind(), ErrorKind::Reverted);
-        Ok(())
-    });
-    assert_eq!(caught.unwrap_err().kind(), ErrorKind::Reverted);
-    session.durable().unwrap();
+    for take_back in [fails, panics, drops, looks] {
+        // Half of a change would be kept, where an outer work could go on after the other half was taken back.
+        let swallows = |outer: &mut Held<'_>| {
+            outer.store(ALICE.balance, 1)?;
+            take_back(outer);
+            assert_eq!(outer.load(ALICE.balance)?, 90);
+            assert!(is_reverted(outer.store(ALICE.balance, 2)));
+            assert!(is_reverted(outer.take(SLOTS)) && is_reverted(outer.give(SLOTS, 0)));
+            assert!(is_reverted(outer.wait(ALICE.object)));
+            assert!(is_reverted(outer.synchronized(CAROL.object, |inner| inner.store(CAROL.balance, 5))));
+            assert!(is_reverted(outer.synchronized(CAROL.object, |inner| inner.load(CAROL.balance))));
+            assert!(is_reverted(outer.enter(CAROL.object)?.exit()));
+            outer.revert()?;
+            assert!(is_reverted(outer.store(ALICE.balance, 2)));
+            Ok(())
+        };
+        let before = session.sections();
+        assert!(is_reverted(session.synchronized(ALICE.object, swallows)));
+        let mut guard = session.try_enter(ALICE.object).unwrap().unwrap();
+        swallows(&mut guard).unwrap();
+        assert!(is_reverted(guard.exit()));
+        assert_eq!(session.sections(), before + 2);
+        // The next section is as any other.
+        session.synchronized(CAROL.object, |s| s.store(CAROL.balance, before)).unwrap();
+        assert_eq!(values(&mut session), [90, 110, before]);
+    }
+    let last = values(&mut session);
     drop((session, heap));
-    assert_eq!(found_again(&scratch), [7, 110, 0]);
-}
-
-fn panics_in(outer: &mut Held<'_>) {
-    let worked: std::thread::Result<Result<(), Error>> =
-        catch_unwind(AssertUnwindSafe(|| outer.synchronized(1, |_| resume_unwind(Box::new("of this test")))));
-    assert!(worked.is_err());
+    assert_eq!(found_again(&scratch), last);
 }
 
 #[test]
-fn a_guard_takes_back_what_was_stored_and_the_section_goes_on() {
+fn a_revert_of_a_guard_takes_back_what_was_stored_and_the_section_goes_on() {
     let scratch = Scratch::new("guard");
     let heap = accounts().open(&scratch).unwrap();
     let mut session = heap.session().unwrap();
-    let mut outer = session.enter(0).unwrap();
-    outer.store(0, 1).unwrap();
-    let mut inner = outer.enter(1).unwrap();
-    inner.store(1, 2).unwrap();
+    let mut outer = session.enter(ALICE.object).unwrap();
+    outer.store(ALICE.balance, 1).unwrap();
+    let mut inner = outer.enter(BOB.object).unwrap();
+    inner.store(BOB.balance, 2).unwrap();
     inner.revert().unwrap();
-    assert_eq!((inner.load(0).unwrap(), inner.load(1).unwrap()), (90, 110));
+    assert_eq!((inner.load(ALICE.balance).unwrap(), inner.load(BOB.balance).unwrap()), (90, 110));
     // What is stored from then on stays, unless it is taken back again.
-    inner.store(1, 3).unwrap();
+    inner.store(BOB.balance, 3).unwrap();
     inner.revert().unwrap();
     inner.revert().unwrap();
-    inner.store(0, 4).unwrap();
+    inner.store(ALICE.balance, 4).unwrap();
     inner.exit().unwrap();
     outer.exit().unwrap();
     assert_eq!(session.sections(), 1);
@@ -164,22 +226,18 @@ fn slots_of_a_pool_are_taken_back() {
     let scratch = Scratch::new("slots");
     let heap = accounts().open(&scratch).unwrap();
     let mut session = heap.session().unwrap();
-    let first = session.synchronized(0, |s| s.take(SLOTS)).unwrap().unwrap();
-    let failed = session.synchronized(0, |s| {
+    let first = session.synchronized(ALICE.object, |s| s.take(SLOTS)).unwrap().unwrap();
+    let failed = session.synchronized(ALICE.object, |s| {
         s.give(SLOTS, first)?;
         while s.take(SLOTS)?.is_some() {}
-        s.load(99)
+        fail(s)
     });
     assert!(failed.is_err());
+    let mut guard = session.enter(ALICE.object).unwrap();
     let mut taken = vec![first];
-    session
-        .synchronized(0, |s| {
-            while let Some(slot) = s.take(SLOTS)? {
-                taken.push(slot);
-            }
-            Ok(())
-        })
-        .unwrap();
+    while let Some(slot) = guard.take(SLOTS).unwrap() {
+        taken.push(slot);
+    }
     taken.sort_unstable();
     assert_eq!(taken, [0, 1, 2, 3]);
 }
@@ -191,93 +249,110 @@ fn the_error_of_another_heap_takes_a_section_back_too() {
     let closed = accounts().open(&other).unwrap();
     let (mut session, mut elsewhere) = (heap.session().unwrap(), closed.session().unwrap());
     closed.close().unwrap();
-    let failed = session.synchronized(0, |s| {
-        s.store(0, 1)?;
-        elsewhere.durable()?;
-        elsewhere.synchronized(0, |s| s.store(0, 1))
+    let failed = session.synchronized(ALICE.object, |s| {
+        s.store(ALICE.balance, 1)?;
+        elsewhere.synchronized(ALICE.object, |s| s.store(ALICE.balance, 1))
     });
     let error = failed.unwrap_err();
     assert_eq!((error.kind(), error.path()), (ErrorKind::Closed, other.as_ref()));
     assert_eq!(values(&mut session), [90, 110, 0]);
-    // Where it can't be taken back both are told.
-    let failed = session.synchronized(0, |s| {
-        s.synchronized(1, |s| s.store(1, 2))?;
-        Err::<(), _>(error.clone())
-    });
-    let failed = failed.unwrap_err();
-    assert_eq!((failed.kind(), failed.path()), (ErrorKind::Unreverted, scratch.as_ref()));
-    assert!(failed.to_string().contains(&error.to_string()), "{failed}");
-    assert_eq!(values(&mut session), [90, 2, 0]);
 }
 
-// A section that can't be taken back any more, since a monitor was freed under which it had stored.
-fn stores_stay(session: &mut Session, work: impl FnOnce(&mut Held<'_>) -> Result<(), Error>) -> Error {
-    let error = session
-        .synchronized(0, |s| {
+// The ways in which a section fails.
+type Fails = fn(&mut Session, &dyn Fn(&mut Held<'_>) -> Result<(), Error>);
+
+fn by_an_error(session: &mut Session, work: &dyn Fn(&mut Held<'_>) -> Result<(), Error>) {
+    let failed = session.synchronized(ALICE.object, |s| {
+        work(s)?;
+        fail(s)
+    });
+    assert_eq!(failed.unwrap_err().refusal(), Some(Refusal::UnknownField));
+}
+
+fn by_a_panic(session: &mut Session, work: &dyn Fn(&mut Held<'_>) -> Result<(), Error>) {
+    let worked = catch_unwind(AssertUnwindSafe(|| {
+        session.synchronized(ALICE.object, |s| -> Result<(), Error> {
             work(s)?;
-            let refused = s.revert().unwrap_err();
-            assert_eq!((refused.kind(), refused.refusal()), (ErrorKind::Refused, Some(Refusal::NotHeld)));
-            s.load(99).map(|_| ())
+            resume_unwind(Box::new("of this test"))
         })
-        .unwrap_err();
-    assert_eq!(error.kind(), ErrorKind::Unreverted);
-    assert!(!error.kind().is_final());
-    // The work's own error.
-    let own = error.source().unwrap().downcast_ref::<Error>().unwrap();
-    assert_eq!((own.kind(), own.refusal()), (ErrorKind::Refused, Some(Refusal::UnknownField)));
-    assert_eq!(error.refusal(), own.refusal());
-    assert!(error.to_string().contains("field 99") && error.to_string().contains("stays"), "{error}");
-    error
+    }));
+    assert_eq!(worked.unwrap_err().downcast_ref::<&str>(), Some(&"of this test"));
+}
+
+fn by_a_guard(session: &mut Session, work: &dyn Fn(&mut Held<'_>) -> Result<(), Error>) {
+    work(&mut session.enter(ALICE.object).unwrap()).unwrap();
+}
+
+const WAYS: [Fails; 3] = [by_an_error, by_a_panic, by_a_guard];
+
+// A section of that work stops the heap, and the next opening drops it.
+fn stops(name: &str, options: &Options, work: &dyn Fn(&mut Held<'_>) -> Result<(), Error>) {
+    for way in WAYS {
+        let scratch = Scratch::new(name);
+        let heap = options.clone().open(&scratch).unwrap();
+        let (mut session, mut other) = (heap.session().unwrap(), heap.session().unwrap());
+        other.synchronized(CAROL.object, |s| s.store(CAROL.balance, 7)).unwrap();
+        way(&mut session, work);
+        let error = other.enter(ALICE.object).unwrap_err();
+        assert_eq!(error.kind(), ErrorKind::Abandoned);
+        assert!(error.to_string().contains("couldn't be taken back"), "{error}");
+        assert_eq!(session.durable().unwrap_err().kind(), ErrorKind::Abandoned);
+        drop((session, other, heap));
+        assert_eq!(found_again(&scratch), [90, 110, 7]);
+    }
 }
 
 #[test]
-fn what_was_stored_under_a_monitor_that_was_freed_stays_and_is_told() {
-    let scratch = Scratch::new("freed");
-    let heap = accounts().open(&scratch).unwrap();
-    let mut session = heap.session().unwrap();
-    stores_stay(&mut session, |s| {
-        s.store(0, 1)?;
-        s.synchronized(1, |s| s.store(1, 2))
+fn a_section_that_has_freed_a_monitor_under_which_it_had_stored_stops_the_heap() {
+    stops("stops", &accounts(), &|s| {
+        s.store(ALICE.balance, 1)?;
+        s.synchronized(BOB.object, |s| s.store(BOB.balance, 2))?;
+        let refused = s.revert().unwrap_err();
+        assert_eq!((refused.kind(), refused.refusal()), (ErrorKind::Refused, Some(Refusal::NotHeld)));
+        Ok(())
     });
-    assert_eq!(session.sections(), 1);
-    assert_eq!(values(&mut session), [1, 2, 0]);
-    // Once only, also where it leaves several works.
-    let error = session
-        .synchronized(2, |outer| {
-            outer.synchronized(0, |s| {
-                s.synchronized(1, |s| s.store(1, 3))?;
-                s.store(99, 0)
-            })
-        })
-        .unwrap_err();
-    assert_eq!(error.kind(), ErrorKind::Unreverted);
-    assert_eq!(error.source().unwrap().downcast_ref::<Error>().unwrap().kind(), ErrorKind::Refused);
-    // The next section can be taken back.
-    transfer(&mut session, 0, 7, 1).unwrap_err();
-    assert_eq!(values(&mut session), [1, 3, 0]);
-    session.durable().unwrap();
-}
-
-#[test]
-fn a_monitor_that_was_freed_without_a_store_under_it_is_no_hindrance() {
+    // Half of it is no half where nothing was stored under that monitor.
     let scratch = Scratch::new("read");
     let heap = accounts().open(&scratch).unwrap();
     let mut session = heap.session().unwrap();
-    let failed = session.synchronized(0, |s| {
-        s.store(0, 1)?;
-        s.synchronized(1, |s| s.load(1))?;
-        s.load(99)
-    });
-    assert_eq!(failed.unwrap_err().kind(), ErrorKind::Refused);
-    assert_eq!(values(&mut session), [90, 110, 0]);
+    for way in WAYS {
+        way(&mut session, &|s| {
+            s.store(ALICE.balance, 1)?;
+            s.synchronized(BOB.object, |s| s.load(BOB.balance).map(|_| ()))
+        });
+        assert_eq!(values(&mut session), [90, 110, 0]);
+    }
 }
 
-// Lets the work wait on object 0, and notifies it.
+#[test]
+fn without_reverts_a_section_that_fails_stops_the_heap_once_it_has_stored() {
+    let options = accounts().reverts(false);
+    stops("without-stores", &options, &|s| {
+        s.store(ALICE.balance, 1)?;
+        let refused = s.revert().unwrap_err();
+        assert_eq!((refused.kind(), refused.refusal()), (ErrorKind::Refused, Some(Refusal::WrongKind)));
+        assert!(refused.to_string().contains("Options::reverts(true)"), "{refused}");
+        Ok(())
+    });
+    stops("without-passing", &options, &|s| s.store(PASSING, 1));
+    stops("without-slot", &options, &|s| s.take(SLOTS).map(|_| ()));
+    // One that has only loaded ends as any other.
+    let scratch = Scratch::new("without");
+    let heap = options.open(&scratch).unwrap();
+    let mut session = heap.session().unwrap();
+    for way in WAYS {
+        way(&mut session, &|s| s.load(ALICE.balance).and_then(|_| s.revert()));
+        by_all(&mut session, ALICE, BOB, 10).unwrap();
+    }
+    assert_eq!(values(&mut session), [60, 140, 0]);
+}
+
+// Lets the work wait on the first object, and notifies it. The work may stop the heap just then.
 fn while_waiting(heap: &Heap, work: impl FnOnce(&mut Session) + Send) {
     let (mut waiter, mut other) = (heap.session().unwrap(), heap.session().unwrap());
     std::thread::scope(|scope| {
         let thread = scope.spawn(move || work(&mut waiter));
-        while !thread.is_finished() && other.synchronized(0, |s| s.notify()).unwrap().is_none() {
+        while !thread.is_finished() && matches!(other.synchronized(ALICE.object, |s| s.notify(ALICE.object)), Ok(None)) {
             std::thread::yield_now();
         }
         thread.join().unwrap();
@@ -286,133 +361,123 @@ fn while_waiting(heap: &Heap, work: impl FnOnce(&mut Session) + Send) {
 
 #[test]
 fn what_was_stored_before_a_wait_stays() {
-    let scratch = Scratch::new("wait");
-    let heap = accounts().open(&scratch).unwrap();
-    // The wait ends a section, and what is stored after it is taken back.
-    while_waiting(&heap, |session| {
-        let failed = session.synchronized(0, |s| {
-            s.store(0, 1)?;
-            s.wait()?;
-            s.store(0, 2)?;
-            s.load(99)
+    for way in WAYS {
+        let scratch = Scratch::new("wait");
+        let heap = accounts().open(&scratch).unwrap();
+        // The wait ends a section, and what is stored after it is taken back.
+        while_waiting(&heap, |session| {
+            way(session, &|s| {
+                s.store(ALICE.balance, 1)?;
+                s.wait(ALICE.object)?;
+                s.store(ALICE.balance, 2)
+            });
         });
-        assert_eq!(failed.unwrap_err().kind(), ErrorKind::Refused);
-    });
-    // The wait is inside of a section, and frees what that has stored under.
-    while_waiting(&heap, |session| {
-        let failed = session.synchronized(1, |outer| {
-            outer.store(1, 3)?;
-            outer.synchronized(0, |s| {
-                s.store(0, 4)?;
-                s.wait()?;
-                s.store(0, 5)?;
-                s.load(99)
-            })
+        assert_eq!(values(&mut heap.session().unwrap()), [1, 110, 0]);
+        // The wait is inside of a section, and frees what that has stored under: the heap stops.
+        while_waiting(&heap, |session| {
+            let waited = session.synchronized(BOB.object, |outer| {
+                outer.synchronized(ALICE.object, |s| {
+                    s.store(ALICE.balance, 4)?;
+                    s.wait(ALICE.object)
+                })?;
+                fail(outer)
+            });
+            assert_eq!(waited.unwrap_err().kind(), ErrorKind::Refused);
         });
-        assert_eq!(failed.unwrap_err().kind(), ErrorKind::Unreverted);
-    });
-    let mut session = heap.session().unwrap();
-    assert_eq!(values(&mut session), [5, 3, 0]);
-    heap.close().unwrap();
-    drop(heap);
-    assert_eq!(found_again(&scratch), [5, 3, 0]);
+        assert_eq!(heap.session().unwrap_err().kind(), ErrorKind::Abandoned);
+        drop(heap);
+        assert_eq!(found_again(&scratch), [1, 110, 0]);
+    }
 }
 
-fn panics(session: &mut Session, work: impl FnOnce(&mut Held<'_>) -> Result<(), Error>) {
-    let worked = catch_unwind(AssertUnwindSafe(|| {
-        session.synchronized(0, |s| {
-            work(s)?;
+// Makes a section when it is dropped.
+struct AtEnd<'session>(&'session mut Session, fn(&mut Session));
+
+impl Drop for AtEnd<'_> {
+    fn drop(&mut self) {
+        let _ = catch_unwind(AssertUnwindSafe(|| self.1(self.0)));
+    }
+}
+
+#[test]
+fn a_section_that_is_made_while_a_panic_unwinds_is_as_any_other() {
+    let scratch = Scratch::new("unwinds");
+    let heap = accounts().open(&scratch).unwrap();
+    let mut session = heap.session().unwrap();
+    let works: [fn(&mut Session); 4] = [
+        |session| by_guards(session, ALICE, BOB, 10).unwrap(),
+        |session| by_works(session, ALICE, BOB, 10).unwrap(),
+        // In the middle of which a second panic comes.
+        |session| {
+            let mut guard = session.enter(ALICE.object).unwrap();
+            guard.store(ALICE.balance, 1).unwrap();
             resume_unwind(Box::new("of this test"))
-        })
-    }));
-    let worked: Result<Result<(), Error>, _> = worked;
-    assert_eq!(worked.unwrap_err().downcast_ref::<&str>(), Some(&"of this test"));
-}
-
-#[test]
-fn a_panic_takes_the_section_back_and_the_heap_goes_on() {
-    let scratch = Scratch::new("panic");
-    let heap = accounts().open(&scratch).unwrap();
-    let mut session = heap.session().unwrap();
-    panics(&mut session, |s| {
-        s.store(0, 1)?;
-        let mut inner = s.enter(1)?;
-        inner.store(1, 2)?;
-        resume_unwind(Box::new("of this test"))
-    });
-    assert_eq!(session.sections(), 1);
-    assert_eq!(values(&mut session), [90, 110, 0]);
-    session.durable().unwrap();
-    // As a guard that is dropped by it.
-    let worked = catch_unwind(AssertUnwindSafe(|| {
-        let mut guard = session.enter(0).unwrap();
-        guard.store(0, 1).unwrap();
-        resume_unwind(Box::new("of this test"))
-    }));
-    let _: Box<dyn std::any::Any + Send> = worked.map(|never: ()| never).unwrap_err();
-    assert_eq!(values(&mut heap.session().unwrap()), [90, 110, 0]);
-    transfer(&mut session, 0, 1, 10).unwrap();
+        },
+        |session| by_a_panic(session, &|s| s.store(ALICE.balance, 1)),
+    ];
+    for work in works {
+        let unwound = catch_unwind(AssertUnwindSafe(|| {
+            let _end = AtEnd(&mut session, work);
+            resume_unwind(Box::new("of this test"))
+        }));
+        assert!(unwound.map(|never: ()| never).is_err());
+    }
+    assert_eq!(values(&mut session), [70, 130, 0]);
     session.durable().unwrap();
     heap.close().unwrap();
     drop(heap);
-    assert_eq!(found_again(&scratch), [80, 120, 0]);
+    assert_eq!(found_again(&scratch), [70, 130, 0]);
 }
 
 #[test]
-fn a_panic_that_cant_be_taken_back_stops_the_heap() {
-    let scratch = Scratch::new("panic-stops");
-    let heap = accounts().open(&scratch).unwrap();
-    let mut session = heap.session().unwrap();
-    panics(&mut session, |s| {
-        s.store(0, 1)?;
-        s.synchronized(1, |s| s.store(1, 2))
+fn all_monitors_are_taken_in_one_order_each_once() {
+    let scratch = Scratch::new("all");
+    let heap = Heap::options().lanes(2).objects(20).fields(20, 0, 0).open(&scratch).unwrap();
+    let (mut session, mut other) = (heap.session().unwrap(), heap.session().unwrap());
+    let locks = |session: &mut Session, object| session.look(object).unwrap().locks;
+    session
+        .synchronized_all(&[5, 1, 3, 1, 5], |_| {
+            assert_eq!([0, 1, 2, 3, 4, 5].map(|object| locks(&mut other, object)), [0, 1, 0, 1, 0, 1]);
+            Ok::<_, Error>(())
+        })
+        .unwrap();
+    // One that can't be taken leaves none, and the work isn't done.
+    let mut never = |objects: &[u32]| session.synchronized_all(objects, |_| -> Result<(), Error> { panic!() }).unwrap_err().refusal();
+    assert_eq!(never(&[]), Some(Refusal::Empty));
+    assert_eq!(never(&[2, 20, 4]), Some(Refusal::UnknownObject));
+    assert_eq!(never(&(0..17).collect::<Vec<_>>()), Some(Refusal::TooMany));
+    assert!((0..20).all(|object| locks(&mut other, object) == 0));
+    // Whichever is named first, no two threads wait for each other.
+    std::thread::scope(|scope| {
+        for (mut session, objects) in [(session, [4, 0]), (other, [0, 4])] {
+            scope.spawn(move || {
+                for _ in 0..1_000 {
+                    session.synchronized_all(&objects, |s| s.load(0).and_then(|count| s.store(0, count + 1))).unwrap();
+                }
+            });
+        }
     });
-    assert_eq!(heap.session().unwrap_err().kind(), ErrorKind::Panicked);
-    assert_eq!(session.durable().unwrap_err().kind(), ErrorKind::Panicked);
-    drop((session, heap));
-    assert_eq!(found_again(&scratch), [90, 110, 0]);
+    assert_eq!(heap.session().unwrap().synchronized(0, |s| s.load(0)).unwrap(), 2_000);
 }
 
-#[test]
-fn without_reverts_a_work_that_fails_leaves_what_it_has_stored() {
-    let scratch = Scratch::new("without");
-    let heap = accounts().reverts(false).open(&scratch).unwrap();
-    let mut session = heap.session().unwrap();
-    let error = transfer(&mut session, 0, 7, 10).unwrap_err();
-    assert_eq!(error.kind(), ErrorKind::Refused);
-    assert_eq!(values(&mut session), [80, 110, 0]);
-    let refused = session.synchronized(0, |s| s.revert()).unwrap_err();
-    assert_eq!((refused.kind(), refused.refusal()), (ErrorKind::Refused, Some(Refusal::WrongKind)));
-    assert!(refused.to_string().contains("Options::reverts(true)"), "{refused}");
-    session.durable().unwrap();
-    panics(&mut session, |s| s.store(0, 1));
-    assert_eq!(session.durable().unwrap_err().kind(), ErrorKind::Panicked);
-    drop((session, heap));
-    assert_eq!(found_again(&scratch), [80, 110, 0]);
-}
-
-// How many fields a section may store, each `times` times, until it is full; and what it leaves.
+// How many fields a section may store, each `times` times, until it is full.
 fn fields_of_a_section(reverts: bool, times: u64) -> u32 {
     let scratch = Scratch::new(&format!("room-{reverts}-{times}"));
     let options = Heap::options().lanes(1).objects(1).fields(2_000, 0, 7).reverts(reverts);
     let heap = options.open(&scratch).unwrap();
     let mut session = heap.session().unwrap();
     let mut stored = 0;
-    let error = session
-        .synchronized(0, |s| {
-            for field in 0..2_000 {
-                for value in 0..times {
-                    s.store(field, value)?;
-                }
-                stored += 1;
+    let full = session.synchronized(0, |s| -> Result<(), Error> {
+        loop {
+            for value in 0..times {
+                s.store(stored, value)?;
             }
-            Ok(())
-        })
-        .unwrap_err();
-    assert_eq!((error.kind(), error.refusal()), (ErrorKind::Refused, Some(Refusal::SectionFull)));
-    let is_back = |s: &mut Held<'_>| (0..2_000).try_fold(true, |is, field| Ok(is && s.load(field)? == 7));
-    assert_eq!(session.synchronized(0, is_back).unwrap(), reverts);
-    session.durable().unwrap();
+            stored += 1;
+        }
+    });
+    assert_eq!(full.unwrap_err().refusal(), Some(Refusal::SectionFull));
+    let is_back = |s: &mut Held<'_>| (0..2_000).try_fold(true, |is, field| Ok::<_, Error>(is && s.load(field)? == 7));
+    assert_eq!(session.synchronized(0, is_back).is_ok_and(|is| is), reverts);
     stored
 }
 

@@ -4,7 +4,7 @@ use scratch::Scratch;
 use std::panic::{catch_unwind, AssertUnwindSafe};
 use std::sync::{Arc, Mutex};
 use std::time::Duration;
-use zelamiku::service::{ErrorKind, Heap, Level, Options};
+use zelamiku::service::{Error, ErrorKind, Heap, Level, Options};
 use zelamiku::Why;
 
 mod patience;
@@ -37,7 +37,7 @@ fn a_dropped_section_of_the_report_is_a_sessions_own() {
     session.synchronized(0, |s| s.store(0, 9)).unwrap();
     let mut guard = session.enter(0).unwrap();
     guard.store(0, 10).unwrap();
-    heap.stop();
+    heap.stop().unwrap();
     drop(guard);
     // Also after the heap's end.
     assert_eq!((session.lane(), session.earlier(), session.sections()), (0, 3, 1));
@@ -63,20 +63,20 @@ fn notifications_tell_whom_they_wake() {
                 let waited = waiter.synchronized(0, |s| {
                     let value = s.load(0)?;
                     s.store(0, value + 1)?;
-                    s.wait()
+                    s.wait(0)
                 });
                 waited.unwrap();
             });
         }
         until("three wait", || own.synchronized(0, |s| s.load(0)).unwrap() == 3);
-        let (one, others) = own.synchronized(0, |s| Ok((s.notify()?, s.notify_all()?))).unwrap();
+        let (one, others) = own.synchronized(0, |s| Ok::<_, Error>((s.notify(0)?, s.notify_all(0)?))).unwrap();
         let mut woken = others;
         assert!(woken.windows(2).all(|pair| pair[0] < pair[1]));
         woken.extend(one);
         woken.sort_unstable();
         assert_eq!(woken, lanes);
     });
-    assert_eq!(own.synchronized(0, |s| Ok((s.notify()?, s.notify_all()?))).unwrap(), (None, vec![]));
+    assert_eq!(own.synchronized(0, |s| Ok::<_, Error>((s.notify(0)?, s.notify_all(0)?))).unwrap(), (None, vec![]));
 }
 
 #[test]
@@ -130,7 +130,7 @@ fn a_circle_is_told_and_goes_on_until_the_heap_is_stopped() {
         // It isn't told again by the other one.
         std::thread::sleep(Duration::from_millis(1_500));
         let told = told();
-        heap.stop();
+        heap.stop().unwrap();
         assert!(is_told);
         assert!(waits.len() == 2 && waits.iter().all(|wait| wait.is_in_circle), "{waits:?}");
         assert_eq!(told, [Level::Warning]);

@@ -37,12 +37,10 @@ fn count(held: &mut Held<'_>, field: u32) -> Result<(), Error> {
 
 // Counts once, in one section.
 fn count_once(session: &mut Session, own: u32) -> Result<(), Error> {
-    session.synchronized(own, |held| {
+    session.synchronized_all(&[own, TOTAL], |held| {
         count(held, own)?;
-        held.synchronized(TOTAL, |held| {
-            count(held, TOTAL)?;
-            count(held, SINCE)
-        })
+        count(held, TOTAL)?;
+        count(held, SINCE)
     })
 }
 
@@ -61,22 +59,13 @@ struct Counters {
     since: u64,
 }
 
-// Reads all counters in one section. It takes the monitors in the workers' order: the total's last.
+// Reads all counters in one section.
 fn look(session: &mut Session) -> Result<Counters, Error> {
-    let mut counters = Counters { total: 0, workers: Vec::new(), since: 0 };
-    look_on(&mut session.enter(1)?, 1, &mut counters)?;
-    Ok(counters)
-}
-
-fn look_on(held: &mut Held<'_>, object: u32, counters: &mut Counters) -> Result<(), Error> {
-    if object == TOTAL {
-        counters.total = held.load(TOTAL)?;
-        counters.since = held.load(SINCE)?;
-        return Ok(());
-    }
-    counters.workers.push(held.load(object)?);
-    let next = if object == WORKERS { TOTAL } else { object + 1 };
-    look_on(&mut held.enter(next)?, next, counters)
+    let all: Vec<u32> = (0..=WORKERS).collect();
+    session.synchronized_all(&all, |held| {
+        let workers = (1..=WORKERS).map(|own| held.load(own)).collect::<Result<_, _>>()?;
+        Ok(Counters { total: held.load(TOTAL)?, workers, since: held.load(SINCE)? })
+    })
 }
 
 impl Counters {

@@ -28,13 +28,8 @@ pub enum ErrorKind {
     NoneLeft,
     /// A call was refused, and nothing was done: the cause is the library's refusal. The heap and the session go on.
     Refused,
-    /// The work of a [`synchronized`](super::Session::synchronized) has failed, and what its section had stored is there still, whole or a
-    /// part of a change: the section had freed a monitor by then, so that others may have seen it. The [source](std::error::Error::source)
-    /// is the work's own [`Error`]. The section has ended, or is that of an outer work; the heap goes on.
-    Unreverted,
-    /// A nested work of the section has failed, which has taken it back, and its error wasn't handed on. Nothing was done: the section stores
-    /// nothing more, and ends as one that has stored nothing. The [source](std::error::Error::source) is the nested work's own [`Error`]. The
-    /// heap goes on.
+    /// A nested work of the section has failed, or a nested guard was dropped without [`exit`](super::Held::exit), which has taken the section
+    /// back. Nothing was done: the section stores nothing more, and ends as one that has stored nothing. The heap goes on.
     Reverted,
     /// A write to the file failed, as on a full disk. Nothing is lost: it is made again by the next call that waits for it, and by the
     /// helper each second. What isn't acknowledged isn't durable yet.
@@ -43,16 +38,17 @@ pub enum ErrorKind {
     Running,
     /// The heap was closed, or stopped.
     Closed,
-    /// A sync of the file failed, and the heap was let go: what was acknowledged stays, and anything else may be lost, though the file
-    /// still reads as it was written. Mount the file system again, and open the heap again. Or the program has closed the heap's
-    /// descriptor.
-    Sync,
+    /// What had ended and wasn't acknowledged may be lost, and the heap has ended: a sync of the file has failed, after which the file may
+    /// still read as it was written; or a write has, of the last round of a [`stop`](super::Heap::stop) or
+    /// [`abandon`](super::Heap::abandon). The cause is the system's. What was acknowledged stays. Open the heap again; where that fails, mount
+    /// the file system again before. Or the program has closed the heap's descriptor.
+    Lost,
     /// The heap has stopped, mostly for want of memory: the cause is the library's refusal. What was acknowledged stays. Open it again.
     Stopped,
-    /// A thread panicked in a section that couldn't be taken back, or let a section go without its end; or
-    /// [`Heap::abandon`](super::Heap::abandon). The heap has stopped as a crash stops it: that section is dropped when the heap is opened
-    /// again, with all that depends on it. Anything else that had ended was made durable.
-    Panicked,
+    /// A section that couldn't be taken back has failed ([`Session::synchronized`](super::Session::synchronized) says when), or its guard was
+    /// forgotten; or [`Heap::abandon`](super::Heap::abandon). The heap has stopped as a crash stops it: that section is dropped when the heap
+    /// is opened again, with all that depends on it. Anything else that had ended was made durable.
+    Abandoned,
     /// The process was forked since the heap was opened: it is the parent's.
     Forked,
 }
@@ -62,14 +58,14 @@ impl ErrorKind {
     ///
     /// ```
     /// use zelamiku::service::ErrorKind;
-    /// assert!(ErrorKind::Sync.is_final());
+    /// assert!(ErrorKind::Lost.is_final());
     /// assert!(!ErrorKind::Write.is_final());
     /// ```
     #[must_use]
     pub fn is_final(self) -> bool {
         matches!(
             self,
-            ErrorKind::Closed | ErrorKind::Sync | ErrorKind::Stopped | ErrorKind::Panicked | ErrorKind::Forked
+            ErrorKind::Closed | ErrorKind::Lost | ErrorKind::Stopped | ErrorKind::Abandoned | ErrorKind::Forked
         )
     }
 }
@@ -128,8 +124,6 @@ enum Cause {
     Refusal(Refusal),
     System(io::Error),
     Difference(Difference),
-    // Of `Unreverted` and `Reverted`.
-    Work(Error),
 }
 
 struct Inner {
@@ -160,7 +154,7 @@ const WORDS: [(&str, &str); 5] = [
     ("with upgrades = 1", "with Options::upgrades(true)"),
     ("with reverts = 1", "with Options::reverts(true)"),
     ("without must_exist", "without Options::existing"),
-    ("the heap was abandoned", "a thread has panicked in a section, or the heap was abandoned"),
+    ("the heap was abandoned", "a section that couldn't be taken back has failed, or the heap was abandoned"),
 ];
 
 fn in_rust(text: String) -> String {
@@ -194,35 +188,26 @@ impl Error {
             Refusal::Closed => ErrorKind::Closed,
             // Another heap has the place of this one, which was closed.
             Refusal::Nothing => return Error::told(ErrorKind::Closed, path, Refusal::Closed.to_string()),
-            Refusal::Lost => ErrorKind::Sync,
+            Refusal::Lost => ErrorKind::Lost,
             Refusal::Fault | Refusal::Failed | Refusal::Stopped => ErrorKind::Stopped,
-            Refusal::Abandoned => ErrorKind::Panicked,
+            Refusal::Abandoned => ErrorKind::Abandoned,
             Refusal::Forked => ErrorKind::Forked,
             _ => ErrorKind::Refused,
         };
         Error::last(kind, path, refusal)
     }
 
-    /// Of a work that has failed by this, and whose section's stores stay.
-    pub(super) fn unreverted(path: &Arc<Path>, error: Error) -> Error {
-        let text = format!("{}; what the section had stored stays: it had freed a monitor before", error.text_at(path));
-        Error::new(ErrorKind::Unreverted, path, Cause::Work(error), text)
-    }
-
-    /// Of a section that was taken back, since a nested work has failed by this.
+    /// Of a section that was taken back.
     #[cold]
-    pub(super) fn reverted(path: &Arc<Path>, error: &Error) -> Error {
-        let text = format!("the section was taken back, since a nested work has failed: {}", error.text_at(path));
-        Error::new(ErrorKind::Reverted, path, Cause::Work(error.clone()), text)
+    pub(super) fn reverted(path: &Arc<Path>) -> Error {
+        let text = "the section was taken back: a nested work has failed, or a nested guard was dropped; hand its error on, or end it by exit()";
+        Error::told(ErrorKind::Reverted, path, text)
     }
 
-    // What it says where this path is told before.
-    fn text_at(&self, path: &Path) -> String {
-        if self.path() == path {
-            self.0.text.clone()
-        } else {
-            self.to_string()
-        }
+    /// Of a section without a monitor.
+    #[cold]
+    pub(super) fn no_object(path: &Arc<Path>) -> Error {
+        Error::new(ErrorKind::Refused, path, Cause::Refusal(Refusal::Empty), "enter: no object is named; name one, or several".into())
     }
 
     /// Of a write of a round that was awaited, in the thread's last call.
@@ -299,8 +284,7 @@ impl Error {
         &self.0.path
     }
 
-    /// The library's refusal, where one is the cause: of [`ErrorKind::Refused`], [`ErrorKind::Opening`] and [`ErrorKind::Stopped`]. Of
-    /// [`ErrorKind::Unreverted`] and [`ErrorKind::Reverted`] it is that of the work's own error.
+    /// The library's refusal, where one is the cause: of [`ErrorKind::Refused`], [`ErrorKind::Opening`] and [`ErrorKind::Stopped`].
     ///
     /// ```
     /// # use zelamiku::service::Heap;
@@ -314,7 +298,6 @@ impl Error {
     pub fn refusal(&self) -> Option<Refusal> {
         match &self.0.cause {
             Cause::Refusal(refusal) => Some(*refusal),
-            Cause::Work(error) => error.refusal(),
             _ => None,
         }
     }
@@ -357,7 +340,6 @@ impl std::error::Error for Error {
         match &self.0.cause {
             Cause::Refusal(refusal) => Some(refusal),
             Cause::System(error) => Some(error),
-            Cause::Work(error) => Some(error),
             Cause::Told | Cause::Difference(_) => None,
         }
     }

@@ -1,7 +1,7 @@
 //! A heap in a file for a program's threads: made or recovered, locked, with a helper's thread of its own.
 //!
 //! ```
-//! use zelamiku::service::Heap;
+//! use zelamiku::service::{Error, Heap};
 //!
 //! # let folder = std::env::temp_dir().join(format!("zelamiku-five-{}", std::process::id()));
 //! # std::fs::create_dir_all(&folder)?;
@@ -14,7 +14,7 @@
 //! let ticket = session.synchronized(DESK, |desk| {
 //!     let ticket = desk.load(NEXT)?;
 //!     desk.store(NEXT, ticket + 1)?;
-//!     Ok(ticket)
+//!     Ok::<_, Error>(ticket) // or an error of the program's own, which takes the store back
 //! })?;
 //! session.durable()?; // returns when no crash loses it: nobody gets this ticket again
 //! heap.close()?;
@@ -24,8 +24,8 @@
 //!
 //! Threads enter monitors, load and store the fields that they guard, wait and notify, as Java's do. What a session does from its first
 //! monitor to the moment that it holds none is a section. After a crash each section is there whole or not at all, with all that it
-//! depends on; once [`Session::durable`] has answered, no crash loses what the session had ended. A section whose work answers an error
-//! or panics is taken back ([`Session::synchronized`]).
+//! depends on; once [`Session::durable`] has answered, no crash loses what the session had ended. A section that fails is taken back: by an
+//! error or a panic of its work ([`Session::synchronized`]), or by a guard that is dropped without [`exit`](Held::exit).
 //!
 //! The helper, a thread of the library, makes rounds while there is work, and makes their calls on the file; without work it sleeps, and no
 //! thread that waits spins but for a moment. A round comes when a thread waits for one ([`Session::durable`], or a lane without room), when
@@ -313,23 +313,26 @@ impl Options {
         self.fingerprint(hash_of(names))
     }
 
-    /// Whether a section can be taken back, as it is where this isn't said: where the work of a [`synchronized`](Session::synchronized)
-    /// fails or panics, and by [`Held::revert`]. A section has room for fewer stores then: of its 1,000 records one is kept for the old value
-    /// of each field that it stores to, so it stores to 499 fields under one monitor; and the heap takes 24 bytes of memory a lane and field.
-    /// With `false` a section has room for 998 stores, what a work has stored that fails stays, and a panic in a section stops the heap.
+    /// Whether a section that fails is taken back, as it is where this isn't said. A section has room for fewer stores then: of its 1,000
+    /// records one is kept for the old value of each field that it stores to, so it stores to 499 fields under one monitor; and the heap takes
+    /// 24 bytes of memory a lane and field. With `false` a section has room for 998 stores, and one that fails once it has stored stops the
+    /// heap ([`ErrorKind::Abandoned`]): the next opening drops it.
     ///
     /// ```
-    /// # use zelamiku::service::Heap;
+    /// # use zelamiku::service::{ErrorKind, Heap};
     /// # let path = std::env::temp_dir().join(format!("zelamiku-without-{}", std::process::id()));
     /// # let _ = std::fs::remove_file(&path);
-    /// let heap = Heap::options().objects(1).field(0, 0, 100).reverts(false).open(&path)?;
+    /// let options = Heap::options().objects(1).field(0, 0, 100).reverts(false);
+    /// let heap = options.clone().open(&path)?;
     /// let mut session = heap.session()?;
     /// let failed = session.synchronized(0, |s| {
     ///     s.store(0, 90)?;
     ///     s.load(7) // there is no such field
     /// });
     /// assert!(failed.is_err());
-    /// assert_eq!(session.synchronized(0, |s| s.load(0))?, 90);
+    /// assert_eq!(session.durable().unwrap_err().kind(), ErrorKind::Abandoned);
+    /// drop((session, heap));
+    /// assert_eq!(options.open(&path)?.session()?.synchronized(0, |s| s.load(0))?, 100);
     /// # std::fs::remove_file(path)?;
     /// # Ok::<(), Box<dyn std::error::Error>>(())
     /// ```
@@ -471,7 +474,6 @@ impl Heap {
         let mut opening = Opening {
             path,
             heap: HeapNumber::default(),
-            reverts: options.reverts,
             hook: options.hook.map(Box::new),
             waiter: Arc::default(),
         };
@@ -603,9 +605,12 @@ impl Heap {
         self.opening.answer(self.opening.heap.close())
     }
 
-    /// Stops the heap for all its sessions: those that sleep, for a monitor or in a wait, answer [`ErrorKind::Closed`], and each call
+    /// Stops the heap for all its sessions: those that sleep, for a monitor or in a wait, return [`ErrorKind::Closed`], and each call
     /// does from then on. What has ended is made durable first, but for what depends on a section that hasn't. For a program that ends
     /// while threads wait, or because one of them has failed; [`close`](Heap::close) is refused then.
+    ///
+    /// [`ErrorKind::Lost`]: what had ended couldn't be made durable, and may be lost; the heap has ended all the same, and each call returns
+    /// that from then on. Any other final kind: so it had ended before.
     ///
     /// ```
     /// # use zelamiku::service::{ErrorKind, Heap};
@@ -613,19 +618,18 @@ impl Heap {
     /// # let _ = std::fs::remove_file(&path);
     /// let heap = Heap::options().objects(1).field(0, 0, 100).open(&path)?;
     /// let mut session = heap.session()?;
-    /// let thread = std::thread::spawn(move || session.synchronized(0, |s| s.wait()));
-    /// heap.stop();
+    /// let thread = std::thread::spawn(move || session.synchronized(0, |s| s.wait(0)));
+    /// heap.stop()?;
     /// assert_eq!(thread.join().unwrap().unwrap_err().kind(), ErrorKind::Closed);
     /// # std::fs::remove_file(path)?;
     /// # Ok::<(), Box<dyn std::error::Error>>(())
     /// ```
-    pub fn stop(&self) {
-        // At its end it answers why, which its sessions are told.
-        let _ = self.opening.heap.stop();
+    pub fn stop(&self) -> Result<(), Error> {
+        self.opening.answer(self.opening.heap.stop())
     }
 
-    /// The same, and calls answer [`ErrorKind::Panicked`] from then on, as after a panic in a section: for a heap one of whose threads
-    /// has failed inside of its section. The next open drops that section, with all that depends on it.
+    /// The same, and calls return [`ErrorKind::Abandoned`] from then on, as after a section that fails and can't be taken back. The next
+    /// opening drops each section that hasn't ended, with all that depends on it.
     ///
     /// ```
     /// # use zelamiku::service::{ErrorKind, Heap};
@@ -635,8 +639,8 @@ impl Heap {
     /// let mut session = heap.session()?;
     /// let mut guard = session.enter(0)?;
     /// guard.store(0, 90)?;
-    /// heap.abandon();
-    /// assert_eq!(guard.store(0, 80).unwrap_err().kind(), ErrorKind::Panicked);
+    /// heap.abandon()?;
+    /// assert_eq!(guard.store(0, 80).unwrap_err().kind(), ErrorKind::Abandoned);
     /// drop(guard);
     /// drop(heap);
     /// let heap = Heap::options().objects(1).field(0, 0, 100).open(&path)?;
@@ -644,8 +648,8 @@ impl Heap {
     /// # std::fs::remove_file(path)?;
     /// # Ok::<(), Box<dyn std::error::Error>>(())
     /// ```
-    pub fn abandon(&self) {
-        let _ = self.opening.heap.abandon();
+    pub fn abandon(&self) -> Result<(), Error> {
+        self.opening.answer(self.opening.heap.abandon())
     }
 
     /// Writes a copy of the heap, of a moment between two rounds, to the path: written beside it, synced, and renamed over what is there.
@@ -745,7 +749,7 @@ fn hash_of(names: &[&str]) -> u64 {
 impl Drop for Heap {
     fn drop(&mut self) {
         if self.close().is_err_and(|error| !error.kind().is_final()) {
-            self.stop();
+            let _ = self.stop();
         }
         self.opening.waiter.end();
     }

@@ -12,8 +12,6 @@ use std::sync::Arc;
 pub struct Opening {
     pub path: Arc<Path>,
     pub heap: HeapNumber,
-    /// Whether a section can be taken back.
-    pub reverts: bool,
     /// The library calls it until the heap is closed, and in calls of sessions.
     pub hook: Option<Box<Hook>>,
     /// Who wakes tasks.

@@ -1,6 +1,8 @@
 //! A session of a service, and the monitors that it holds.
 use super::durable::{Durable, Lent};
-use super::error::{Error, ErrorKind};
+use super::error::Error;
+#[cfg(doc)]
+use super::error::ErrorKind;
 use super::opening::Opening;
 use crate::raw::threads::{self, ThreadNumber};
 use crate::raw::{self, OK};
@@ -41,8 +43,8 @@ pub struct Session {
     lent: Arc<Lent>,
     // The sections that the lane had ended when the session began.
     earlier: u64,
-    // By what the open section was taken back, or the last one.
-    failed: Option<Error>,
+    // The open section was: it stores nothing more.
+    is_taken_back: bool,
 }
 
 impl fmt::Debug for Session {
@@ -68,7 +70,7 @@ impl Session {
             lane: thread.lane(),
             earlier: thread.earlier(),
             thread,
-            failed: None,
+            is_taken_back: false,
         })
     }
 
@@ -88,9 +90,10 @@ impl Session {
         Error::of(&self.opening.path, Refusal::from(status))
     }
 
-    /// Takes the object's monitor and answers a guard of it, which gives it back when it is dropped. The thread sleeps while another one
-    /// has the monitor, and while the lane has no room before a round. Threads that sleep for one monitor get it in the order in which
-    /// they came; one that comes while it is free takes it before them.
+    /// Takes the object's monitor and returns a guard of it. [`exit`](Held::exit) frees the monitor and keeps what the section has stored; a
+    /// guard that is dropped without it takes the section back. The thread sleeps while another one has the monitor, and while the lane has
+    /// no room before a round. Threads that sleep for one monitor get it in the order in which they came; one that comes while it is free
+    /// takes it before them.
     ///
     /// [`ErrorKind::Refused`] by `UnknownObject` or `Worn`; [`ErrorKind::Write`] where a round that was waited for can't write; each
     /// final kind.
@@ -109,20 +112,6 @@ impl Session {
     /// ```
     #[inline]
     pub fn enter(&mut self, object: u32) -> Result<Held<'_>, Error> {
-        self.begin_section();
-        self.take(object)
-    }
-
-    // No guard is held, since each has the session.
-    #[inline]
-    fn begin_section(&mut self) {
-        if self.failed.is_some() {
-            self.failed = None;
-        }
-    }
-
-    #[inline]
-    fn take(&mut self, object: u32) -> Result<Held<'_>, Error> {
         let status = self.thread.enter(object);
         self.answer(status)?;
         Ok(self.hold(object))
@@ -145,7 +134,6 @@ impl Session {
     /// # Ok::<(), Box<dyn std::error::Error>>(())
     /// ```
     pub fn try_enter(&mut self, object: u32) -> Result<Option<Held<'_>>, Error> {
-        self.begin_section();
         let status = self.thread.try_enter(object);
         self.held_or_none(object, status)
     }
@@ -166,7 +154,6 @@ impl Session {
     /// # Ok::<(), Box<dyn std::error::Error>>(())
     /// ```
     pub fn enter_until(&mut self, object: u32, deadline: Instant) -> Result<Option<Held<'_>>, Error> {
-        self.begin_section();
         let status = self.thread.enter_until(object, time_of(deadline));
         self.held_or_none(object, status)
     }
@@ -181,122 +168,134 @@ impl Session {
 
     #[inline]
     fn hold(&mut self, object: u32) -> Held<'_> {
-        Held {
-            session: self,
-            object,
-            was_panicking: std::thread::panicking(),
-        }
+        Held { session: self, object }
     }
 
     /// Does the work while the object's monitor is held. With the outermost monitor a section ends.
     ///
-    /// Where the work answers an error, or panics, the section is taken back first: each field has the value again that it had before the
-    /// section's first store to it, and each slot of a pool is taken or free as before. Then the monitor is given back, the section ends as
-    /// one that has stored nothing, and the error is answered, or the panic goes on. The heap goes on too. Notifications aren't taken back.
+    /// Where the work returns an error, of any type that `?` makes of an [`Error`], or panics, the section is taken back: each field has the
+    /// value again that it had before the section's first store to it, and each slot of a pool is taken or free as before. Then the monitor is
+    /// freed, the section ends as one that has stored nothing, and the error is returned, or the panic goes on. The heap goes on too.
+    /// Notifications aren't taken back.
     ///
-    /// In a nested `synchronized` it is the whole section that is taken back, with what the outer work has stored. So hand its error on: a
-    /// section that goes on stores nothing more ([`ErrorKind::Reverted`] of each call that would), and the outer work fails by that too where
-    /// it ends well. Half of a change is never kept.
+    /// A nested `synchronized` takes back the whole section, with what the outer work has stored. So hand its error on: a section that
+    /// goes on stores nothing more ([`ErrorKind::Reverted`] of each call that would), and the outer work fails by that where it ends well.
     ///
-    /// A wait ends what can be taken back. Where only this monitor is held, the wait ends the section: what was stored before it stays. With
-    /// another monitor held, or once a nested monitor was given back, what was stored under the monitor that was freed can't be taken back,
-    /// and the rest of the section isn't either: the work's error is the [source](std::error::Error::source) of one of
-    /// [`ErrorKind::Unreverted`] then, and a panic stops the heap ([`ErrorKind::Panicked`]). With
-    /// [`Options::reverts(false)`](super::Options::reverts) nothing is taken back: what was stored before the error stays, and a panic
-    /// stops the heap.
+    /// A section can be taken back while it holds each monitor under which it has stored. Where it has freed one, at the end of a nested work
+    /// or by a wait, and then fails, the heap stops as by [`Heap::abandon`](super::Heap::abandon), since other threads may have seen half of
+    /// a change: the next opening drops the section. So take the monitors by one [`synchronized_all`](Session::synchronized_all). A wait with
+    /// no other monitor held ends a section: what was stored before it stays. A heap that was opened with
+    /// [`Options::reverts(false)`](super::Options::reverts) takes nothing back, and stops where a section fails that has stored.
     ///
     /// It fails as [`enter`](Session::enter) and the work do.
     ///
     /// ```
-    /// # use zelamiku::service::Heap;
+    /// # use zelamiku::service::{Error, Heap, Session};
     /// # let path = std::env::temp_dir().join(format!("zelamiku-reverts-{}", std::process::id()));
     /// # let _ = std::fs::remove_file(&path);
     /// # let heap = Heap::options().objects(2).field(0, 0, 90).field(1, 1, 110).open(&path)?;
     /// # let mut session = heap.session()?;
-    /// let mut transfer = |from, to, amount| {
-    ///     session.synchronized(from, |s| {
-    ///         let balance = s.load(from)?;
-    ///         s.store(from, balance - amount)?;
-    ///         s.synchronized(to, |s| {
-    ///             let balance = s.load(to)?;
-    ///             s.store(to, balance + amount)
-    ///         })
+    /// #[derive(Debug, PartialEq)]
+    /// enum Failed {
+    ///     TooLittle(u64),
+    ///     Heap(String),
+    /// }
+    /// impl From<Error> for Failed {
+    ///     fn from(error: Error) -> Failed {
+    ///         Failed::Heap(error.to_string())
+    ///     }
+    /// }
+    /// fn pay(session: &mut Session, amount: u64) -> Result<(), Failed> {
+    ///     session.synchronized(0, |account| {
+    ///         let before = account.load(0)?;
+    ///         account.store(0, before.wrapping_sub(amount))?;
+    ///         if before < amount {
+    ///             return Err(Failed::TooLittle(before)); // takes the store back
+    ///         }
+    ///         Ok(())
     ///     })
-    /// };
-    /// transfer(0, 1, 10)?;
-    /// transfer(0, 7, 10).unwrap_err(); // there is no such account
+    /// }
+    /// assert_eq!(pay(&mut session, 10), Ok(()));
+    /// assert_eq!(pay(&mut session, 100), Err(Failed::TooLittle(80)));
     /// assert_eq!(session.synchronized(0, |s| s.load(0))?, 80);
     /// # std::fs::remove_file(path)?;
     /// # Ok::<(), Box<dyn std::error::Error>>(())
     /// ```
     #[inline]
-    pub fn synchronized<T>(
+    pub fn synchronized<T, E: From<Error>>(
         &mut self,
         object: u32,
-        work: impl FnOnce(&mut Held<'_>) -> Result<T, Error>,
-    ) -> Result<T, Error> {
-        self.begin_section();
-        self.within(object, work)
-    }
-
-    #[inline]
-    fn within<T>(&mut self, object: u32, work: impl FnOnce(&mut Held<'_>) -> Result<T, Error>) -> Result<T, Error> {
-        let status = self.thread.enter(object);
-        self.answer(status)?;
-        // Nothing but a panic of the work drops it.
-        let mut held = Held {
-            session: self,
-            object,
-            was_panicking: false,
-        };
-        let answer = match work(&mut held) {
-            Ok(answer) => held.session.goes_on().map(|()| answer),
-            Err(error) => Err(held.session.taken_back(error)),
-        };
-        let left = ManuallyDrop::new(held).leave();
-        let answer = answer?;
-        left?;
+        work: impl FnOnce(&mut Held<'_>) -> Result<T, E>,
+    ) -> Result<T, E> {
+        let mut held = self.enter(object)?;
+        // An error drops the guard, and so does a panic.
+        let answer = work(&mut held)?;
+        held.exit()?;
         Ok(answer)
     }
 
-    // Whether the section may store, or end well: not once a nested work has failed, which has taken it back.
+    /// Does the work while all these monitors are held, as [`synchronized`](Session::synchronized) does with one. They are taken in the order of
+    /// their objects, whichever is named first, so that no two threads that take theirs in this way wait for each other.
+    ///
+    /// [`ErrorKind::Refused`] by `Empty` where no object is named, and by `TooMany` where more than 16 are. Else it fails as `synchronized`
+    /// does. Where a monitor can't be taken, those before it are freed: this was a section that has stored nothing.
+    ///
+    /// ```
+    /// # use zelamiku::service::{Error, Heap, Session};
+    /// # let path = std::env::temp_dir().join(format!("zelamiku-all-{}", std::process::id()));
+    /// # let _ = std::fs::remove_file(&path);
+    /// # let heap = Heap::options().objects(2).field(0, 0, 90).field(1, 1, 110).open(&path)?;
+    /// # let mut session = heap.session()?;
+    /// fn transfer(session: &mut Session, from: u32, to: u32, amount: u64) -> Result<(), Error> {
+    ///     session.synchronized_all(&[from, to], |both| {
+    ///         let before = (both.load(from)?, both.load(to)?);
+    ///         both.store(from, before.0 - amount)?;
+    ///         both.store(to, before.1 + amount)
+    ///     })
+    /// }
+    /// transfer(&mut session, 1, 0, 10)?;
+    /// assert_eq!(session.synchronized(0, |s| s.load(0))?, 100);
+    /// # std::fs::remove_file(path)?;
+    /// # Ok::<(), Box<dyn std::error::Error>>(())
+    /// ```
+    pub fn synchronized_all<T, E: From<Error>>(
+        &mut self,
+        objects: &[u32],
+        work: impl FnOnce(&mut Held<'_>) -> Result<T, E>,
+    ) -> Result<T, E> {
+        let mut objects = objects.to_vec();
+        objects.sort_unstable();
+        objects.dedup();
+        let mut work = Some(work);
+        self.within(&objects, &mut |held| work.take().expect("once")(held))
+    }
+
+    // Each monitor inside of the one before.
+    fn within<T, E: From<Error>>(&mut self, objects: &[u32], work: &mut dyn FnMut(&mut Held<'_>) -> Result<T, E>) -> Result<T, E> {
+        match objects {
+            [] => Err(Error::no_object(&self.opening.path).into()),
+            [object] => self.synchronized(*object, work),
+            [object, others @ ..] => self.synchronized(*object, |held| held.session.within(others, work)),
+        }
+    }
+
+    // Whether the section may store, or end well.
     #[inline]
     fn goes_on(&self) -> Result<(), Error> {
-        match &self.failed {
-            None => Ok(()),
-            Some(error) => Err(Error::reverted(&self.opening.path, error)),
+        if self.is_taken_back {
+            return Err(Error::reverted(&self.opening.path));
         }
+        Ok(())
     }
 
-    // What a section comes to whose work has failed by this error, which may be of another heap.
-    #[cold]
-    #[inline(never)]
-    fn taken_back(&mut self, error: Error) -> Error {
-        if !self.opening.reverts {
-            return error;
-        }
+    // The open section has failed: it is taken back, or the next opening drops it.
+    fn take_back(&mut self) {
         let status = self.thread.revert();
-        if status == OK {
-            self.failed.get_or_insert_with(|| error.clone());
-            return error;
+        self.is_taken_back = status == OK;
+        // Else the heap has ended, and has cut the section off.
+        if matches!(Refusal::from(status), Refusal::NotHeld | Refusal::WrongKind) {
+            let _ = self.opening.heap.abandon();
         }
-        // At the heap's end the section is dropped by the next opening. And an inner work has told it already where it left several.
-        let is_told = error.kind() == ErrorKind::Unreverted || self.refused(status).kind().is_final();
-        if is_told {
-            error
-        } else {
-            Error::unreverted(&self.opening.path, error)
-        }
-    }
-
-    // Whether nothing is left of what the open section has stored, in which a thread has panicked.
-    #[cold]
-    fn is_taken_back(&mut self) -> bool {
-        let is_taken_back = self.opening.reverts && self.thread.revert() == OK;
-        if is_taken_back {
-            self.failed = Some(Error::told(ErrorKind::Reverted, &self.opening.path, "it has panicked"));
-        }
-        is_taken_back
     }
 
     /// The session's lane, from 0 on: the log of the file that has its sections. Another session may have it before and after this one.
@@ -511,36 +510,40 @@ impl Drop for Session {
     }
 }
 
-/// A monitor that a session holds. It is given back when this is dropped, and with the outermost the section ends: with what it has stored by
-/// then, also where an early return drops it. [`revert`](Held::revert) takes that back before; [`Session::synchronized`] does it by itself.
+/// A monitor that a session holds. [`exit`](Held::exit) frees it, and keeps what the section has stored, once the outermost one is freed.
 ///
-/// A panic while it is held takes the section back, and the monitor is given back then: nobody ever sees a half of it, and the heap goes on.
-/// What can't be taken back ([`Session::synchronized`] says when) stops the heap, as a crash would: the section is dropped when the heap is
-/// opened again, and all other threads' calls answer [`ErrorKind::Panicked`] from then on. A guard that is forgotten (`mem::forget`) does
-/// that too, once its session is dropped.
+/// A guard that is dropped without `exit` takes the section back, as the failing work of a [`Session::synchronized`] does: by `?`, by an early
+/// return, by a panic, and at its block's end. So half of a change is never kept. A section that has only loaded needs no `exit`, where this
+/// is its one guard; else the outer guard's `exit` returns [`ErrorKind::Reverted`]. What can't be taken back, as that says, stops the heap as a
+/// crash would: the next opening drops the section, and each call returns [`ErrorKind::Abandoned`] from then on. A guard that is forgotten
+/// (`mem::forget`) does that too, once its session is dropped.
 ///
 /// ```
-/// use zelamiku::service::Heap;
-/// # let path = std::env::temp_dir().join(format!("zelamiku-panic-{}", std::process::id()));
+/// use zelamiku::service::{Error, Heap, Session};
+/// # let path = std::env::temp_dir().join(format!("zelamiku-guard-{}", std::process::id()));
 /// # let _ = std::fs::remove_file(&path);
-/// let heap = Heap::options().objects(1).field(0, 0, 5).open(&path)?;
-/// let mut session = heap.session()?;
-/// let thread = std::thread::spawn(move || {
-///     let mut guard = session.enter(0).unwrap();
-///     guard.store(0, 6).unwrap();
-///     panic!("in the middle of a section");
-/// });
-/// assert!(thread.join().is_err());
-/// assert_eq!(heap.session()?.synchronized(0, |s| s.load(0))?, 5);
+/// # let heap = Heap::options().objects(2).field(0, 0, 90).field(1, 1, 110).open(&path)?;
+/// # let mut session = heap.session()?;
+/// fn transfer(session: &mut Session, from: u32, to: u32) -> Result<(), Error> {
+///     let mut one = session.enter(from)?;
+///     let balance = one.load(from)?;
+///     one.store(from, balance - 10)?;
+///     let mut both = one.enter(to)?; // an error takes the store back
+///     let balance = both.load(to)?;
+///     both.store(to, balance + 10)?;
+///     both.exit()?;
+///     one.exit()
+/// }
+/// transfer(&mut session, 0, 1)?;
+/// assert!(transfer(&mut session, 0, 7).is_err());
+/// assert_eq!(session.enter(0)?.load(0)?, 80);
 /// # std::fs::remove_file(path)?;
 /// # Ok::<(), Box<dyn std::error::Error>>(())
 /// ```
-#[must_use = "the monitor is given back as soon as this is dropped"]
+#[must_use = "the section is taken back as soon as this is dropped"]
 pub struct Held<'session> {
     session: &'session mut Session,
     object: u32,
-    // A monitor that is taken while a panic unwinds is no part of it.
-    was_panicking: bool,
 }
 
 impl fmt::Debug for Held<'_> {
@@ -573,7 +576,8 @@ impl Held<'_> {
 
     /// Stores a field whose guard is held. [`ErrorKind::Refused`] by `UnknownField`, `NotHeld`, or `SectionFull` where the section
     /// would have more than 1,000 records, with those that take it back ([`Options::reverts`](super::Options::reverts)): nothing was stored
-    /// then, and what was stored before is there. [`ErrorKind::Reverted`] where the section was taken back, since a nested work has failed.
+    /// then, and what was stored before is there. [`ErrorKind::Reverted`] where a nested work has failed or a nested guard was dropped, which has
+    /// taken the section back.
     ///
     /// ```
     /// # use zelamiku::service::Heap;
@@ -600,13 +604,13 @@ impl Held<'_> {
     /// [`ErrorKind::Reverted`]: nothing was stored then.
     ///
     /// ```
-    /// # use zelamiku::{service::Heap, Pool};
+    /// # use zelamiku::{Error, Heap, Pool};
     /// # let path = std::env::temp_dir().join(format!("zelamiku-take-{}", std::process::id()));
     /// # let _ = std::fs::remove_file(&path);
     /// const SEATS: Pool = Pool::new(0, 2);
     /// let heap = Heap::options().objects(1).pool(SEATS, 0).open(&path)?;
     /// let mut session = heap.session()?;
-    /// let taken = session.synchronized(0, |s| Ok([s.take(SEATS)?, s.take(SEATS)?, s.take(SEATS)?]))?;
+    /// let taken = session.synchronized(0, |s| Ok::<_, Error>([s.take(SEATS)?, s.take(SEATS)?, s.take(SEATS)?]))?;
     /// assert_eq!(taken, [Some(0), Some(1), None]);
     /// # std::fs::remove_file(path)?;
     /// # Ok::<(), Box<dyn std::error::Error>>(())
@@ -669,37 +673,37 @@ impl Held<'_> {
     /// ```
     #[inline]
     pub fn enter(&mut self, object: u32) -> Result<Held<'_>, Error> {
-        self.session.take(object)
+        self.session.enter(object)
     }
 
     /// Does the work while one more monitor is held, as [`Session::synchronized`] does.
     ///
     /// ```
-    /// # use zelamiku::service::Heap;
+    /// # use zelamiku::{Error, Heap};
     /// # let path = std::env::temp_dir().join(format!("zelamiku-nested-work-{}", std::process::id()));
     /// # let _ = std::fs::remove_file(&path);
     /// # let heap = Heap::options().objects(2).field(0, 0, 1).field(1, 1, 2).open(&path)?;
     /// # let mut session = heap.session()?;
-    /// let sum = session.synchronized(0, |s| s.synchronized(1, |s| Ok(s.load(0)? + s.load(1)?)))?;
+    /// let sum = session.synchronized(0, |s| s.synchronized(1, |s| Ok::<_, Error>(s.load(0)? + s.load(1)?)))?;
     /// assert_eq!(sum, 3);
     /// # std::fs::remove_file(path)?;
     /// # Ok::<(), Box<dyn std::error::Error>>(())
     /// ```
     #[inline]
-    pub fn synchronized<T>(
+    pub fn synchronized<T, E: From<Error>>(
         &mut self,
         object: u32,
-        work: impl FnOnce(&mut Held<'_>) -> Result<T, Error>,
-    ) -> Result<T, Error> {
-        self.session.within(object, work)
+        work: impl FnOnce(&mut Held<'_>) -> Result<T, E>,
+    ) -> Result<T, E> {
+        self.session.synchronized(object, work)
     }
 
-    /// Frees this monitor, by all its locks, sleeps until another session notifies it, and takes it again by as many (JLS 17.2.1). It
+    /// Frees the object's monitor, by all its locks, sleeps until another session notifies it, and takes it again by as many (JLS 17.2.1). It
     /// isn't woken by anything else. Where no other monitor is held the section ends with it, and the next one begins when it goes on:
     /// what was loaded before may be otherwise by then.
     ///
-    /// [`ErrorKind::Refused`] by `Behind`, `SectionFull`, `NoFat` or `Worn`, [`ErrorKind::Write`] where a round that was waited for can't
-    /// write, and [`ErrorKind::Reverted`] where a nested work has failed: the monitor is held as before. Each final kind: it isn't.
+    /// [`ErrorKind::Refused`] by `NotHeld`, `Behind`, `SectionFull`, `NoFat` or `Worn`, [`ErrorKind::Write`] where a round that was waited for
+    /// can't write, and [`ErrorKind::Reverted`] where a nested work has failed: what is held stays as it was. Each final kind: it isn't.
     ///
     /// ```
     /// # use zelamiku::service::Heap;
@@ -710,27 +714,27 @@ impl Held<'_> {
     /// let thread = std::thread::spawn(move || {
     ///     consumer.synchronized(0, |s| {
     ///         while s.load(0)? == 0 {
-    ///             s.wait()?;
+    ///             s.wait(0)?;
     ///         }
     ///         s.load(0)
     ///     })
     /// });
     /// producer.synchronized(0, |s| {
     ///     s.store(0, 7)?;
-    ///     s.notify_all()
+    ///     s.notify_all(0)
     /// })?;
     /// assert_eq!(thread.join().unwrap()?, 7);
     /// # std::fs::remove_file(path)?;
     /// # Ok::<(), Box<dyn std::error::Error>>(())
     /// ```
-    pub fn wait(&mut self) -> Result<(), Error> {
+    pub fn wait(&mut self, object: u32) -> Result<(), Error> {
         self.session.goes_on()?;
-        let status = self.session.thread.wait(self.object);
+        let status = self.session.thread.wait(object);
         self.session.answer(status)
     }
 
-    /// Wakes one session that waits for this monitor, and answers its [lane](Session::lane); `None` where none waits. It goes on once the
-    /// monitor is free. Which of several isn't promised, as Java promises nothing (JLS 17.2.2): one of them may never be it. Where each is
+    /// Wakes one session that waits for this object's monitor, which is held, and returns its [lane](Session::lane); `None` where none waits. It
+    /// goes on once the monitor is free. Which of several isn't promised, as Java promises nothing (JLS 17.2.2): one of them may never be it. Where each is
     /// to have its turn, wake all.
     ///
     /// ```
@@ -739,18 +743,18 @@ impl Held<'_> {
     /// # let _ = std::fs::remove_file(&path);
     /// # let heap = Heap::options().objects(1).field(0, 0, 0).open(&path)?;
     /// # let mut session = heap.session()?;
-    /// assert_eq!(session.synchronized(0, |s| s.notify())?, None);
+    /// assert_eq!(session.synchronized(0, |s| s.notify(0))?, None);
     /// # std::fs::remove_file(path)?;
     /// # Ok::<(), Box<dyn std::error::Error>>(())
     /// ```
-    pub fn notify(&mut self) -> Result<Option<u32>, Error> {
+    pub fn notify(&mut self, object: u32) -> Result<Option<u32>, Error> {
         let mut woken = raw::NOBODY;
-        let status = self.session.thread.notify(self.object, &mut woken);
+        let status = self.session.thread.notify(object, &mut woken);
         self.session.answer(status)?;
         Ok(lane(woken))
     }
 
-    /// Wakes all sessions that wait for this monitor, and answers their [lanes](Session::lane), the least first. In which order they go on
+    /// Wakes all sessions that wait for this object's monitor, which is held, and returns their [lanes](Session::lane), the least first. In which order they go on
     /// isn't promised.
     ///
     /// ```
@@ -759,13 +763,13 @@ impl Held<'_> {
     /// # let _ = std::fs::remove_file(&path);
     /// # let heap = Heap::options().objects(1).field(0, 0, 0).open(&path)?;
     /// # let mut session = heap.session()?;
-    /// assert!(session.synchronized(0, |s| s.notify_all())?.is_empty());
+    /// assert!(session.synchronized(0, |s| s.notify_all(0))?.is_empty());
     /// # std::fs::remove_file(path)?;
     /// # Ok::<(), Box<dyn std::error::Error>>(())
     /// ```
-    pub fn notify_all(&mut self) -> Result<Vec<u32>, Error> {
+    pub fn notify_all(&mut self, object: u32) -> Result<Vec<u32>, Error> {
         let mut woken = 0;
-        let status = self.session.thread.notify_all(self.object, &mut woken);
+        let status = self.session.thread.notify_all(object, &mut woken);
         self.session.answer(status)?;
         Ok((0..raw::NOBODY).filter(|lane| woken >> lane & 1 == 1).collect())
     }
@@ -774,12 +778,12 @@ impl Held<'_> {
     /// the section's first store to it, and each slot of a pool is taken or free as before. The monitors stay held, and the section goes
     /// on. It is for a work that ends well and has come to nothing; [`Session::synchronized`] does it where its work fails.
     ///
-    /// [`ErrorKind::Refused`] by `NotHeld` where the section has freed a monitor under which it had stored, by a wait or by giving a nested
-    /// one back: nothing is taken back then. By `WrongKind` where the heap was opened with
+    /// [`ErrorKind::Refused`] by `NotHeld` where the section has freed a monitor under which it had stored, by a wait or at the end of a nested
+    /// work or guard: nothing is taken back then. By `WrongKind` where it has stored and the heap was opened with
     /// [`Options::reverts(false)`](super::Options::reverts). Each final kind.
     ///
     /// ```
-    /// # use zelamiku::service::Heap;
+    /// # use zelamiku::{Error, Heap};
     /// # let path = std::env::temp_dir().join(format!("zelamiku-revert-{}", std::process::id()));
     /// # let _ = std::fs::remove_file(&path);
     /// # let heap = Heap::options().objects(2).field(0, 0, 100).field(1, 1, 0).open(&path)?;
@@ -789,7 +793,7 @@ impl Held<'_> {
     ///     from.store(0, balance - 10)?;
     ///     if from.synchronized(1, |to| to.load(1))? == 0 {
     ///         from.revert()?; // to an account that was closed nothing is paid
-    ///         return Ok(false);
+    ///         return Ok::<_, Error>(false);
     ///     }
     ///     Ok(true)
     /// })?;
@@ -803,9 +807,10 @@ impl Held<'_> {
         self.session.answer(status)
     }
 
-    /// Gives the monitor back, as dropping it does, and tells what can't be told there. Each final kind: the section hasn't ended, and the
-    /// next opening drops it. [`ErrorKind::Reverted`]: a nested work has failed, so nothing that the section had stored is there; the monitor
-    /// was given back.
+    /// Frees the monitor. With the outermost one the section ends, and what it has stored stays.
+    ///
+    /// [`ErrorKind::Reverted`]: a nested work has failed, or a nested guard was dropped, so nothing that the section had stored is there; the
+    /// monitor was freed. Each final kind: the section hasn't ended, and the next opening drops it.
     ///
     /// ```
     /// # use zelamiku::service::Heap;
@@ -821,27 +826,26 @@ impl Held<'_> {
     #[inline]
     pub fn exit(self) -> Result<(), Error> {
         let mut held = ManuallyDrop::new(self);
+        let goes_on = held.session.goes_on();
         held.leave()?;
-        held.session.goes_on()
+        goes_on
     }
 
-    // Gives one lock back. One that a wait has lost with its heap isn't there any more, and is refused.
+    // Frees one lock. One that a wait has lost with its heap isn't there any more, and is refused.
     #[inline]
     fn leave(&mut self) -> Result<(), Error> {
         let status = self.session.thread.exit(self.object);
+        // The next section is none of that.
+        self.session.is_taken_back &= self.session.thread.is_open();
         self.session.answer(status)
     }
 }
 
 impl Drop for Held<'_> {
     fn drop(&mut self) {
-        let is_unwound = !self.was_panicking && std::thread::panicking();
-        if is_unwound && !self.session.is_taken_back() {
-            let _ = self.session.opening.heap.abandon();
-        } else {
-            // A guard can't say that the heap's end has cut off its section. The session does: its `durable` and `durable_by` from then on, and
-            // each call that would enter.
-            let _ = self.leave();
-        }
+        self.session.take_back();
+        // A guard can't report that the heap's end has cut off its section. The session does: its `durable` and `durable_by` from then on, and
+        // each call that would enter.
+        let _ = self.leave();
     }
 }

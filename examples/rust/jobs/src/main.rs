@@ -68,7 +68,7 @@ fn consume(mut session: Session, mut last: u32, is_over: &AtomicBool) -> Result<
 // What a thread's work answers. One that has failed leaves others that would wait for it: they are told.
 fn tell_others(heap: &Heap, answer: Result<(), Failure>) -> Result<(), Failure> {
     if answer.is_err() {
-        heap.stop();
+        let _ = heap.stop(); // the answer says more
     }
     answer
 }

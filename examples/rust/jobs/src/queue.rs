@@ -130,7 +130,7 @@ pub fn put(session: &mut Session, producer: u32, payload: impl Fn(u64) -> u64) -
         let slot = loop {
             match queue.take(SLOTS)? {
                 Some(slot) => break slot,
-                None => queue.wait()?,
+                None => queue.wait(QUEUE)?,
             }
         };
         let number = queue.load(of(producer, Of::Put))? + 1;
@@ -143,7 +143,7 @@ pub fn put(session: &mut Session, producer: u32, payload: impl Fn(u64) -> u64) -
         }
         queue.store(of(producer, Of::Last), link_to(slot))?;
         queue.store(of(producer, Of::Put), number)?;
-        queue.notify_all()?;
+        queue.notify_all(QUEUE)?;
         Ok(number)
     })
 }
@@ -169,7 +169,7 @@ pub fn take(session: &mut Session, last: u32, is_over: impl Fn() -> bool) -> Res
         if is_empty && is_over() {
             return Ok(None);
         }
-        queue.wait()?;
+        queue.wait(QUEUE)?;
     })
 }
 
@@ -188,11 +188,11 @@ pub fn finish(session: &mut Session, job: Job) -> Result<(), Error> {
             queue.give(SLOTS, slot)?;
         }
         queue.store(in_hand(job.producer), 0)?;
-        queue.notify_all().map(|_| ())
+        queue.notify_all(QUEUE).map(|_| ())
     })
 }
 
 /// Wakes all that sleep in [`put`] and [`take`], to look again.
 pub fn wake_all(session: &mut Session) -> Result<(), Error> {
-    session.synchronized(QUEUE, |queue| queue.notify_all()).map(|_| ())
+    session.synchronized(QUEUE, |queue| queue.notify_all(QUEUE)).map(|_| ())
 }
