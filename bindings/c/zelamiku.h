@@ -194,7 +194,8 @@ enum {
 
 /* What the log hook is told: `level` is one of these, `text` one line without its end. It is called by the helper's thread, by one that
  * opens, closes, copies or waits for a round, or by one that has slept for a monitor for a second, and never while that thread has a mutex of
- * the library. It calls nothing of this heap. */
+ * the library. It calls nothing of this heap. It isn't called any more once the heap's close, stop or abandon has returned, or a failed
+ * open: these wait for a hook that is underway. */
 enum { ZELAMIKU_LOG_INFO = 0, ZELAMIKU_LOG_WARNING = 1, ZELAMIKU_LOG_ERROR = 2 };
 typedef void zelamiku_log(void *of, uint32_t level, const char *text);
 
@@ -216,7 +217,7 @@ typedef struct {
     uint32_t keeps_slice;         /* 1: threads keep the time slice that they have; 0: those that make rounds or wait for them ask for a short one */
     uint64_t fingerprint;         /* of the names that the fields have in the program, or any number: see zelamiku_heap_open. 0: none */
     zelamiku_log *log;            /* or NULL */
-    void *log_of;                 /* handed to it */
+    void *log_of;                 /* handed to it. It stays until the heap's close, stop or abandon has returned, or a failed open */
 } zelamiku_plan;
 
 /* In what the file's heap differs from the plan. */
@@ -326,7 +327,8 @@ ZELAMIKU_MUST_USE zelamiku_status zelamiku_heap_dropped(zelamiku_heap heap, size
 
 /* Closes the heap, whose sections have all ended, once all are durable. Threads that have lanes still are answered CLOSED.
  * RUNNING: a section is open, or a thread waits. DEVICE: a write has failed. The heap goes on in both cases. What the heap has ended with:
- * it is let go, and that answer says why. */
+ * it is let go, and that answer says why. A close, stop or abandon that comes while another thread is in one returns after that one has
+ * ended the heap, with what it has ended with. */
 ZELAMIKU_MUST_USE zelamiku_status zelamiku_heap_close(zelamiku_heap heap);
 
 /* The same for a heap whose threads are in sections or wait: these are answered CLOSED at once, also where they sleep. What has ended is

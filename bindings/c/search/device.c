@@ -49,6 +49,7 @@ static bool begin_call(device *it, bool is_sync) {
 /* A sync that has failed may have lost what was written. */
 static zelamiku_status end_call(device *it, bool is_failed, bool is_sync) {
     it->in_call--;
+    if (it->is_over) search_fail("a call of the device after the heap's end");
     errno = is_failed ? EIO : 0;
     return !is_failed ? ZELAMIKU_OK : is_sync ? ZELAMIKU_LOST : ZELAMIKU_DEVICE;
 }

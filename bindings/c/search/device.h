@@ -16,6 +16,7 @@ typedef struct {
     } *pending; /* writes since the last sync */
     size_t count, room;
     uint32_t in_call;  /* threads that make one now */
+    bool is_over;      /* the heap has ended: none comes any more */
     void (*fails)(void *of, device_fault fault); /* told before the call fails */
     void *of;
 } device;

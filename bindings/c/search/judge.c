@@ -20,17 +20,14 @@ void judge_begin(judge *it, uint32_t lanes, bool reverts) {
 void judge_ends(judge *it, zelamiku_status status) {
     it->ends |= 1u << (status - ZELAMIKU_LOST);
     it->closers += status == ZELAMIKU_CLOSED;
-    it->ending += status != ZELAMIKU_LOST;
     for (uint32_t lane = 0; lane < it->lanes; lane++)
         it->of[lane].slips_through |= it->of[lane].call == ENTERS || it->of[lane].call == WAITS;
 }
 
-/* What one of two calls is told may come before the other one, which does the work, has done it. */
+/* Of two calls that end the heap the later one waits until the other one, which does the work, has done it. */
 void judge_ended(judge *it, zelamiku_status status, bool is_refused) {
-    it->ending--;
     if (is_refused && status == ZELAMIKU_CLOSED && --it->closers == 0) it->ends &= ~(1u << (status - ZELAMIKU_LOST));
-    it->was_told |= !is_refused;
-    it->has_ended = it->was_told && it->ending == 0;
+    it->has_ended |= !is_refused;
 }
 
 bool judge_is_end(const judge *it, zelamiku_status status) {

@@ -62,9 +62,8 @@ typedef struct {
     uint64_t values[FIELDS];
     judged_lane of[MOST_LANES];
     uint32_t ends;        /* a bit for each status that a thread may be told as the heap's end */
-    uint32_t closers, ending; /* calls that end the heap by CLOSED; all that do and have yet to come back */
-    bool was_told;        /* one of these has come back */
-    bool has_ended;       /* and a thread must be told so: all of them have */
+    uint32_t closers;     /* calls that end the heap by CLOSED */
+    bool has_ended;       /* a call that ends it has come back: a thread must be told so, and the device and the log hook aren't called any more */
     bool has_trouble;     /* writes fail */
     judged_store *stores;
     size_t count, room;

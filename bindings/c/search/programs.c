@@ -64,6 +64,14 @@ static void look_at_crash(uint32_t heap, bool is_all) {
         look_at_file(&judges[heap], "heap", least);
 }
 
+/* The log hook, which lasts. */
+static void note_line(void *of, uint32_t level, const char *text) {
+    const judge *it = of;
+    (void)level;
+    search_step();
+    if (it->has_ended) search_fail("the log hook is called after the heap's end: %s", text);
+}
+
 static void end_heap(uint32_t heap, deed_kind kind) {
     judge *it = &judges[heap];
     zelamiku_status why = kind == ABANDON ? ZELAMIKU_ABANDONED : ZELAMIKU_CLOSED;
@@ -78,6 +86,7 @@ static void end_heap(uint32_t heap, deed_kind kind) {
     bool is_right = status == ZELAMIKU_OK || judge_is_end(it, status) || has_lost || is_refused;
     if (!is_right) search_fail("the end of heap %u answers %u", heap, status);
     judge_ended(it, why, is_refused);
+    devices[heap].is_over |= !is_refused;
     if (status != ZELAMIKU_OK) return;
     if (kind == CLOSE) judge_closed(it, &before);
     judge_settled(it, &before);
@@ -277,7 +286,9 @@ static void open_again(uint32_t heap) {
     bool may_be_over = it->ends != 0, must_be_over = it->has_ended, is_lone = opening++ == 0;
     uint32_t begun = ++opens_begun;
     judge_kept(it, false, least);
-    zelamiku_status status = zelamiku_heap_open(&other, "heap", &plan, &report);
+    zelamiku_plan unlogged = plan;
+    unlogged.log = NULL;
+    zelamiku_status status = zelamiku_heap_open(&other, "heap", &unlogged, &report);
     bool is_first = !is_opened_again; /* the next one finds what this one has left */
     is_opened_again |= status == ZELAMIKU_OK;
     is_lone &= begun == opens_begun;
@@ -501,7 +512,7 @@ static void make_plan(void) {
     fields[PASSING].owner = fields[PASSING].guard = 0;
     MUST(zelamiku_pool_fields(2, fields + POOL, FIELDS - POOL) == ZELAMIKU_OK, "no pool");
     plan = (zelamiku_plan){.fields = fields, .count = FIELDS, .objects = OBJECTS, .lanes = current->lanes, .capacity = current->capacity,
-                           .ring = current->ring, .linger = current->linger, .keeps_slice = 1, .reverts = current->reverts};
+                           .ring = current->ring, .linger = current->linger, .keeps_slice = 1, .reverts = current->reverts, .log = note_line};
 }
 
 static void make_file(judge *it) {
@@ -514,6 +525,8 @@ static void make_heap(uint32_t heap) {
     judge *it = &judges[heap];
     judge_begin(it, current->lanes, current->reverts);
     devices[heap].in_call = 0;
+    devices[heap].is_over = false;
+    plan.log_of = it;
     if (is_in_file(heap)) return make_file(it);
     device *on = &devices[heap];
     on->fault = NEVER_FAILS;

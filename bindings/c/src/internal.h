@@ -168,7 +168,8 @@ struct heap {
     bool is_led;             /* mutex: a thread leads */
     bool is_ending;          /* mutex: the helper is to end */
     bool is_troubled;        /* mutex: the last round's write has failed */
-    bool is_being_ended;     /* mutex: a thread closes or stops the heap for good */
+    bool is_being_ended;     /* mutex: a thread closes or stops the heap for good, */
+    bool has_ended;          /* mutex: and has: no call of the device or the log hook comes any more */
     uint32_t sessions_out;   /* mutex: how many threads are to free their sessions (`frees_session`) */
     uint32_t sleepers;       /* mutex: how many of those that wait are told by the next round's end */
     bool leader_waits;       /* mutex: who leads waits for that round itself */
@@ -194,6 +195,7 @@ struct heap {
     _Atomic uint64_t poll_until;            /* until when those without room look again, by zelamiku_now */
     _Atomic uint64_t spin_time;             /* how many nanoseconds one that waits for a round looks for its end before it sleeps */
     _Atomic uint64_t no_spin_before;        /* until so many rounds have ended nobody does: others want the processors */
+    _Atomic uint32_t hooks_underway;        /* threads that call the log hook, or are about to: who ends the heap waits for these */
     _Atomic uint64_t rounds, troubles;      /* that have ended; of which a write has failed */
     _Atomic int error;                      /* errno of the last of these, or of what the heap has ended with */
 };

@@ -1,7 +1,8 @@
 /* A heap's life once its device is open: begin, close, stop, abandon, stats, copy.
  *
  * Under the heap's mutex a heap ends (`end_status`), once; and one thread takes its ending over (`is_being_ended`): that one ends the
- * helper, waits until nobody leads, and lets all go. What is durable then is settled (`is_settled`), and no round comes after it. */
+ * helper, waits until nobody leads, and lets all go. What is durable then is settled (`is_settled`), and no round comes after it. Another
+ * thread that ends the heap too waits until that one has (`has_ended`). */
 /* ---- the beginning of a heap ---- */
 
 /* The seat as no thread has it, also of a lane that the heap doesn't have and one before had. By old handles others may look at its atomic
@@ -73,11 +74,11 @@ static void clear_place(heap *of, const zelamiku_plan *plan) {
     of->spin_time = 0;
     of->last_calls = of->affordable = of->syncs_made = of->syncs_before = of->turns = 0;
     of->urgent = of->waiting_to_lead = of->sessions_out = of->sleepers = of->loops = of->expected_sections = 0;
-    of->is_led = of->leader_waits = of->is_ending = of->is_troubled = of->is_being_ended = false;
+    of->is_led = of->leader_waits = of->is_ending = of->is_troubled = of->is_being_ended = of->has_ended = false;
     memset(&of->stats, 0, sizeof of->stats);
     for (unsigned i = 0; i < BUCKETS; i++) of->waiting[i] = 0;
     of->has_work = of->is_settled = of->awaiting = of->arrivals = of->expected = of->has_more = of->has_timer = of->has_reads = 0;
-    of->steps = of->poll_until = of->rounds = of->troubles = of->no_spin_before = 0;
+    of->steps = of->poll_until = of->rounds = of->troubles = of->no_spin_before = of->hooks_underway = 0;
 }
 
 /* Sets how many records a lane takes, by its ring and its log, and after how many a section's end asks for a round: three quarters of what is
@@ -269,10 +270,33 @@ static zelamiku_status tell_end(heap *of, zelamiku_status status, int error, con
     return fail(of->path, status, has_cause ? error : 0, status == ZELAMIKU_DEVICE ? "a write has failed" : NULL, NULL, "%s", call);
 }
 
+/* Under the mutex, which it gives back: another thread ends the heap. Returns once that has. */
+static zelamiku_status await_end(heap *of, const char *call) {
+    while (!of->has_ended) {
+        uint32_t seen = of->round_bell;
+        pthread_mutex_unlock(&of->mutex);
+        (void)sleep_on(&of->round_bell, seen, ZELAMIKU_NO_DEADLINE);
+        pthread_mutex_lock(&of->mutex);
+    }
+    pthread_mutex_unlock(&of->mutex);
+    return tell_end(of, (zelamiku_status)of->end_status, of->error, call);
+}
+
+/* The thread that ends the heap has let all go, and logged it: the calls that wait for that return, this one among them. */
+static zelamiku_status ended(heap *of, zelamiku_status status) {
+    await_hooks(of);
+    pthread_mutex_lock(&of->mutex);
+    of->has_ended = true;
+    pthread_mutex_unlock(&of->mutex);
+    tell_all(of);
+    return status;
+}
+
 static zelamiku_status close_heap(heap *of) {
     pthread_mutex_lock(&of->mutex);
-    zelamiku_status status = of->is_being_ended ? (zelamiku_status)of->end_status : settle(of);
-    if (of->is_being_ended || status == ZELAMIKU_RUNNING || status == ZELAMIKU_DEVICE) {
+    zelamiku_status status = of->is_being_ended ? ZELAMIKU_OK : settle(of);
+    if (of->is_being_ended) return await_end(of, "close");
+    if (status == ZELAMIKU_RUNNING || status == ZELAMIKU_DEVICE) {
         pthread_mutex_unlock(&of->mutex);
         return tell_end(of, status, of->error, "close");
     }
@@ -287,7 +311,7 @@ static zelamiku_status close_heap(heap *of) {
     }
     tell_end_of_rounds(of);
     release(of);
-    return tell_end(of, status, error, "close");
+    return ended(of, tell_end(of, status, error, "close"));
 }
 
 zelamiku_status zelamiku_heap_close(zelamiku_heap heap_) {
@@ -302,11 +326,8 @@ zelamiku_status zelamiku_heap_close(zelamiku_heap heap_) {
 /* Stops the heap, so that all calls answer this. */
 static zelamiku_status stop_heap(heap *of, zelamiku_status why, const char *call) {
     pthread_mutex_lock(&of->mutex);
+    if (of->is_being_ended) return await_end(of, call);
     zelamiku_status status = (zelamiku_status)of->end_status;
-    if (of->is_being_ended) {
-        pthread_mutex_unlock(&of->mutex);
-        return tell_end(of, status, of->error, call);
-    }
     end(of, why);
     end_helper(of);
     int error = of->error;
@@ -315,12 +336,14 @@ static zelamiku_status stop_heap(heap *of, zelamiku_status why, const char *call
         status = lead(of, ZELAMIKU_ROUND_CLOSING, true);
         error = of->error;
     }
+    if (status == ZELAMIKU_DEVICE && !has_stores(of)) status = ZELAMIKU_OK; /* what the calls leave is recovered */
     tell_end_of_rounds(of);
     release(of);
-    /* Nobody makes the last round's write again. */
-    if (status == ZELAMIKU_DEVICE)
-        return fail(of->path, ZELAMIKU_LOST, error, "a write has failed, and what wasn't durable is lost", NULL, "%s", call);
-    return tell_end(of, status, error, call);
+    if (status == ZELAMIKU_DEVICE) /* nobody makes that write again */
+        status = fail(of->path, ZELAMIKU_LOST, error, "a write has failed, and what wasn't durable is lost", NULL, "%s", call);
+    else
+        status = tell_end(of, status, error, call);
+    return ended(of, status);
 }
 
 static zelamiku_status stop(zelamiku_heap heap_, zelamiku_status why, const char *call) {

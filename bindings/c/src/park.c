@@ -67,6 +67,23 @@ static void demand(heap *of, uint32_t cause) {
     pthread_mutex_unlock(&of->mutex);
 }
 
+/* ---- log hooks that are underway ---- */
+
+/* Under the mutex, while the heap goes on or the thread leads: it is about to call the log hook. Who ends the heap waits for it. */
+static void begin_hook(heap *of) {
+    of->hooks_underway++;
+}
+
+static void end_hook(heap *of) {
+    assert(of->hooks_underway > 0);
+    of->hooks_underway--;
+    wake(&of->hooks_underway, INT_MAX);
+}
+
+static void await_hooks(heap *of) {
+    for (uint32_t seen; (seen = of->hooks_underway) > 0;) (void)sleep_on(&of->hooks_underway, seen, ZELAMIKU_NO_DEADLINE);
+}
+
 /* ---- monitors that are waited for ---- */
 
 /* Wakes the one that waits longest for the object's monitor. It stays where it waits until it has the monitor, so it may be woken twice,

@@ -208,11 +208,21 @@ static void add_up(zelamiku_stats *all, const zelamiku_stats *round) {
     if (round->longest_round > all->longest_round) all->longest_round = round->longest_round;
 }
 
+/* Logs what a round came to: its status and errno, whether the one before was in trouble, and whether the path has just begun to lead astray. */
+static void log_round(const heap *of, zelamiku_status status, int error, bool was_troubled, bool has_strayed) {
+    bool is_trouble = status == ZELAMIKU_DEVICE, is_end = status != ZELAMIKU_OK && !is_trouble;
+    if (is_end) tell_log(of, ZELAMIKU_LOG_ERROR, "%s: %s; %s", text_of(status, 0), strerror(error), text_of(status, 1));
+    if (is_trouble && !was_troubled) tell_log(of, ZELAMIKU_LOG_WARNING, "a write has failed, and is made again: %s", strerror(error));
+    if (was_troubled && status == ZELAMIKU_OK) tell_log(of, ZELAMIKU_LOG_INFO, "writes go on");
+    if (has_strayed) tell_log(of, ZELAMIKU_LOG_WARNING, "the path doesn't lead to the heap's file any more: it was removed or replaced");
+}
+
 /* Tells what a round came to, and wakes those that waited for it. */
 static void finish(heap *of, zelamiku_status status, int error, const zelamiku_stats *round, bool is_helper) {
     bool is_trouble = status == ZELAMIKU_DEVICE, is_end = status != ZELAMIKU_OK && !is_trouble;
     pthread_mutex_lock(&of->mutex);
-    bool was_troubled = of->is_troubled;
+    bool was_troubled = of->is_troubled, has_strayed = round->is_astray != 0 && of->stats.is_astray == 0;
+    bool has_news = is_end || is_trouble != was_troubled || has_strayed;
     of->is_troubled = is_trouble;
     if (is_trouble) of->has_more = 0; /* it doesn't come at once */
     add_up(&of->stats, round);
@@ -229,13 +239,14 @@ static void finish(heap *of, zelamiku_status status, int error, const zelamiku_s
     of->awaiting -= of->sleepers;
     of->sleepers = 0;
     tell_loops(of, is_trouble, false);
+    if (has_news) begin_hook(of);
     lead_no_more(of, is_helper);
     pthread_mutex_unlock(&of->mutex);
     tell_all(of);
     if (is_trouble) wake_those_behind(of);
-    if (is_end) tell_log(of, ZELAMIKU_LOG_ERROR, "%s: %s; %s", text_of(status, 0), strerror(error), text_of(status, 1));
-    if (is_trouble && !was_troubled) tell_log(of, ZELAMIKU_LOG_WARNING, "a write has failed, and is made again: %s", strerror(error));
-    if (was_troubled && status == ZELAMIKU_OK) tell_log(of, ZELAMIKU_LOG_INFO, "writes go on");
+    if (!has_news) return;
+    log_round(of, status, error, was_troubled, has_strayed);
+    end_hook(of);
 }
 
 /* Looks each second, while rounds are made, whether the path leads to the heap's file still. Where that can't be known it is as it was. */
@@ -274,9 +285,7 @@ static zelamiku_status lead(heap *of, uint32_t cause, bool is_helper) {
     round.longest_round = zelamiku_now() - begun;
     of->spin_time = round.longest_round < MOST_SPIN ? MOST_SPIN : 0;
     round.is_astray = is_astray(of);
-    bool has_strayed = round.is_astray != 0 && of->stats.is_astray == 0;
     finish(of, status, error, &round, is_helper);
-    if (has_strayed) tell_log(of, ZELAMIKU_LOG_WARNING, "the path doesn't lead to the heap's file any more: it was removed or replaced");
     return status;
 }
 

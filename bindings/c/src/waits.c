@@ -102,8 +102,11 @@ COLD void tell_circle(heap *of, seat *own) {
         uint64_t circle = circle_of(of, owners, own->lane);
         if (circle != 0 && is_untold(of, circle)) spell_circle(of, owners, own->lane, text, sizeof text);
     }
+    if (text[0] != 0) begin_hook(of);
     pthread_mutex_unlock(&of->mutex);
-    if (text[0] != 0) tell_log(of, ZELAMIKU_LOG_WARNING, "threads wait for each other's monitors, and none goes on: %s", text);
+    if (text[0] == 0) return;
+    tell_log(of, ZELAMIKU_LOG_WARNING, "threads wait for each other's monitors, and none goes on: %s", text);
+    end_hook(of);
 }
 
 /* Sleeps for a monitor until somebody rings, or until the deadline: false after it. `look` is when it looks for a circle: once. */

@@ -31,13 +31,25 @@ static _Atomic unsigned in_call, hung;
 static _Atomic unsigned takes;          /* how many microseconds a sync takes */
 enum { PATIENT = 240000 };              /* looks a millisecond apart, after which something hangs */
 static _Atomic bool refuses_more;       /* each call after the fault is refused: else who makes it again would do so at any moment */
-static _Atomic bool is_let_go, is_over; /* no call may come */
+static _Atomic bool is_let_go, is_over; /* no call may come, and no line for the log */
+static _Atomic bool hook_hangs, is_in_hook;
 static const char *kind_of_fault;       /* of the call that has met it */
 
-static const zelamiku_field FIELDS[] = {{0, 0, 5, 0}, {1, 1, 6, 0}, {0, 0, 9, 1}, {2, 2, 4, 0}};
+static const zelamiku_field FIELDS[] = {{0, 0, 5, 0}, {1, 1, 6, 0}, {0, 0, 9, 1}};
 /* No round comes by itself. */
-static const zelamiku_plan PLAN = {.fields = FIELDS, .count = 4, .objects = 3, .lanes = 4, .capacity = 2000, .linger = UINT32_MAX};
+static void note_line(void *of, uint32_t level, const char *text);
+static const zelamiku_plan PLAN = {.fields = FIELDS, .count = 3, .objects = 2, .lanes = 4, .capacity = 2000, .linger = UINT32_MAX, .log = note_line};
 enum { SIZE = 1 << 18 };
+
+/* The heap of another host (value_on) has the plan too. */
+static void note_line(void *of, uint32_t level, const char *text) {
+    (void)of, (void)level;
+    if (strstr(text, "device: ") != text) return;
+    is_in_hook = true;
+    while (hook_hangs) usleep(1000);
+    MUST(!is_over);
+    is_in_hook = false;
+}
 
 /* ---- the device ---- */
 
@@ -142,9 +154,9 @@ static zelamiku_thread begin_thread(void) {
 
 static uint64_t load(zelamiku_thread own, uint32_t field) {
     uint64_t value = 0;
-    OK(zelamiku_thread_enter(own, FIELDS[field].guard));
+    OK(zelamiku_thread_enter(own, field % 2));
     OK(zelamiku_thread_load(own, field, &value));
-    OK(zelamiku_thread_exit(own, FIELDS[field].guard));
+    OK(zelamiku_thread_exit(own, field % 2));
     return value;
 }
 
@@ -218,7 +230,7 @@ static void life(const char *folder) {
     empty();
     plant(NO_FAULT, 0);
     OK(zelamiku_heap_open_on(&heap, "device", &DEVICE, &PLAN, &report));
-    MUST(report.is_made == 1 && report.told.found.fields == 4 && report.told.found.lanes == 4 && report.told.found.size < SIZE);
+    MUST(report.is_made == 1 && report.told.found.fields == 3 && report.told.found.lanes == 4 && report.told.found.size < SIZE);
     zelamiku_thread own = begin_thread();
     MUST(load(own, 0) == 5 && load(own, 1) == 6 && load(own, 2) == 9);
     store(own, 7);
@@ -290,8 +302,8 @@ static void refusals(void) {
         held.now[at] ^= 4;
     }
     plan = PLAN;
-    plan.objects = 4;
-    refuses(ZELAMIKU_OTHER_HEAP, &plan, "objects: 3 in the file, and 4 in the plan");
+    plan.objects = 3;
+    refuses(ZELAMIKU_OTHER_HEAP, &plan, "objects: 2 in the file, and 3 in the plan");
     MUST(value_on(held.now) == 7);
 }
 
@@ -444,6 +456,30 @@ static void times(void) {
     close_heap();
 }
 
+/* From a call of a stop's last round on each is refused, and nobody makes it again: the stop says that what had ended may be lost. Answers after
+ * how many calls it was. */
+static unsigned lossy_stops(bool abandons) {
+    unsigned lost = 0;
+    for (unsigned at = 1;; at++) {
+        make();
+        begin();
+        store(begin_thread(), 8);
+        plant(REFUSED, at);
+        refuses_more = true;
+        zelamiku_status status = abandons ? zelamiku_heap_abandon(heap) : zelamiku_heap_stop(heap);
+        bool is_done = calls < at;
+        is_over = true;
+        if (is_done)
+            OK(status);
+        else
+            MUST(status == ZELAMIKU_LOST && zelamiku_heap_error() == ENOSPC && says("what wasn't durable is lost: No space left on device"));
+        uint64_t found = value_on(held.now);
+        MUST(found == 8 || (found == 7 && !is_done));
+        lost += found == 7;
+        if (is_done) return lost;
+    }
+}
+
 /* ---- a call that hangs ---- */
 
 typedef struct {
@@ -470,7 +506,14 @@ static void *await_asleep(void *data) {
 static void *stop_heap(void *data) {
     sleeper *it = (sleeper *)data;
     it->status = zelamiku_heap_stop(heap);
-    it->is_back = true;
+    is_over = it->is_back = true;
+    return NULL;
+}
+
+static void *close_too(void *data) {
+    sleeper *it = (sleeper *)data;
+    it->status = zelamiku_heap_close(heap);
+    is_over = it->is_back = true;
     return NULL;
 }
 
@@ -490,55 +533,16 @@ static void until_entering(uint32_t count) {
     }
 }
 
-/* A write of a stop's last round fails, and nobody makes it again: the stop says so where a section that had ended is lost. A thread that waits for
- * what depends on an open section gets the heap's end, and never DEVICE. */
-static unsigned lossy_stops(bool abandons) {
-    zelamiku_status why = abandons ? ZELAMIKU_ABANDONED : ZELAMIKU_CLOSED;
-    unsigned lost = 0;
-    for (unsigned at = 1;; at++) {
-        pthread_t thread;
-        zelamiku_stats stats = {.awaiting = 0};
-        empty();
-        plant(NO_FAULT, 0);
-        begin();
-        zelamiku_thread holder = begin_thread(), own = begin_thread();
-        sleeper waiting = {.own = begin_thread()};
-        OK(zelamiku_thread_enter(holder, 1));
-        OK(zelamiku_thread_enter(holder, 0));
-        OK(zelamiku_thread_exit(holder, 0));
-        (void)load(waiting.own, 0);
-        MUST(pthread_create(&thread, NULL, await_asleep, &waiting) == 0);
-        while (stats.awaiting == 0) OK(zelamiku_heap_stats(heap, &stats));
-        OK(zelamiku_thread_enter(own, 2));
-        OK(zelamiku_thread_store(own, 3, 8));
-        OK(zelamiku_thread_exit(own, 2));
-        plant(REFUSED, at);
-        refuses_more = true;
-        zelamiku_status status = abandons ? zelamiku_heap_abandon(heap) : zelamiku_heap_stop(heap);
-        bool is_done = calls < at;
-        is_over = true;
-        MUST(status == (is_done ? ZELAMIKU_OK : ZELAMIKU_LOST) && (is_done || (zelamiku_heap_error() == ENOSPC && says("is lost: No space left"))));
-        MUST(pthread_join(thread, NULL) == 0 && waiting.status == why && zelamiku_thread_await(holder) == why);
-        fault_at = 0;
-        begin();
-        own = begin_thread();
-        uint64_t found = load(own, 3);
-        close_heap();
-        MUST(found == 8 || (found == 4 && !is_done));
-        lost += found == 4;
-        if (is_done) return lost;
-    }
-}
-
-/* A call of the round hangs, and the heap is stopped meanwhile: who sleeps for a monitor is answered at once, who waits for the round and the
- * stop itself once the call has returned. What the round has made durable is. */
-static bool hangs(unsigned at) {
-    pthread_t threads[3];
+/* A call of the round hangs, and the heap is stopped meanwhile, and closed too: who sleeps for a monitor is answered at once, who waits for the
+ * round and both ends once the call has returned. What the round has made durable is. `fails`: all later calls are refused, so that the stop
+ * loses the section, and who waits for it gets the heap's end. */
+static bool hangs(unsigned at, bool fails) {
+    pthread_t threads[4];
     empty();
     plant(NO_FAULT, 0);
     begin();
     zelamiku_thread holder = begin_thread();
-    sleeper waiting = {.own = begin_thread()}, entering = {.own = begin_thread(), .object = 1}, stopping = {.is_back = false};
+    sleeper waiting = {.own = begin_thread()}, entering = {.own = begin_thread(), .object = 1}, stopping = {.is_back = false}, closing = stopping;
     store(waiting.own, 7);
     OK(zelamiku_thread_await(waiting.own));
     store(waiting.own, 8);
@@ -560,12 +564,20 @@ static bool hangs(unsigned at) {
         until(&entering.is_back);
         MUST(entering.status == ZELAMIKU_CLOSED);
         MUST(zelamiku_thread_enter(other, 0) == ZELAMIKU_CLOSED);
+        MUST(pthread_create(&threads[3], NULL, close_too, &closing) == 0);
         usleep(20000);
-        MUST(!stopping.is_back && !waiting.is_back && in_call == 1);
+        MUST(!stopping.is_back && !closing.is_back && !waiting.is_back && in_call == 1);
+        if (fails) {
+            plant(REFUSED, 1);
+            refuses_more = true;
+        }
         is_let_go = true;
-        MUST(pthread_join(threads[2], NULL) == 0 && stopping.status == ZELAMIKU_OK);
-        is_over = true;
-        MUST(pthread_join(threads[0], NULL) == 0 && waiting.status == ZELAMIKU_OK);
+        for (int i = 0; i < 4; i++) MUST(i == 1 || pthread_join(threads[i], NULL) == 0);
+        /* The round's last call is done: what is refused comes after it. */
+        bool is_lost = fails && waiting.status != ZELAMIKU_OK;
+        MUST(is_lost || !fails || (calls == 1 && value_on(held.durable) == 8));
+        MUST(stopping.status == (is_lost ? ZELAMIKU_LOST : ZELAMIKU_OK) && closing.status == ZELAMIKU_CLOSED);
+        MUST(waiting.status == (is_lost ? ZELAMIKU_CLOSED : ZELAMIKU_OK));
     } else {
         MUST(pthread_join(threads[0], NULL) == 0 && waiting.status == ZELAMIKU_OK);
         OK(zelamiku_heap_stop(heap));
@@ -573,8 +585,27 @@ static bool hangs(unsigned at) {
     }
     MUST(pthread_join(threads[1], NULL) == 0 && entering.status == ZELAMIKU_CLOSED);
     fault_at = 0;
-    MUST(value_on(held.durable) == 8);
+    MUST(value_on(held.durable) == (waiting.status == ZELAMIKU_OK ? 8 : 7));
     return has_hung;
+}
+
+/* The log hook hangs in a thread that has led a round of which a write has failed: a stop returns once the hook has. */
+static void hook_is_awaited(void) {
+    pthread_t threads[2];
+    make();
+    begin();
+    sleeper waiting = {.own = begin_thread()}, stopping = {.is_back = false};
+    store(waiting.own, 8);
+    hook_hangs = true;
+    plant(REFUSED, 1);
+    MUST(pthread_create(&threads[0], NULL, await_asleep, &waiting) == 0);
+    until(&is_in_hook);
+    MUST(pthread_create(&threads[1], NULL, stop_heap, &stopping) == 0);
+    usleep(50000);
+    MUST(!stopping.is_back && !waiting.is_back);
+    hook_hangs = false;
+    for (int i = 0; i < 2; i++) MUST(pthread_join(threads[i], NULL) == 0);
+    MUST(stopping.status == ZELAMIKU_OK && value_on(held.durable) == 8);
 }
 
 int main(int argc, char **argv) {
@@ -591,7 +622,9 @@ int main(int argc, char **argv) {
         rounded += rounds(what);
     }
     lost += lossy_stops(false) + lossy_stops(true);
-    while (hangs(stopped + 1)) stopped++;
+    while (hangs(stopped + 1, false)) stopped++;
+    for (unsigned at = 1; at <= stopped; at++) (void)hangs(at, true);
+    hook_is_awaited();
     MUST(stopped > 0 && lost > 0 && (is_short || (opened > 0 && made > 0 && rounded > 0)));
     printf("device: a fault at each call of an opening %u, of a making %u, of a round %u, of a stop %u; a stop while each call of a round hangs %u\n",
            opened, made, rounded, lost, stopped);
