@@ -1,4 +1,4 @@
-//! Four threads that count over `zelamiku::service`, in a guest whose power is cut (`tools/power-cuts`): the heap and the sections of
+//! Four threads that count over the crate `zelamiku`, in a guest whose power is cut (`tools/power-cuts`): the heap and the sections of
 //! `counts.c`, which looks at it.
 //!
 //!     service FILE
@@ -6,11 +6,10 @@ use std::error::Error;
 use std::fs::{File, OpenOptions};
 use std::io::Write;
 use std::{env, thread};
-use zelamiku::service::{Heap, Session};
-use zelamiku::Field;
+use zelamiku::{Field, Heap, NewField, Object, Session};
 
 const WORKERS: u32 = 4;
-const TOTAL: u32 = 0;
+const TOTAL: Object = Object(0);
 const OBJECTS: u32 = 2 * WORKERS + 1;
 // Fields beside the total: the last thread, and its count.
 const LAST: u32 = OBJECTS;
@@ -23,26 +22,27 @@ type Failure = Box<dyn Error + Send + Sync>;
 
 fn open(path: &str) -> Result<Heap, Failure> {
     let field = |number: u32| {
-        let object = if number % STRIDE == 0 && number / STRIDE < OBJECTS { number / STRIDE } else { TOTAL };
-        Field { owner: object, guard: object, first: 0, is_transient: false }
+        let object = if number % STRIDE == 0 && number / STRIDE < OBJECTS { Object(number / STRIDE) } else { TOTAL };
+        NewField { owner: object, guard: object, first: 0, is_transient: false }
     };
     let options = Heap::options().lanes(WORKERS + 1).objects(OBJECTS);
     Ok((0..COUNTED * STRIDE).map(field).fold(options, |all, it| all.guarded(it)).open(path)?)
 }
 
 // One section: the thread's counter, that of another object, and the total with the thread and its count beside it.
-fn count(session: &mut Session, own: u32) -> Result<u64, zelamiku::service::Error> {
-    session.synchronized(own, |s| {
-        s.synchronized(own + WORKERS, |s| {
-            let count = s.load(own * STRIDE)? + 1;
-            s.store(own * STRIDE, count)?;
+fn count(session: &mut Session, own: u32) -> Result<u64, zelamiku::Error> {
+    let value = |number: u32| Field(number * STRIDE);
+    session.synchronized(Object(own), |s| {
+        s.synchronized(Object(own + WORKERS), |s| {
+            let count = s.load(value(own))? + 1;
+            s.store(value(own), count)?;
             s.synchronized(TOTAL, |s| {
-                let total = s.load(TOTAL)?;
-                s.store(TOTAL, total + 1)?;
-                s.store(LAST * STRIDE, u64::from(own))?;
-                s.store(LAST_COUNT * STRIDE, count)
+                let total = s.load(value(0))?;
+                s.store(value(0), total + 1)?;
+                s.store(value(LAST), u64::from(own))?;
+                s.store(value(LAST_COUNT), count)
             })?;
-            s.store((own + WORKERS) * STRIDE, count)?;
+            s.store(value(own + WORKERS), count)?;
             Ok(count)
         })
     })

@@ -16,7 +16,7 @@ use std::sync::atomic::{AtomicBool, AtomicU64, Ordering};
 use std::sync::Barrier;
 use std::thread;
 use std::time::{Duration, Instant};
-use zelamiku::{Error, Heap, Session};
+use zelamiku::{Error, Field, Heap, Object, Session};
 
 // The processor time of the program, in nanoseconds: of the threads that have ended, too.
 fn processor_time() -> u64 {
@@ -36,12 +36,12 @@ const SHARED: u32 = 0;
 
 #[inline(never)]
 fn by_service(session: &mut Session, own: u32) -> Result<(), Error> {
-    session.synchronized(own, |s| {
-        let value = s.load(own)?;
-        s.store(own, value + 1)?;
-        s.synchronized(SHARED, |s| {
-            let value = s.load(SHARED)?;
-            s.store(SHARED, value + 1)
+    session.synchronized(Object(own), |s| {
+        let value = s.load(Field(own))?;
+        s.store(Field(own), value + 1)?;
+        s.synchronized(Object(SHARED), |s| {
+            let value = s.load(Field(SHARED))?;
+            s.store(Field(SHARED), value + 1)
         })
     })
 }
@@ -50,7 +50,7 @@ fn by_service(session: &mut Session, own: u32) -> Result<(), Error> {
 fn new_heap(path: &str, threads: u32, linger: Duration) -> Heap {
     let _ = std::fs::remove_file(path);
     let options = Heap::options().lanes(threads).objects(threads + 1).linger(linger);
-    let options = (0..=threads).fold(options, |options, object| options.field(object, object, 0));
+    let options = (0..=threads).fold(options, |options, object| options.field(Field(object), Object(object), 0));
     options.open(path).expect("a heap")
 }
 

@@ -9,15 +9,15 @@
 //! `fdatasync` replaced by a library that is loaded before the C library's.
 use std::sync::atomic::{AtomicBool, Ordering};
 use std::time::Duration;
-use zelamiku::{Error, Heap, Session};
+use zelamiku::{Error, Field, Heap, Object, Session};
 
 fn section(session: &mut Session, first: u32, second: u32) -> Result<(), Error> {
-    session.synchronized(first, |s| {
-        let value = s.load(first)?;
-        s.store(first, value + 1)?;
-        s.synchronized(second, |s| {
-            let value = s.load(second)?;
-            s.store(second, value + 1)
+    session.synchronized(Object(first), |s| {
+        let value = s.load(Field(first))?;
+        s.store(Field(first), value + 1)?;
+        s.synchronized(Object(second), |s| {
+            let value = s.load(Field(second))?;
+            s.store(Field(second), value + 1)
         })
     })
 }
@@ -68,7 +68,7 @@ fn main() {
         .capacity(capacity)
         .objects(2 * threads + 1);
     for object in 0..=2 * threads {
-        options = options.field(object, object, 0);
+        options = options.field(Field(object), Object(object), 0);
     }
     let heap = options.open(&words[1]).expect("a heap");
     let stopping = AtomicBool::new(false);

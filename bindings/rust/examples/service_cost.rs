@@ -6,7 +6,7 @@
 //! times are those of /proc.
 use std::sync::atomic::{AtomicBool, AtomicU64, Ordering};
 use std::time::{Duration, Instant};
-use zelamiku::{Error, Heap, Session};
+use zelamiku::{Error, Field, Heap, Object, Session};
 
 // The processor time of the threads that are alive, in nanoseconds: of all, and of the heap's helper.
 fn processor_times() -> (u64, u64) {
@@ -22,12 +22,12 @@ fn processor_times() -> (u64, u64) {
 
 // Two monitors, two stores, as the counters have.
 fn section(session: &mut Session, own: u32) -> Result<(), Error> {
-    session.synchronized(own, |s| {
-        let value = s.load(own)?;
-        s.store(own, value + 1)?;
-        s.synchronized(0, |s| {
-            let value = s.load(0)?;
-            s.store(0, value + 1)
+    session.synchronized(Object(own), |s| {
+        let value = s.load(Field(own))?;
+        s.store(Field(own), value + 1)?;
+        s.synchronized(Object(0), |s| {
+            let value = s.load(Field(0))?;
+            s.store(Field(0), value + 1)
         })
     })
 }
@@ -87,7 +87,7 @@ fn main() {
     let _ = std::fs::remove_file(path);
     let mut options = Heap::options().lanes(most).objects(most + 1);
     for object in 0..=most {
-        options = options.field(object, object, 0);
+        options = options.field(Field(object), Object(object), 0);
     }
     let heap = options.open(path).expect("a heap");
     // The helper has begun.

@@ -5,25 +5,27 @@
 //! stands in [`service`] too, under the same names.
 //!
 //! ```
-//! use zelamiku::{Heap, Session};
+//! use zelamiku::{Field, Heap, Object, Session};
 //!
 //! # let folder = std::env::temp_dir().join(format!("zelamiku-front-{}", std::process::id()));
 //! # std::fs::create_dir_all(&folder)?;
 //! # std::env::set_current_dir(&folder)?;
-//! const ALICE: u32 = 0; // an object, which is a monitor, and a field of it: 64 bits that the monitor guards
-//! const BOB: u32 = 1;
+//! const ALICE: Object = Object(0); // a monitor
+//! const BOB: Object = Object(1);
+//! const ALICES: Field = Field(0); // her balance: 64 bits, which her monitor guards
+//! const BOBS: Field = Field(1);
 //!
 //! // One section: all of it is done, or nothing.
 //! fn pay(session: &mut Session, amount: u64) -> Result<(), Box<dyn std::error::Error>> {
 //!     session.synchronized_all(&[ALICE, BOB], |both| {
-//!         let (from, to) = (both.load(ALICE)?, both.load(BOB)?);
-//!         both.store(ALICE, from.checked_sub(amount).ok_or("too little")?)?;
-//!         both.store(BOB, to + amount)?;
+//!         let (from, to) = (both.load(ALICES)?, both.load(BOBS)?);
+//!         both.store(ALICES, from.checked_sub(amount).ok_or("too little")?)?;
+//!         both.store(BOBS, to + amount)?;
 //!         Ok(())
 //!     })
 //! }
 //!
-//! let heap = Heap::options().lanes(8).objects(2).field(ALICE, ALICE, 100).field(BOB, BOB, 100).open("accounts.heap")?;
+//! let heap = Heap::options().lanes(8).objects(2).field(ALICES, ALICE, 100).field(BOBS, BOB, 100).open("accounts.heap")?;
 //! let mut session = heap.session()?; // one for each thread
 //! pay(&mut session, 10)?;
 //! session.durable()?; // returns when no crash loses it
@@ -59,13 +61,45 @@ pub fn library_version() -> u32 {
     raw::version()
 }
 
+/// An object of a heap, which is a monitor, by its number: they count from 0.
+///
+/// ```compile_fail,E0308
+/// # use zelamiku::{Error, Field, Object, Session};
+/// const ALICE: Object = Object(0);
+/// const BALANCE: Field = Field(0);
+/// fn wrong(session: &mut Session) -> Result<u64, Error> {
+///     session.synchronized(ALICE, |alice| alice.load(ALICE)) // an object is no field
+/// }
+/// ```
+#[derive(Clone, Copy, Debug, PartialEq, Eq, PartialOrd, Ord, Hash)]
+pub struct Object(pub u32);
+
+/// A field of a heap, 64 bits that an object's monitor guards, by its number: they count from 0.
+#[derive(Clone, Copy, Debug, PartialEq, Eq, PartialOrd, Ord, Hash)]
+pub struct Field(pub u32);
+
+impl Field {
+    /// The field so many after this one, as in an array of fields, or of what lies in the slots of a [`Pool`].
+    ///
+    /// ```
+    /// use zelamiku::Field;
+    /// const VALUES: Field = Field(3);
+    /// const AFTER: Field = VALUES.plus(100);
+    /// assert_eq!(AFTER, Field(103));
+    /// ```
+    #[must_use]
+    pub const fn plus(self, count: u32) -> Field {
+        Field(self.0 + count)
+    }
+}
+
 /// A field of a heap that is to be made.
-#[derive(Clone, Copy, Debug)]
-pub struct Field {
+#[derive(Clone, Copy, Debug, PartialEq, Eq)]
+pub struct NewField {
     /// The object that has it.
-    pub owner: u32,
+    pub owner: Object,
     /// The object whose monitor guards it.
-    pub guard: u32,
+    pub guard: Object,
     /// The value with which it begins.
     pub first: u64,
     /// Whether it is transient: threads share it as any other, no log keeps what they store, and at each open it begins with that
@@ -73,11 +107,11 @@ pub struct Field {
     pub is_transient: bool,
 }
 
-impl From<Field> for raw::Field {
-    fn from(field: Field) -> raw::Field {
+impl From<NewField> for raw::Field {
+    fn from(field: NewField) -> raw::Field {
         raw::Field {
-            owner: field.owner,
-            guard: field.guard,
+            owner: field.owner.0,
+            guard: field.guard.0,
             first: field.first,
             is_transient: field.is_transient.into(),
         }

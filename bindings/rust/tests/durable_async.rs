@@ -9,13 +9,14 @@ use std::task::{Context, Poll, Wake, Waker};
 use std::time::Duration;
 use tasks::{block_on, run};
 use zelamiku::service::{Durable, ErrorKind, Heap, Options, Session};
+use zelamiku::{Field, Object};
 
 mod patience;
 mod scratch;
 mod tasks;
 
 fn counters(lanes: u32) -> Options {
-    Heap::options().lanes(lanes).objects(3).field(0, 0, 0).field(1, 1, 0).field(2, 2, 0)
+    Heap::options().lanes(lanes).objects(3).field(Field(0), Object(0), 0).field(Field(1), Object(1), 0).field(Field(2), Object(2), 0)
 }
 
 // Counts how often it wakes.
@@ -38,10 +39,10 @@ fn poll(durable: &mut Durable, waker: &Waker) -> Poll<Result<(), ErrorKind>> {
     answer.map(|answer| answer.map_err(|error| error.kind()))
 }
 
-fn count(session: &mut Session, object: u32) {
-    let counted = session.synchronized(object, |s| {
-        let count = s.load(object)?;
-        s.store(object, count + 1)
+fn count(session: &mut Session, number: u32) {
+    let counted = session.synchronized(Object(number), |s| {
+        let count = s.load(Field(number))?;
+        s.store(Field(number), count + 1)
     });
     counted.unwrap();
 }
@@ -49,8 +50,8 @@ fn count(session: &mut Session, object: u32) {
 // Does the work while a section is open on which all depends that is done under object 0.
 fn while_nothing_is_durable(heap: &Heap, work: impl FnOnce()) {
     let mut session = heap.session().unwrap();
-    let mut outer = session.enter(2).unwrap();
-    outer.synchronized(0, |s| s.store(0, 100)).unwrap();
+    let mut outer = session.enter(Object(2)).unwrap();
+    outer.synchronized(Object(0), |s| s.store(Field(0), 100)).unwrap();
     work();
     // Refused at the heap's end.
     let _ = outer.exit();
@@ -71,7 +72,7 @@ fn what_is_durable_is_answered_at_once_and_again() {
     }
     durable.wait().unwrap();
     // A section that has only looked is waited for too.
-    session.synchronized(0, |s| s.load(0)).unwrap();
+    session.synchronized(Object(0), |s| s.load(Field(0))).unwrap();
     block_on(session.durable_async()).unwrap();
     assert!(session.is_durable(2));
 }
@@ -192,8 +193,8 @@ fn a_section_that_a_dropped_guard_has_lost_is_told() {
     count(&mut session, 0);
     let before = session.durable_async();
     block_on(session.durable_async()).unwrap();
-    let mut guard = session.enter(0).unwrap();
-    guard.store(0, 7).unwrap();
+    let mut guard = session.enter(Object(0)).unwrap();
+    guard.store(Field(0), 7).unwrap();
     heap.stop().unwrap();
     drop(guard);
     for _ in 0..2 {
@@ -247,12 +248,12 @@ fn a_forgotten_guard_is_told_when_its_session_is_dropped() {
     let (mut session, mut other) = (heap.session().unwrap(), heap.session().unwrap());
     count(&mut session, 1);
     let kept = session.durable_async();
-    let mut guard = session.enter(0).unwrap();
-    guard.store(0, 7).unwrap();
+    let mut guard = session.enter(Object(0)).unwrap();
+    guard.store(Field(0), 7).unwrap();
     std::mem::forget(guard);
     assert_eq!(block_on(session.durable_async()).unwrap_err().kind(), ErrorKind::Running);
     drop(session);
-    assert_eq!(other.enter(0).unwrap_err().kind(), ErrorKind::Abandoned);
+    assert_eq!(other.enter(Object(0)).unwrap_err().kind(), ErrorKind::Abandoned);
     block_on(kept).unwrap();
 }
 

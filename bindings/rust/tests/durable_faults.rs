@@ -9,6 +9,7 @@ use std::sync::{Arc, Mutex, PoisonError};
 use std::time::Duration;
 use tasks::{block_on, run};
 use zelamiku::service::{Durable, Error, ErrorKind, Heap, Options, Session};
+use zelamiku::{Field, Object};
 
 mod patience;
 mod scratch;
@@ -64,11 +65,11 @@ extern "C" fn pwrite(file: i32, bytes: *const c_void, size: usize, at: i64) -> i
 }
 
 fn options() -> Options {
-    Heap::options().lanes(2).objects(3).field(0, 0, 5).field(1, 1, 5).field(2, 2, 5)
+    Heap::options().lanes(2).objects(3).field(Field(0), Object(0), 5).field(Field(1), Object(1), 5).field(Field(2), Object(2), 5)
 }
 
 fn store(session: &mut Session, value: u64) {
-    session.synchronized(0, |s| s.store(0, value)).unwrap();
+    session.synchronized(Object(0), |s| s.store(Field(0), value)).unwrap();
 }
 
 // So many futures of one lane, each of a section of its own.
@@ -120,7 +121,7 @@ fn ten_thousand_futures_share_a_lane() {
         let task = async move {
             let (number, durable) = {
                 let mut session = session.lock().unwrap();
-                session.synchronized(0, |s| s.load(0).and_then(|count| s.store(0, count + 1))).unwrap();
+                session.synchronized(Object(0), |s| s.load(Field(0)).and_then(|count| s.store(Field(0), count + 1))).unwrap();
                 (session.sections(), session.durable_async())
             };
             durable.await.unwrap();
@@ -133,7 +134,7 @@ fn ten_thousand_futures_share_a_lane() {
     assert_eq!(done.load(SeqCst) as u64, TASKS);
     let stats = heap.stats().unwrap();
     assert!(stats.sections == TASKS && stats.rounds < 20, "{stats:?}");
-    assert_eq!(session.lock().unwrap().synchronized(0, |s| s.load(0)).unwrap(), TASKS + 5);
+    assert_eq!(session.lock().unwrap().synchronized(Object(0), |s| s.load(Field(0))).unwrap(), TASKS + 5);
 }
 
 #[test]
@@ -145,8 +146,8 @@ fn a_sync_that_fails_is_told_to_all_that_wait() {
     store(&mut own, 6);
     block_on(own.durable_async()).unwrap();
     // All that is done under object 0 depends on this one.
-    let mut outer = open.enter(1).unwrap();
-    outer.synchronized(0, |s| s.store(0, 7)).unwrap();
+    let mut outer = open.enter(Object(1)).unwrap();
+    outer.synchronized(Object(0), |s| s.store(Field(0), 7)).unwrap();
     let durables = stored(&mut own, 100);
     let thread = std::thread::spawn(|| answers(durables));
     while heap.stats().unwrap().awaiting == 0 {
@@ -154,7 +155,7 @@ fn a_sync_that_fails_is_told_to_all_that_wait() {
     }
     SYNCS_FAIL.store(true, SeqCst);
     // A round that is underway may fail before this section is there.
-    let failed = other.synchronized(2, |s| s.store(2, 7)).and_then(|()| other.durable());
+    let failed = other.synchronized(Object(2), |s| s.store(Field(2), 7)).and_then(|()| other.durable());
     assert_eq!(failed.unwrap_err().kind(), ErrorKind::Lost);
     SYNCS_FAIL.store(false, SeqCst);
     for (mut durable, answer) in thread.join().unwrap() {

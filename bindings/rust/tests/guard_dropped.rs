@@ -3,6 +3,7 @@ use scratch::Scratch;
 use std::sync::atomic::{AtomicBool, Ordering};
 use std::time::Instant;
 use zelamiku::service::{Error, ErrorKind, Heap, Options, Session};
+use zelamiku::{Field, Object};
 
 mod scratch;
 
@@ -28,14 +29,14 @@ extern "C" fn fdatasync(file: i32) -> i32 {
 }
 
 fn options() -> Options {
-    Heap::options().lanes(2).objects(3).field(0, 0, 5).field(1, 1, 5).field(2, 2, 5)
+    Heap::options().lanes(2).objects(3).field(Field(0), Object(0), 5).field(Field(1), Object(1), 5).field(Field(2), Object(2), 5)
 }
 
 // Of a heap whose sync fails while another session waits for it.
 fn lose(heap: &Heap) {
     SYNCS_FAIL.store(true, Ordering::SeqCst);
     let mut other = heap.session().unwrap();
-    other.synchronized(2, |s| s.store(2, 7)).unwrap();
+    other.synchronized(Object(2), |s| s.store(Field(2), 7)).unwrap();
     assert_eq!(other.durable().unwrap_err().kind(), ErrorKind::Lost);
     SYNCS_FAIL.store(false, Ordering::SeqCst);
 }
@@ -44,56 +45,56 @@ fn lose(heap: &Heap) {
 fn is_told(scratch: &Scratch, end: fn(&Heap), kind: ErrorKind, work: fn(&mut Session, &dyn Fn())) {
     let heap = options().open(scratch).unwrap();
     let mut session = heap.session().unwrap();
-    session.synchronized(0, |s| s.store(0, 6)).unwrap();
+    session.synchronized(Object(0), |s| s.store(Field(0), 6)).unwrap();
     session.durable().unwrap();
     work(&mut session, &|| end(&heap));
     for _ in 0..2 {
         assert_eq!(session.durable().unwrap_err().kind(), kind);
         assert_eq!(session.durable_by(Instant::now()).unwrap_err().kind(), kind);
     }
-    assert_eq!(session.enter(0).unwrap_err().kind(), kind);
+    assert_eq!(session.enter(Object(0)).unwrap_err().kind(), kind);
     assert_eq!(session.durable().unwrap_err().kind(), kind);
     // What was durable is, and what was lost is no section of the session's.
     assert_eq!((session.sections(), session.is_durable(1), session.is_durable(2)), (1, true, false));
     drop((session, heap));
     let heap = options().open(scratch).unwrap();
     let mut session = heap.session().unwrap();
-    assert_eq!(session.synchronized(0, |s| s.load(0)).unwrap(), 6);
-    assert_eq!(session.synchronized(1, |s| s.load(1)).unwrap(), 5);
+    assert_eq!(session.synchronized(Object(0), |s| s.load(Field(0))).unwrap(), 6);
+    assert_eq!(session.synchronized(Object(1), |s| s.load(Field(1))).unwrap(), 5);
 }
 
 fn one_guard(session: &mut Session, end: &dyn Fn()) {
-    let mut guard = session.enter(0).unwrap();
-    guard.store(0, 7).unwrap();
+    let mut guard = session.enter(Object(0)).unwrap();
+    guard.store(Field(0), 7).unwrap();
     end();
 }
 
 fn nested_guards(session: &mut Session, end: &dyn Fn()) {
-    let mut outer = session.enter(0).unwrap();
-    outer.store(0, 7).unwrap();
-    let mut inner = outer.enter(1).unwrap();
-    inner.store(1, 7).unwrap();
+    let mut outer = session.enter(Object(0)).unwrap();
+    outer.store(Field(0), 7).unwrap();
+    let mut inner = outer.enter(Object(1)).unwrap();
+    inner.store(Field(1), 7).unwrap();
     end();
 }
 
 fn a_guard_of_which_the_end_is_told(session: &mut Session, end: &dyn Fn()) {
-    let mut guard = session.enter(0).unwrap();
-    guard.store(0, 7).unwrap();
+    let mut guard = session.enter(Object(0)).unwrap();
+    guard.store(Field(0), 7).unwrap();
     end();
-    assert!(guard.store(0, 8).unwrap_err().kind().is_final());
-    assert!(guard.load(0).unwrap_err().kind().is_final());
+    assert!(guard.store(Field(0), 8).unwrap_err().kind().is_final());
+    assert!(guard.load(Field(0)).unwrap_err().kind().is_final());
 }
 
 fn an_exit_that_is_refused(session: &mut Session, end: &dyn Fn()) {
-    let mut guard = session.enter(0).unwrap();
-    guard.store(0, 7).unwrap();
+    let mut guard = session.enter(Object(0)).unwrap();
+    guard.store(Field(0), 7).unwrap();
     end();
     assert!(guard.exit().unwrap_err().kind().is_final());
 }
 
 fn a_work_that_ends_well(session: &mut Session, end: &dyn Fn()) {
-    let worked = session.synchronized(0, |s| {
-        s.store(0, 7)?;
+    let worked = session.synchronized(Object(0), |s| {
+        s.store(Field(0), 7)?;
         end();
         Ok::<_, Error>(())
     });
@@ -101,9 +102,9 @@ fn a_work_that_ends_well(session: &mut Session, end: &dyn Fn()) {
 }
 
 fn a_work_that_fails(session: &mut Session, end: &dyn Fn()) {
-    let worked = session.synchronized(0, |s| {
-        s.store(0, 7)?;
-        let error = s.load(9).unwrap_err();
+    let worked = session.synchronized(Object(0), |s| {
+        s.store(Field(0), 7)?;
+        let error = s.load(Field(9)).unwrap_err();
         end();
         Err::<(), _>(error)
     });
@@ -113,8 +114,8 @@ fn a_work_that_fails(session: &mut Session, end: &dyn Fn()) {
 
 fn a_work_that_panics(session: &mut Session, end: &dyn Fn()) {
     let work = std::panic::AssertUnwindSafe(|| {
-        session.synchronized(0, |s| {
-            s.store(0, 7)?;
+        session.synchronized(Object(0), |s| {
+            s.store(Field(0), 7)?;
             end();
             std::panic::resume_unwind(Box::new("of this test"))
         })

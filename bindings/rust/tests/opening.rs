@@ -4,12 +4,12 @@ use std::error::Error as _;
 use std::io;
 use std::time::Duration;
 use zelamiku::service::{Difference, Error, ErrorKind, Heap, Options, Part};
-use zelamiku::{Refusal, Why};
+use zelamiku::{Field, NewField, Object, Refusal, Why};
 
 mod scratch;
 
 fn accounts() -> Options {
-    Heap::options().lanes(2).objects(2).field(0, 0, 100).field(1, 1, 200)
+    Heap::options().lanes(2).objects(2).field(Field(0), Object(0), 100).field(Field(1), Object(1), 200)
 }
 
 fn system(error: &Error) -> Option<io::ErrorKind> {
@@ -52,13 +52,13 @@ fn a_fingerprint_tells_one_heap_from_another() {
     // It is no field of the program's.
     assert_eq!(heap.found().unwrap().fields, 2);
     let mut session = heap.session().unwrap();
-    session.synchronized(0, |s| s.store(0, 1)).unwrap();
+    session.synchronized(Object(0), |s| s.store(Field(0), 1)).unwrap();
     drop((session, heap));
     let other = difference(accounts().fingerprint(8), &scratch);
     assert_eq!(other, Difference { part: Part::Fingerprint, has: 7, planned: 8 });
     assert_eq!(difference(accounts(), &scratch).part, Part::Fields);
     let heap = accounts().fingerprint(7).open(&scratch).unwrap();
-    assert_eq!(heap.session().unwrap().synchronized(0, |s| s.load(0)).unwrap(), 1);
+    assert_eq!(heap.session().unwrap().synchronized(Object(0), |s| s.load(Field(0))).unwrap(), 1);
 }
 
 #[test]
@@ -94,14 +94,14 @@ fn the_first_difference_is_told() {
     let scratch = Scratch::new("difference");
     accounts().open(&scratch).unwrap().close().unwrap();
     let has = |part, has, planned| Difference { part, has, planned };
-    let two = || Heap::options().lanes(2).objects(2).field(0, 0, 0);
-    let guarded = zelamiku::Field { owner: 1, guard: 0, first: 0, is_transient: false };
+    let two = || Heap::options().lanes(2).objects(2).field(Field(0), Object(0), 0);
+    let guarded = NewField { owner: Object(1), guard: Object(0), first: 0, is_transient: false };
     assert_eq!(difference(accounts().lanes(4), &scratch), has(Part::Lanes, 3, 4));
     assert_eq!(difference(accounts().objects(3), &scratch), has(Part::Objects, 2, 3));
-    assert_eq!(difference(accounts().field(2, 0, 0), &scratch), has(Part::Fields, 2, 3));
-    assert_eq!(difference(two().field(1, 0, 0), &scratch), has(Part::Owner(1), 1, 0));
-    assert_eq!(difference(two().guarded(guarded), &scratch), has(Part::Guard(1), 1, 0));
-    assert_eq!(difference(two().transient(1, 1, 0), &scratch), has(Part::Transient(1), 0, 1));
+    assert_eq!(difference(accounts().field(Field(2), Object(0), 0), &scratch), has(Part::Fields, 2, 3));
+    assert_eq!(difference(two().field(Field(1), Object(0), 0), &scratch), has(Part::Owner(Field(1)), 1, 0));
+    assert_eq!(difference(two().guarded(guarded), &scratch), has(Part::Guard(Field(1)), 1, 0));
+    assert_eq!(difference(two().transient(Field(1), Object(1), 0), &scratch), has(Part::Transient(Field(1)), 0, 1));
 }
 
 // What each error says: the path, what was called, why, and what to do; by Rust's names.
@@ -115,16 +115,16 @@ fn an_error_says_what_was_called_and_the_cure() {
         assert_eq!(error.to_string(), format!("{path}: {text}"));
         assert_eq!(format!("{error:?}"), format!("{:?} ({error})", error.kind()));
     };
-    says(session.enter(7).unwrap_err(), "enter object 7: there is no such object; objects are numbered from 0");
+    says(session.enter(Object(7)).unwrap_err(), "enter object 7: there is no such object; objects are numbered from 0");
     says(
-        session.synchronized(0, |s| s.load(1)).unwrap_err(),
+        session.synchronized(Object(0), |s| s.load(Field(1))).unwrap_err(),
         "load field 1: the thread doesn't hold the monitor; enter the object, or the field's guard, before",
     );
     says(
         accounts().open(&scratch).unwrap_err(),
         "open: this process has its heap open already; use that one's handle, or close it before",
     );
-    let guard = session.enter(0).unwrap();
+    let guard = session.enter(Object(0)).unwrap();
     says(
         heap.close().unwrap_err(),
         "close: a section is open or a thread waits; let it end before, or stop the heap (Heap::stop)",
@@ -133,10 +133,10 @@ fn an_error_says_what_was_called_and_the_cure() {
     let _other = heap.session().unwrap();
     assert_eq!(heap.session().unwrap_err().kind(), ErrorKind::NoneLeft);
     heap.stop().unwrap();
-    says(session.enter(0).unwrap_err(), "enter: the heap was closed or stopped; open it again");
+    says(session.enter(Object(0)).unwrap_err(), "enter: the heap was closed or stopped; open it again");
     says(accounts().lanes(33).open(&scratch).unwrap_err(), "open: lanes is 33 in the plan; it may be 1 to 32");
     says(
-        Heap::options().objects(1).field(1, 0, 0).open(&scratch).unwrap_err(),
+        Heap::options().objects(1).field(Field(1), Object(0), 0).open(&scratch).unwrap_err(),
         "open: field 1 was declared where field 0 comes next",
     );
     // A path of which a message has only the end.
@@ -153,7 +153,7 @@ const VERSION_BYTE: usize = 19;
 fn an_old_heap_is_upgraded_in_place_where_that_is_asked_for() {
     let scratch = Scratch::new("old");
     let heap = accounts().open(&scratch).unwrap();
-    heap.session().unwrap().synchronized(0, |s| s.store(0, 7)).unwrap();
+    heap.session().unwrap().synchronized(Object(0), |s| s.store(Field(0), 7)).unwrap();
     heap.close().unwrap();
     let mut bytes = std::fs::read(&scratch).unwrap();
     for slot in SLOTS.into_iter().filter(|slot| bytes[*slot] == 0xa5).collect::<Vec<_>>() {
@@ -165,7 +165,7 @@ fn an_old_heap_is_upgraded_in_place_where_that_is_asked_for() {
     assert_eq!(std::fs::read(&scratch).unwrap(), bytes);
     for options in [accounts().upgrades(true), accounts()] {
         let heap = options.open(&scratch).unwrap();
-        assert_eq!(heap.session().unwrap().synchronized(0, |s| s.load(0)).unwrap(), 7);
+        assert_eq!(heap.session().unwrap().synchronized(Object(0), |s| s.load(Field(0))).unwrap(), 7);
         heap.close().unwrap();
     }
 }
@@ -191,11 +191,11 @@ fn a_section_that_depends_on_an_open_one_is_dropped_for_that_one() {
     let (mut first, mut second) = (heap.session().unwrap(), heap.session().unwrap());
     let lanes = [first.lane(), second.lane()];
     // A section that stays. Then the first frees object 0, holds 1 on, and the second has seen what it stored.
-    second.synchronized(0, |s| s.store(0, 1)).unwrap();
+    second.synchronized(Object(0), |s| s.store(Field(0), 1)).unwrap();
     second.durable().unwrap();
-    let mut outer = first.enter(1).unwrap();
-    outer.synchronized(0, |s| s.store(0, 7)).unwrap();
-    second.synchronized(0, |s| s.store(0, 8)).unwrap();
+    let mut outer = first.enter(Object(1)).unwrap();
+    outer.synchronized(Object(0), |s| s.store(Field(0), 7)).unwrap();
+    second.synchronized(Object(0), |s| s.store(Field(0), 8)).unwrap();
     heap.stop().unwrap();
     drop(outer);
     drop((first, second, heap));
@@ -208,5 +208,5 @@ fn a_section_that_depends_on_an_open_one_is_dropped_for_that_one() {
     expected.sort_by_key(|it| it.0);
     assert_eq!(dropped, expected);
     assert_eq!((report.kept[lanes[0] as usize], report.kept[lanes[1] as usize]), (0, 1));
-    assert_eq!(heap.session().unwrap().synchronized(0, |s| s.load(0)).unwrap(), 1);
+    assert_eq!(heap.session().unwrap().synchronized(Object(0), |s| s.load(Field(0))).unwrap(), 1);
 }

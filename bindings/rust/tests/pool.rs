@@ -1,13 +1,13 @@
 //! A pool by Rust: what its calls answer, and threads that take and give its slots side by side.
 use std::path::PathBuf;
 use zelamiku::service::{Error, ErrorKind, Heap, Options, Session};
-use zelamiku::{Pool, Refusal};
+use zelamiku::{Field, Object, Pool, Refusal};
 
-const OBJECT: u32 = 0;
-const TAKES: u32 = 0;
-const POOL: Pool = Pool::new(1, 4);
+const OBJECT: Object = Object(0);
+const TAKES: Field = Field(0);
+const POOL: Pool = Pool::new(Field(1), 4);
 // Who has a slot: a thread's number, or 0.
-const TAKEN_BY: u32 = 6;
+const TAKEN_BY: Field = Field(6);
 
 fn options() -> Options {
     Heap::options()
@@ -40,8 +40,8 @@ fn slots_are_taken_in_order_and_given_back() {
         assert_eq!(refusal(s.give(POOL, 2)), Some(Refusal::NotTaken));
         assert_eq!(refusal(s.give(POOL, 4)), Some(Refusal::NotTaken));
         // As if it lay elsewhere.
-        assert_eq!(refusal(s.take(Pool::new(10, 4))), Some(Refusal::UnknownField));
-        assert_eq!(refusal(s.take(Pool::new(u32::MAX, u32::MAX))), Some(Refusal::UnknownField));
+        assert_eq!(refusal(s.take(Pool::new(Field(10), 4))), Some(Refusal::UnknownField));
+        assert_eq!(refusal(s.take(Pool::new(Field(u32::MAX), u32::MAX))), Some(Refusal::UnknownField));
         s.store(TAKES, 100)?;
         assert_eq!(refusal(s.take(Pool::new(TAKES, 4))), Some(Refusal::Damaged));
         Ok::<_, Error>((taken, s.take(POOL)?))
@@ -56,16 +56,16 @@ fn slots_are_taken_in_order_and_given_back() {
 fn a_pool_that_cannot_be_is_refused_at_the_opening() {
     let path = path("pool-refused");
     for (pool, refusal) in [
-        (Pool::new(0, 0), Some(Refusal::Empty)),
-        (Pool::new(0, 16_384), Some(Refusal::TooMany)),
-        (Pool::new(0, u32::MAX), Some(Refusal::TooMany)),
-        (Pool::new(1, 4), None),
+        (Pool::new(Field(0), 0), Some(Refusal::Empty)),
+        (Pool::new(Field(0), 16_384), Some(Refusal::TooMany)),
+        (Pool::new(Field(0), u32::MAX), Some(Refusal::TooMany)),
+        (Pool::new(Field(1), 4), None),
     ] {
-        let error = Heap::options().objects(1).pool(pool, 0).open(&path).unwrap_err();
+        let error = Heap::options().objects(1).pool(pool, OBJECT).open(&path).unwrap_err();
         assert_eq!((error.kind(), error.refusal()), (ErrorKind::Opening, refusal));
     }
     // It isn't said before the heap is made that the pool's object isn't there.
-    let error = Heap::options().objects(1).pool(Pool::new(0, 4), 1).open(&path).unwrap_err();
+    let error = Heap::options().objects(1).pool(Pool::new(Field(0), 4), Object(1)).open(&path).unwrap_err();
     assert_eq!(error.refusal(), Some(Refusal::UnknownObject));
     let _ = std::fs::remove_file(path);
 }
@@ -76,20 +76,20 @@ fn take_and_give(session: &mut Session, thread: u64) -> Result<(), Error> {
         let slot = loop {
             match s.take(POOL)? {
                 Some(slot) => break slot,
-                None => s.wait(0)?,
+                None => s.wait(OBJECT)?,
             }
         };
-        assert_eq!(s.load(TAKEN_BY + slot)?, 0);
-        s.store(TAKEN_BY + slot, thread)?;
+        assert_eq!(s.load(TAKEN_BY.plus(slot))?, 0);
+        s.store(TAKEN_BY.plus(slot), thread)?;
         Ok(slot)
     })?;
     session.synchronized(OBJECT, |s| {
-        assert_eq!(s.load(TAKEN_BY + slot)?, thread);
-        s.store(TAKEN_BY + slot, 0)?;
+        assert_eq!(s.load(TAKEN_BY.plus(slot))?, thread);
+        s.store(TAKEN_BY.plus(slot), 0)?;
         s.give(POOL, slot)?;
         let takes = s.load(TAKES)?;
         s.store(TAKES, takes + 1)?;
-        s.notify(0)
+        s.notify(OBJECT)
     })?;
     Ok(())
 }

@@ -5,18 +5,19 @@ use std::sync::atomic::{AtomicU64, Ordering};
 use std::sync::Arc;
 use std::time::Duration;
 use zelamiku::service::{Error, ErrorKind, Heap, Options, Session};
+use zelamiku::{Field, Object};
 
 mod patience;
 mod scratch;
 
 fn counters(lanes: u32) -> Options {
-    Heap::options().lanes(lanes).objects(2).field(0, 0, 0).field(1, 1, 0)
+    Heap::options().lanes(lanes).objects(2).field(Field(0), Object(0), 0).field(Field(1), Object(1), 0)
 }
 
-fn count(session: &mut Session, field: u32) {
-    let counted = session.synchronized(field, |s| {
-        let value = s.load(field)?;
-        s.store(field, value + 1)
+fn count(session: &mut Session, number: u32) {
+    let counted = session.synchronized(Object(number), |s| {
+        let value = s.load(Field(number))?;
+        s.store(Field(number), value + 1)
     });
     counted.unwrap();
 }
@@ -33,7 +34,7 @@ fn threads_that_want_one_monitor_count_in_turn() {
     });
     heap.close().unwrap();
     let heap = counters(8).open(&scratch).unwrap();
-    assert_eq!(heap.session().unwrap().synchronized(0, |s| s.load(0)).unwrap(), 16_000);
+    assert_eq!(heap.session().unwrap().synchronized(Object(0), |s| s.load(Field(0))).unwrap(), 16_000);
 }
 
 #[test]
@@ -45,17 +46,17 @@ fn more_threads_than_processors_sleep_for_a_monitor_that_is_held_long() {
             let mut session = heap.session().unwrap();
             scope.spawn(move || {
                 for _ in 0..10 {
-                    let slept = session.synchronized(0, |s| {
-                        let value = s.load(0)?;
+                    let slept = session.synchronized(Object(0), |s| {
+                        let value = s.load(Field(0))?;
                         std::thread::sleep(Duration::from_millis(1));
-                        s.store(0, value + 1)
+                        s.store(Field(0), value + 1)
                     });
                     slept.unwrap();
                 }
             });
         }
     });
-    assert_eq!(heap.session().unwrap().synchronized(0, |s| s.load(0)).unwrap(), 160);
+    assert_eq!(heap.session().unwrap().synchronized(Object(0), |s| s.load(Field(0))).unwrap(), 160);
 }
 
 #[test]
@@ -102,7 +103,7 @@ fn sessions_come_and_go() {
             })
         });
         threads.into_iter().for_each(|thread| thread.join().unwrap());
-        assert_eq!(heap.session().unwrap().synchronized(0, |s| s.load(0)).unwrap(), round);
+        assert_eq!(heap.session().unwrap().synchronized(Object(0), |s| s.load(Field(0))).unwrap(), round);
     }
     let all = [heap.session().unwrap(), heap.session().unwrap()];
     assert_eq!(heap.session().unwrap_err().kind(), ErrorKind::NoneLeft);
@@ -152,9 +153,9 @@ fn a_lanes_next_session_counts_its_own_sections() {
 
 #[test]
 fn producers_and_consumers_wait_and_notify() {
-    const LIST: u32 = 0;
-    const COUNT: u32 = 0;
-    const TAKEN: u32 = 1;
+    const LIST: Object = Object(0);
+    const COUNT: Field = Field(0);
+    const TAKEN: Field = Field(1);
     let scratch = Scratch::new("notify");
     let options = || {
         Heap::options()
@@ -173,11 +174,11 @@ fn producers_and_consumers_wait_and_notify() {
                 for _ in 0..500 {
                     let put = producer.synchronized(LIST, |s| {
                         while s.load(COUNT)? == 4 {
-                            s.wait(0)?;
+                            s.wait(LIST)?;
                         }
                         let count = s.load(COUNT)?;
                         s.store(COUNT, count + 1)?;
-                        s.notify_all(0)
+                        s.notify_all(LIST)
                     });
                     put.unwrap();
                 }
@@ -186,13 +187,13 @@ fn producers_and_consumers_wait_and_notify() {
                 for _ in 0..500 {
                     let took = consumer.synchronized(LIST, |s| {
                         while s.load(COUNT)? == 0 {
-                            s.wait(0)?;
+                            s.wait(LIST)?;
                         }
                         let count = s.load(COUNT)?;
                         s.store(COUNT, count - 1)?;
                         let taken = s.load(TAKEN)?;
                         s.store(TAKEN, taken + 1)?;
-                        s.notify_all(0)
+                        s.notify_all(LIST)
                     });
                     took.unwrap();
                     taken.fetch_add(1, Ordering::SeqCst);
@@ -216,35 +217,35 @@ fn a_wait_frees_all_locks_of_one_monitor_and_keeps_others() {
     let (mut waiter, mut other) = (heap.session().unwrap(), heap.session().unwrap());
     let lane = waiter.lane();
     let thread = std::thread::spawn(move || {
-        let waited = waiter.synchronized(1, |outer| {
-            outer.synchronized(0, |s| {
-                s.synchronized(0, |s| {
-                    s.store(0, 1)?;
-                    while s.load(0)? == 1 {
-                        s.wait(0)?;
+        let waited = waiter.synchronized(Object(1), |outer| {
+            outer.synchronized(Object(0), |s| {
+                s.synchronized(Object(0), |s| {
+                    s.store(Field(0), 1)?;
+                    while s.load(Field(0))? == 1 {
+                        s.wait(Object(0))?;
                     }
-                    s.store(1, 9)
+                    s.store(Field(1), 9)
                 })
             })
         });
         waited.unwrap();
         waiter.sections()
     });
-    while other.synchronized(0, |s| s.load(0)).unwrap() == 0 {
+    while other.synchronized(Object(0), |s| s.load(Field(0))).unwrap() == 0 {
         std::thread::yield_now();
     }
-    assert_eq!(other.look(1).unwrap().locks, 1);
+    assert_eq!(other.look(Object(1)).unwrap().locks, 1);
     other
-        .synchronized(0, |s| {
-            s.store(0, 2)?;
-            assert_eq!(s.notify(0)?, Some(lane));
-            assert_eq!(s.notify(0)?, None);
+        .synchronized(Object(0), |s| {
+            s.store(Field(0), 2)?;
+            assert_eq!(s.notify(Object(0))?, Some(lane));
+            assert_eq!(s.notify(Object(0))?, None);
             Ok::<_, Error>(())
         })
         .unwrap();
     // All of it was one section, since the outer monitor was held.
     assert_eq!(thread.join().unwrap(), 1);
-    assert_eq!(other.synchronized(1, |s| s.load(1)).unwrap(), 9);
+    assert_eq!(other.synchronized(Object(1), |s| s.load(Field(1))).unwrap(), 9);
     other.durable().unwrap();
     drop(other);
     heap.close().unwrap();
@@ -257,10 +258,10 @@ fn a_wait_with_one_monitor_ends_a_section() {
     let (mut waiter, mut other) = (heap.session().unwrap(), heap.session().unwrap());
     let lane = waiter.lane();
     let thread = std::thread::spawn(move || {
-        let waited = waiter.synchronized(0, |s| {
-            s.store(0, 1)?;
-            while s.load(0)? == 1 {
-                s.wait(0)?;
+        let waited = waiter.synchronized(Object(0), |s| {
+            s.store(Field(0), 1)?;
+            while s.load(Field(0))? == 1 {
+                s.wait(Object(0))?;
             }
             Ok::<_, Error>(())
         });
@@ -269,15 +270,15 @@ fn a_wait_with_one_monitor_ends_a_section() {
         waiter.durable().unwrap();
         assert!(waiter.is_durable(2));
     });
-    while other.synchronized(0, |s| s.load(0)).unwrap() == 0 {
+    while other.synchronized(Object(0), |s| s.load(Field(0))).unwrap() == 0 {
         std::thread::yield_now();
     }
     // What the waiting session has ended is durable while it waits, and the heap isn't closed.
     other.durable().unwrap();
     assert_eq!(heap.close().unwrap_err().kind(), ErrorKind::Running);
-    let notified = other.synchronized(0, |s| {
-        s.store(0, 2)?;
-        s.notify_all(0)
+    let notified = other.synchronized(Object(0), |s| {
+        s.store(Field(0), 2)?;
+        s.notify_all(Object(0))
     });
     assert_eq!(notified.unwrap(), [lane]);
     thread.join().unwrap();
@@ -289,22 +290,22 @@ fn a_heap_that_is_dropped_ends_those_that_wait() {
     let heap = counters(2).open(&scratch).unwrap();
     let (mut waiter, mut other) = (heap.session().unwrap(), heap.session().unwrap());
     let thread = std::thread::spawn(move || {
-        waiter.synchronized(0, |s| {
-            s.store(0, 1)?;
-            s.wait(0)
+        waiter.synchronized(Object(0), |s| {
+            s.store(Field(0), 1)?;
+            s.wait(Object(0))
         })
     });
-    while other.synchronized(0, |s| s.load(0)).unwrap() == 0 {
+    while other.synchronized(Object(0), |s| s.load(Field(0))).unwrap() == 0 {
         std::thread::yield_now();
     }
     drop(heap);
     assert_eq!(thread.join().unwrap().unwrap_err().kind(), ErrorKind::Closed);
     assert_eq!(
-        other.synchronized(0, |s| s.load(0)).unwrap_err().kind(),
+        other.synchronized(Object(0), |s| s.load(Field(0))).unwrap_err().kind(),
         ErrorKind::Closed
     );
     let heap = counters(2).open(&scratch).unwrap();
-    assert_eq!(heap.session().unwrap().synchronized(0, |s| s.load(0)).unwrap(), 1);
+    assert_eq!(heap.session().unwrap().synchronized(Object(0), |s| s.load(Field(0))).unwrap(), 1);
 }
 
 #[test]
@@ -315,17 +316,17 @@ fn a_wait_that_the_heaps_end_cuts_off_with_its_section_is_told() {
     let thread = std::thread::spawn(move || {
         count(&mut waiter, 1);
         waiter.durable().unwrap();
-        let waited = waiter.synchronized(1, |outer| {
-            outer.store(1, 7)?;
-            outer.synchronized(0, |s| {
-                s.store(0, 1)?;
-                s.wait(0)
+        let waited = waiter.synchronized(Object(1), |outer| {
+            outer.store(Field(1), 7)?;
+            outer.synchronized(Object(0), |s| {
+                s.store(Field(0), 1)?;
+                s.wait(Object(0))
             })
         });
         assert_eq!(waited.unwrap_err().kind(), ErrorKind::Closed);
         (waiter.sections(), waiter.durable().map_err(|error| error.kind()))
     });
-    while other.synchronized(0, |s| s.load(0)).unwrap() == 0 {
+    while other.synchronized(Object(0), |s| s.load(Field(0))).unwrap() == 0 {
         std::thread::yield_now();
     }
     heap.stop().unwrap();
@@ -333,7 +334,7 @@ fn a_wait_that_the_heaps_end_cuts_off_with_its_section_is_told() {
     drop((other, heap));
     let heap = counters(2).open(&scratch).unwrap();
     let mut session = heap.session().unwrap();
-    assert_eq!([0, 1].map(|field| session.synchronized(field, |s| s.load(field)).unwrap()), [0, 1]);
+    assert_eq!([0, 1].map(|number| session.synchronized(Object(number), |s| s.load(Field(number))).unwrap()), [0, 1]);
 }
 
 #[test]
@@ -366,7 +367,7 @@ fn one_opening_has_the_heap_of_a_file() {
     session.durable().unwrap();
     drop((session, heap));
     let heap = counters(2).open(&scratch).unwrap();
-    assert_eq!(heap.session().unwrap().synchronized(0, |s| s.load(0)).unwrap(), 2);
+    assert_eq!(heap.session().unwrap().synchronized(Object(0), |s| s.load(Field(0))).unwrap(), 2);
 }
 
 #[test]
@@ -376,10 +377,10 @@ fn files_that_are_no_such_heap_are_left_as_they_are() {
     let before = std::fs::read(&scratch).unwrap();
     let others = [
         (counters(4), "lanes: 3 in the file, and 4 in the plan"),
-        (counters(2).field(2, 0, 0), "fields: 2 in the file, and 3 in the plan"),
-        (Heap::options().lanes(2).objects(3).field(0, 0, 0).field(1, 1, 0), "objects: 2 in the file, and 3 in the plan"),
-        (Heap::options().lanes(2).objects(2).field(0, 0, 0).field(1, 0, 0), "field 1"),
-        (Heap::options().lanes(2).objects(2).field(0, 0, 0).transient(1, 1, 0), "field 1"),
+        (counters(2).field(Field(2), Object(0), 0), "fields: 2 in the file, and 3 in the plan"),
+        (Heap::options().lanes(2).objects(3).field(Field(0), Object(0), 0).field(Field(1), Object(1), 0), "objects: 2 in the file, and 3 in the plan"),
+        (Heap::options().lanes(2).objects(2).field(Field(0), Object(0), 0).field(Field(1), Object(0), 0), "field 1"),
+        (Heap::options().lanes(2).objects(2).field(Field(0), Object(0), 0).transient(Field(1), Object(1), 0), "field 1"),
     ];
     for (other, told) in others {
         let error = other.open(&scratch).unwrap_err();
@@ -394,7 +395,7 @@ fn files_that_are_no_such_heap_are_left_as_they_are() {
     counters(2).open(&scratch).unwrap().close().unwrap();
     std::fs::write(&scratch, [0; 5_000]).unwrap();
     counters(2).open(&scratch).unwrap().close().unwrap();
-    let error = Heap::options().objects(1).field(1, 0, 0).open(&scratch).unwrap_err();
+    let error = Heap::options().objects(1).field(Field(1), Object(0), 0).open(&scratch).unwrap_err();
     assert_eq!(error.kind(), ErrorKind::Opening);
 }
 

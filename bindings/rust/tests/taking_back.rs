@@ -2,26 +2,26 @@
 use scratch::Scratch;
 use std::panic::{catch_unwind, resume_unwind, AssertUnwindSafe};
 use zelamiku::service::{Error, ErrorKind, Heap, Held, Options, Session};
-use zelamiku::{Pool, Refusal};
+use zelamiku::{Field, Object, Pool, Refusal};
 
 mod scratch;
 
 #[derive(Clone, Copy)]
 struct Account {
-    object: u32,
-    balance: u32,
+    object: Object,
+    balance: Field,
 }
 
 const fn account(number: u32) -> Account {
-    Account { object: number, balance: number }
+    Account { object: Object(number), balance: Field(number) }
 }
 
 const ALICE: Account = account(0);
 const BOB: Account = account(1);
 const CAROL: Account = account(2);
 const NOBODY: Account = account(99);
-const SLOTS: Pool = Pool::new(3, 4);
-const PASSING: u32 = 8;
+const SLOTS: Pool = Pool::new(Field(3), 4);
+const PASSING: Field = Field(8);
 
 // Three accounts, a pool that the first one guards, and a transient field of it.
 fn accounts() -> Options {
@@ -97,7 +97,7 @@ fn found_again(scratch: &Scratch) -> [u64; 3] {
 
 // A field that there isn't.
 fn fail(s: &mut Held<'_>) -> Result<(), Error> {
-    s.load(99).map(|_| ())
+    s.load(Field(99)).map(|_| ())
 }
 
 #[test]
@@ -432,52 +432,55 @@ fn a_section_that_is_made_while_a_panic_unwinds_is_as_any_other() {
 #[test]
 fn all_monitors_are_taken_in_one_order_each_once() {
     let scratch = Scratch::new("all");
-    let heap = Heap::options().lanes(2).objects(20).fields(20, 0, 0).open(&scratch).unwrap();
+    let heap = Heap::options().lanes(2).objects(20).fields(20, Object(0), 0).open(&scratch).unwrap();
     let (mut session, mut other) = (heap.session().unwrap(), heap.session().unwrap());
-    let locks = |session: &mut Session, object| session.look(object).unwrap().locks;
+    let locks = |session: &mut Session, object| session.look(Object(object)).unwrap().locks;
     session
-        .synchronized_all(&[5, 1, 3, 1, 5], |_| {
+        .synchronized_all(&[5, 1, 3, 1, 5].map(Object), |_| {
             assert_eq!([0, 1, 2, 3, 4, 5].map(|object| locks(&mut other, object)), [0, 1, 0, 1, 0, 1]);
             Ok::<_, Error>(())
         })
         .unwrap();
     // One that can't be taken leaves none, and the work isn't done.
-    let mut never = |objects: &[u32]| session.synchronized_all(objects, |_| -> Result<(), Error> { panic!() }).unwrap_err().refusal();
-    assert_eq!(never(&[]), Some(Refusal::Empty));
-    assert_eq!(never(&[2, 20, 4]), Some(Refusal::UnknownObject));
-    assert_eq!(never(&(0..17).collect::<Vec<_>>()), Some(Refusal::TooMany));
+    let mut never = |objects: Vec<u32>| {
+        let objects: Vec<_> = objects.into_iter().map(Object).collect();
+        session.synchronized_all(&objects, |_| -> Result<(), Error> { panic!() }).unwrap_err().refusal()
+    };
+    assert_eq!(never(vec![]), Some(Refusal::Empty));
+    assert_eq!(never(vec![2, 20, 4]), Some(Refusal::UnknownObject));
+    assert_eq!(never((0..17).collect()), Some(Refusal::TooMany));
     assert!((0..20).all(|object| locks(&mut other, object) == 0));
     // Whichever is named first, no two threads wait for each other.
     std::thread::scope(|scope| {
         for (mut session, objects) in [(session, [4, 0]), (other, [0, 4])] {
             scope.spawn(move || {
                 for _ in 0..1_000 {
-                    session.synchronized_all(&objects, |s| s.load(0).and_then(|count| s.store(0, count + 1))).unwrap();
+                    session.synchronized_all(&objects.map(Object), |s| s.load(Field(0)).and_then(|count| s.store(Field(0), count + 1))).unwrap();
                 }
             });
         }
     });
-    assert_eq!(heap.session().unwrap().synchronized(0, |s| s.load(0)).unwrap(), 2_000);
+    assert_eq!(heap.session().unwrap().synchronized(Object(0), |s| s.load(Field(0))).unwrap(), 2_000);
 }
 
 // How many fields a section may store, each `times` times, until it is full.
 fn fields_of_a_section(reverts: bool, times: u64) -> u32 {
     let scratch = Scratch::new(&format!("room-{reverts}-{times}"));
-    let options = Heap::options().lanes(1).objects(1).fields(2_000, 0, 7).reverts(reverts);
+    let options = Heap::options().lanes(1).objects(1).fields(2_000, Object(0), 7).reverts(reverts);
     let heap = options.open(&scratch).unwrap();
     let mut session = heap.session().unwrap();
     let mut stored = 0;
-    let full = session.synchronized(0, |s| -> Result<(), Error> {
+    let full = session.synchronized(Object(0), |s| -> Result<(), Error> {
         loop {
             for value in 0..times {
-                s.store(stored, value)?;
+                s.store(Field(stored), value)?;
             }
             stored += 1;
         }
     });
     assert_eq!(full.unwrap_err().refusal(), Some(Refusal::SectionFull));
-    let is_back = |s: &mut Held<'_>| (0..2_000).try_fold(true, |is, field| Ok::<_, Error>(is && s.load(field)? == 7));
-    assert_eq!(session.synchronized(0, is_back).is_ok_and(|is| is), reverts);
+    let is_back = |s: &mut Held<'_>| (0..2_000).try_fold(true, |is, field| Ok::<_, Error>(is && s.load(Field(field))? == 7));
+    assert_eq!(session.synchronized(Object(0), is_back).is_ok_and(|is| is), reverts);
     stored
 }
 

@@ -5,13 +5,13 @@ use std::panic::{catch_unwind, AssertUnwindSafe};
 use std::sync::{Arc, Mutex};
 use std::time::Duration;
 use zelamiku::service::{Error, ErrorKind, Heap, Level, Options};
-use zelamiku::Why;
+use zelamiku::{Field, Object, Why};
 
 mod patience;
 mod scratch;
 
 fn counters(lanes: u32) -> Options {
-    Heap::options().lanes(lanes).objects(3).field(0, 0, 0).field(1, 1, 0).field(2, 2, 0)
+    Heap::options().lanes(lanes).objects(3).field(Field(0), Object(0), 0).field(Field(1), Object(1), 0).field(Field(2), Object(2), 0)
 }
 
 type Lines = Arc<Mutex<Vec<(Level, String)>>>;
@@ -30,13 +30,13 @@ fn a_dropped_section_of_the_report_is_a_sessions_own() {
     for earlier in 0..3 {
         let mut session = heap.session().unwrap();
         assert_eq!((session.lane(), session.earlier(), session.sections()), (0, earlier, 0));
-        session.synchronized(0, |s| s.store(0, earlier)).unwrap();
+        session.synchronized(Object(0), |s| s.store(Field(0), earlier)).unwrap();
         session.durable().unwrap();
     }
     let mut session = heap.session().unwrap();
-    session.synchronized(0, |s| s.store(0, 9)).unwrap();
-    let mut guard = session.enter(0).unwrap();
-    guard.store(0, 10).unwrap();
+    session.synchronized(Object(0), |s| s.store(Field(0), 9)).unwrap();
+    let mut guard = session.enter(Object(0)).unwrap();
+    guard.store(Field(0), 10).unwrap();
     heap.stop().unwrap();
     drop(guard);
     // Also after the heap's end.
@@ -60,23 +60,23 @@ fn notifications_tell_whom_they_wake() {
     std::thread::scope(|scope| {
         for mut waiter in waiters {
             scope.spawn(move || {
-                let waited = waiter.synchronized(0, |s| {
-                    let value = s.load(0)?;
-                    s.store(0, value + 1)?;
-                    s.wait(0)
+                let waited = waiter.synchronized(Object(0), |s| {
+                    let value = s.load(Field(0))?;
+                    s.store(Field(0), value + 1)?;
+                    s.wait(Object(0))
                 });
                 waited.unwrap();
             });
         }
-        until("three wait", || own.synchronized(0, |s| s.load(0)).unwrap() == 3);
-        let (one, others) = own.synchronized(0, |s| Ok::<_, Error>((s.notify(0)?, s.notify_all(0)?))).unwrap();
+        until("three wait", || own.synchronized(Object(0), |s| s.load(Field(0))).unwrap() == 3);
+        let (one, others) = own.synchronized(Object(0), |s| Ok::<_, Error>((s.notify(Object(0))?, s.notify_all(Object(0))?))).unwrap();
         let mut woken = others;
         assert!(woken.windows(2).all(|pair| pair[0] < pair[1]));
         woken.extend(one);
         woken.sort_unstable();
         assert_eq!(woken, lanes);
     });
-    assert_eq!(own.synchronized(0, |s| Ok::<_, Error>((s.notify(0)?, s.notify_all(0)?))).unwrap(), (None, vec![]));
+    assert_eq!(own.synchronized(Object(0), |s| Ok::<_, Error>((s.notify(Object(0))?, s.notify_all(Object(0))?))).unwrap(), (None, vec![]));
 }
 
 #[test]
@@ -87,16 +87,16 @@ fn who_waits_for_whom_is_told() {
     let lanes = [first.lane(), second.lane(), third.lane()];
     assert!(heap.waits().unwrap().is_empty());
     std::thread::scope(|scope| {
-        let guard = first.enter(0).unwrap();
-        scope.spawn(move || second.synchronized(1, |s| s.synchronized(0, |s| s.load(0))).unwrap());
+        let guard = first.enter(Object(0)).unwrap();
+        scope.spawn(move || second.synchronized(Object(1), |s| s.synchronized(Object(0), |s| s.load(Field(0)))).unwrap());
         until("one wants a monitor", || heap.waits().unwrap().len() == 1);
-        scope.spawn(move || third.synchronized(1, |s| s.load(1)).unwrap());
+        scope.spawn(move || third.synchronized(Object(1), |s| s.load(Field(1))).unwrap());
         until("two want one", || heap.waits().unwrap().len() == 2);
         let mut waits = heap.waits().unwrap();
         waits.sort_by_key(|wait| wait.object);
         let told = |at: usize| (waits[at].lane, waits[at].object, waits[at].owner, waits[at].is_in_circle);
-        assert_eq!(told(0), (lanes[1], 0, Some(lanes[0]), false));
-        assert_eq!(told(1), (lanes[2], 1, Some(lanes[1]), false));
+        assert_eq!(told(0), (lanes[1], Object(0), Some(lanes[0]), false));
+        assert_eq!(told(1), (lanes[2], Object(1), Some(lanes[1]), false));
         drop(guard);
     });
     assert!(heap.waits().unwrap().is_empty());
@@ -111,7 +111,7 @@ fn a_circle_is_told_and_goes_on_until_the_heap_is_stopped() {
     let heap = counters(3).log(hook).open(&scratch).unwrap();
     let gate = std::sync::Barrier::new(2);
     std::thread::scope(|scope| {
-        for (one, other) in [(0, 1), (1, 0)] {
+        for (one, other) in [(Object(0), Object(1)), (Object(1), Object(0))] {
             let (mut session, gate) = (heap.session().unwrap(), &gate);
             scope.spawn(move || {
                 let mut outer = session.enter(one).unwrap();
@@ -143,17 +143,17 @@ fn a_file_that_was_removed_is_told() {
     let (lines, hook) = log();
     let heap = counters(1).log(hook).open(&scratch).unwrap();
     let mut session = heap.session().unwrap();
-    session.synchronized(0, |s| s.store(0, 1)).unwrap();
+    session.synchronized(Object(0), |s| s.store(Field(0), 1)).unwrap();
     session.durable().unwrap();
     assert!(!heap.stats().unwrap().is_astray);
     std::fs::remove_file(&scratch).unwrap();
     // Nothing stops.
     until("the file is told to be gone", || {
-        session.synchronized(0, |s| s.store(0, 2)).unwrap();
+        session.synchronized(Object(0), |s| s.store(Field(0), 2)).unwrap();
         session.durable().unwrap();
         heap.stats().unwrap().is_astray
     });
-    session.synchronized(0, |s| s.store(0, 3)).unwrap();
+    session.synchronized(Object(0), |s| s.store(Field(0), 3)).unwrap();
     session.durable().unwrap();
     // Who has led says it after the round.
     let warnings = || lines.lock().unwrap().iter().filter(|(level, _)| *level == Level::Warning).count();

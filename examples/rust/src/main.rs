@@ -12,12 +12,13 @@ use std::process::ExitCode;
 use std::sync::atomic::{AtomicBool, Ordering};
 use std::thread;
 use std::time::{Duration, Instant};
-use zelamiku::service::{Error, Heap, Held, Options, Session};
+use zelamiku::{Error, Field, Heap, Held, Object, Options, Session};
 
 // Object 0 has the total, and the counts since the start; object i and field i are worker i's.
 const WORKERS: u32 = 4;
-const TOTAL: u32 = 0;
-const SINCE: u32 = WORKERS + 1;
+const ALL: Object = Object(0);
+const TOTAL: Field = Field(0);
+const SINCE: Field = Field(WORKERS + 1);
 
 type Failure = Box<dyn std::error::Error + Send + Sync>;
 type Worker<'scope> = thread::ScopedJoinHandle<'scope, Result<(), Error>>;
@@ -26,19 +27,19 @@ type Worker<'scope> = thread::ScopedJoinHandle<'scope, Result<(), Error>>;
 fn options() -> Options {
     let options = Heap::options().lanes(WORKERS + 1).objects(WORKERS + 1);
     (0..=WORKERS)
-        .fold(options, |options, number| options.field(number, number, 0))
-        .transient(SINCE, TOTAL, 0)
+        .fold(options, |options, number| options.field(Field(number), Object(number), 0))
+        .transient(SINCE, ALL, 0)
 }
 
-fn count(held: &mut Held<'_>, field: u32) -> Result<(), Error> {
+fn count(held: &mut Held<'_>, field: Field) -> Result<(), Error> {
     let value = held.load(field)?;
     held.store(field, value + 1)
 }
 
 // Counts once, in one section.
 fn count_once(session: &mut Session, own: u32) -> Result<(), Error> {
-    session.synchronized_all(&[own, TOTAL], |held| {
-        count(held, own)?;
+    session.synchronized_all(&[Object(own), ALL], |held| {
+        count(held, Field(own))?;
         count(held, TOTAL)?;
         count(held, SINCE)
     })
@@ -61,9 +62,9 @@ struct Counters {
 
 // Reads all counters in one section.
 fn look(session: &mut Session) -> Result<Counters, Error> {
-    let all: Vec<u32> = (0..=WORKERS).collect();
+    let all: Vec<_> = (0..=WORKERS).map(Object).collect();
     session.synchronized_all(&all, |held| {
-        let workers = (1..=WORKERS).map(|own| held.load(own)).collect::<Result<_, _>>()?;
+        let workers = (1..=WORKERS).map(|own| held.load(Field(own))).collect::<Result<_, _>>()?;
         Ok(Counters { total: held.load(TOTAL)?, workers, since: held.load(SINCE)? })
     })
 }

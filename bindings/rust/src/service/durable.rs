@@ -100,15 +100,15 @@ impl Durable {
     /// may be called again.
     ///
     /// ```
-    /// # use zelamiku::service::Heap;
+    /// # use zelamiku::{Field, Heap, Object};
     /// # let path = std::env::temp_dir().join(format!("zelamiku-durable-wait-{}", std::process::id()));
     /// # let _ = std::fs::remove_file(&path);
-    /// # let heap = Heap::options().objects(1).field(0, 0, 0).open(&path)?;
+    /// # let heap = Heap::options().objects(1).field(Field(0), Object(0), 0).open(&path)?;
     /// # let mut session = heap.session()?;
-    /// session.synchronized(0, |s| s.store(0, 1))?;
+    /// session.synchronized(Object(0), |s| s.store(Field(0), 1))?;
     /// let durable = session.durable_async();
     /// let thread = std::thread::spawn(move || durable.wait()); // which answers a client, say
-    /// session.synchronized(0, |s| s.store(0, 2))?;
+    /// session.synchronized(Object(0), |s| s.store(Field(0), 2))?;
     /// thread.join().unwrap()?;
     /// # std::fs::remove_file(path)?;
     /// # Ok::<(), Box<dyn std::error::Error>>(())

@@ -1,6 +1,6 @@
 //! Why a call of a service failed.
 use crate::raw::{self, threads};
-use crate::Refusal;
+use crate::{Field, Refusal};
 use std::fmt;
 use std::io;
 use std::path::Path;
@@ -91,12 +91,12 @@ pub enum Part {
     Objects,
     /// How many fields there are.
     Fields,
-    /// Which object has the field of this number.
-    Owner(u32),
-    /// Which object guards the field of this number.
-    Guard(u32),
-    /// Whether the field of this number is transient: 1 or 0.
-    Transient(u32),
+    /// Which object has this field.
+    Owner(Field),
+    /// Which object guards this field.
+    Guard(Field),
+    /// Whether this field is transient: 1 or 0.
+    Transient(Field),
     /// The [fingerprint](super::Options::fingerprint).
     Fingerprint,
 }
@@ -107,9 +107,9 @@ impl Difference {
             1 => Part::Lanes,
             2 => Part::Objects,
             3 => Part::Fields,
-            4 => Part::Owner(report.field),
-            5 => Part::Guard(report.field),
-            6 => Part::Transient(report.field),
+            4 => Part::Owner(Field(report.field)),
+            5 => Part::Guard(Field(report.field)),
+            6 => Part::Transient(Field(report.field)),
             7 => Part::Fingerprint,
             _ => return None,
         };
@@ -138,8 +138,8 @@ struct Inner {
 ///
 /// ```
 /// use std::error::Error;
-/// use zelamiku::service::{ErrorKind, Heap};
-/// let error = Heap::options().objects(1).field(0, 0, 0).open("/no such folder/heap").unwrap_err();
+/// use zelamiku::{ErrorKind, Field, Heap, Object};
+/// let error = Heap::options().objects(1).field(Field(0), Object(0), 0).open("/no such folder/heap").unwrap_err();
 /// assert_eq!(error.kind(), ErrorKind::File);
 /// assert_eq!(error.path().to_str(), Some("/no such folder/heap"));
 /// assert!(error.source().is_some());
@@ -263,7 +263,7 @@ impl Error {
     /// What kind of failure it is.
     ///
     /// ```
-    /// # use zelamiku::service::{ErrorKind, Heap};
+    /// # use zelamiku::{ErrorKind, Field, Heap, Object};
     /// let error = Heap::options().open("/tmp").unwrap_err();
     /// assert_eq!(error.kind(), ErrorKind::File);
     /// ```
@@ -275,7 +275,7 @@ impl Error {
     /// The path of the heap's file, as it was given to `open`; of a copy that failed, the copy's.
     ///
     /// ```
-    /// # use zelamiku::service::Heap;
+    /// # use zelamiku::{Field, Heap, Object};
     /// let error = Heap::options().open("/tmp").unwrap_err();
     /// assert_eq!(error.path().to_str(), Some("/tmp"));
     /// ```
@@ -287,7 +287,7 @@ impl Error {
     /// The library's refusal, where one is the cause: of [`ErrorKind::Refused`], [`ErrorKind::Opening`] and [`ErrorKind::Stopped`].
     ///
     /// ```
-    /// # use zelamiku::service::Heap;
+    /// # use zelamiku::{Field, Heap, Object};
     /// # let path = std::env::temp_dir().join(format!("zelamiku-refusal-{}", std::process::id()));
     /// // A heap of no object.
     /// let error = Heap::options().open(&path).unwrap_err();
@@ -305,11 +305,11 @@ impl Error {
     /// In what the file's heap differs from the one that was asked for: of [`ErrorKind::OtherHeap`].
     ///
     /// ```
-    /// # use zelamiku::service::{Difference, Heap, Part};
+    /// # use zelamiku::{Difference, Field, Heap, Object, Part};
     /// # let path = std::env::temp_dir().join(format!("zelamiku-difference-{}", std::process::id()));
     /// # let _ = std::fs::remove_file(&path);
-    /// Heap::options().objects(1).field(0, 0, 100).open(&path)?.close()?;
-    /// let error = Heap::options().objects(2).field(0, 0, 100).open(&path).unwrap_err();
+    /// Heap::options().objects(1).field(Field(0), Object(0), 100).open(&path)?.close()?;
+    /// let error = Heap::options().objects(2).field(Field(0), Object(0), 100).open(&path).unwrap_err();
     /// assert_eq!(error.difference(), Some(Difference { part: Part::Objects, has: 1, planned: 2 }));
     /// # std::fs::remove_file(path)?;
     /// # Ok::<(), Box<dyn std::error::Error>>(())

@@ -1,5 +1,5 @@
 //! What a heap tells a program that watches it: lines for its log, counts, and who waits.
-use crate::lane;
+use crate::{lane, Object};
 use crate::raw::threads::{self, Log};
 use std::fmt;
 use std::sync::Arc;
@@ -143,7 +143,7 @@ pub struct Wait {
     /// The session's lane.
     pub lane: u32,
     /// Whose monitor it sleeps for.
-    pub object: u32,
+    pub object: Object,
     /// The lane of the session that has the monitor. `None` where it is free again and the session is about to wake, or where it can't be
     /// told: all lanes are in sections then, and none of them sleeps.
     pub owner: Option<u32>,
@@ -155,7 +155,7 @@ impl From<threads::Wait> for Wait {
     fn from(told: threads::Wait) -> Wait {
         Wait {
             lane: told.lane,
-            object: told.object,
+            object: Object(told.object),
             owner: lane(told.owner),
             is_in_circle: told.in_circle != 0,
         }

@@ -1,13 +1,13 @@
 //! A heap in a file for a program's threads: made or recovered, locked, with a helper's thread of its own.
 //!
 //! ```
-//! use zelamiku::service::{Error, Heap};
+//! use zelamiku::{Error, Field, Heap, Object};
 //!
 //! # let folder = std::env::temp_dir().join(format!("zelamiku-five-{}", std::process::id()));
 //! # std::fs::create_dir_all(&folder)?;
 //! # std::env::set_current_dir(&folder)?;
-//! const DESK: u32 = 0; // an object: a monitor
-//! const NEXT: u32 = 0; // a field of it: 64 bits, which its monitor guards
+//! const DESK: Object = Object(0); // a monitor
+//! const NEXT: Field = Field(0); // 64 bits, which it guards
 //!
 //! let heap = Heap::options().lanes(8).objects(1).field(NEXT, DESK, 1).open("tickets.heap")?; // made or recovered
 //! let mut session = heap.session()?; // one for each thread
@@ -34,7 +34,7 @@
 //!
 //! [`ErrorKind`] says of each failure whether the heap goes on.
 use crate::raw::{self, threads, threads::HeapNumber};
-use crate::{Field, Found, Pool, Refusal, Report};
+use crate::{Field, Found, NewField, Object, Pool, Refusal, Report};
 use std::fmt;
 use std::path::Path;
 use std::sync::Arc;
@@ -58,7 +58,7 @@ use opening::Opening;
 ///
 /// ```
 /// use std::time::Duration;
-/// use zelamiku::service::Heap;
+/// use zelamiku::{Field, Heap, NewField, Object};
 /// # let path = std::env::temp_dir().join(format!("zelamiku-options-{}", std::process::id()));
 /// # let _ = std::fs::remove_file(&path);
 /// let heap = Heap::options()
@@ -66,9 +66,9 @@ use opening::Opening;
 ///     .capacity(65_536)
 ///     .ring(65_536)
 ///     .objects(2)
-///     .field(0, 0, 100) // field 0, of object 0 and guarded by it
-///     .field(1, 1, 0)
-///     .guarded(zelamiku::Field { owner: 1, guard: 0, first: 5, is_transient: false }) // field 2, of object 1 and guarded by object 0
+///     .field(Field(0), Object(0), 100) // field 0, of object 0 and guarded by it
+///     .field(Field(1), Object(1), 0)
+///     .guarded(NewField { owner: Object(1), guard: Object(0), first: 5, is_transient: false }) // field 2, of object 1 and guarded by object 0
 ///     .linger(Duration::from_millis(1))
 ///     .open(&path)?;
 /// assert_eq!(heap.lanes(), 4);
@@ -79,13 +79,13 @@ use opening::Opening;
 #[must_use = "a heap is opened by `open`"]
 pub struct Options {
     objects: u32,
-    fields: Vec<Field>,
+    fields: Vec<NewField>,
     lanes: u32,
     // Where it isn't said, as the ring's.
     capacity: Option<u32>,
     ring: u32,
     // The numbers that `field` was told, with their places.
-    misplaced: Option<(u32, usize)>,
+    misplaced: Option<(Field, usize)>,
     // A pool that can't be, and why.
     refused: Option<(Pool, Refusal)>,
     linger: Duration,
@@ -107,7 +107,7 @@ impl Options {
     /// are the sessions', and a round takes four syncs.
     ///
     /// ```
-    /// let options = zelamiku::service::Heap::options().lanes(32);
+    /// let options = zelamiku::Heap::options().lanes(32);
     /// ```
     pub fn lanes(mut self, lanes: u32) -> Options {
         self.lanes = lanes;
@@ -119,7 +119,7 @@ impl Options {
     /// open for long. A heap that is there keeps its own.
     ///
     /// ```
-    /// let options = zelamiku::service::Heap::options().capacity(65_536);
+    /// let options = zelamiku::Heap::options().capacity(65_536);
     /// ```
     pub fn capacity(mut self, records: u32) -> Options {
         self.capacity = Some(records);
@@ -132,7 +132,7 @@ impl Options {
     /// [`Refusal::Ring`] where it is out of these limits.
     ///
     /// ```
-    /// let options = zelamiku::service::Heap::options().ring(65_536);
+    /// let options = zelamiku::Heap::options().ring(65_536);
     /// ```
     pub fn ring(mut self, records: u32) -> Options {
         self.ring = records;
@@ -142,31 +142,33 @@ impl Options {
     /// How many objects there are, numbered from 0; 1 to 4,096. Each is a monitor.
     ///
     /// ```
-    /// let options = zelamiku::service::Heap::options().objects(3);
+    /// let options = zelamiku::Heap::options().objects(3);
     /// ```
     pub fn objects(mut self, objects: u32) -> Options {
         self.objects = objects;
         self
     }
 
-    /// Declares the next field: its number, which counts from 0, the object that has and guards it, and its first value. A number that
-    /// isn't the next one is refused by [`open`](Options::open). There are 1 to 16,384 fields.
+    /// Declares the next field, the object that has and guards it, and its first value. Fields count from 0, and one that isn't the next is
+    /// refused by [`open`](Options::open). There are 1 to 16,384 fields.
     ///
     /// ```
-    /// let options = zelamiku::service::Heap::options().objects(2).field(0, 0, 100).field(1, 1, 100);
+    /// use zelamiku::{Field, Heap, Object};
+    /// let options = Heap::options().objects(2).field(Field(0), Object(0), 100).field(Field(1), Object(1), 100);
     /// ```
-    pub fn field(self, number: u32, object: u32, first: u64) -> Options {
-        self.next(number, object, first, false)
+    pub fn field(self, field: Field, object: Object, first: u64) -> Options {
+        self.next(field, object, first, false)
     }
 
     /// Declares the next field as [`field`](Options::field) does, and as transient: threads load and store it as any other, what they
     /// store costs the log nothing, and each open begins with the first value again. It is for what can be had anew: a cache, a count.
     ///
     /// ```
-    /// let options = zelamiku::service::Heap::options().objects(1).field(0, 0, 100).transient(1, 0, 0);
+    /// use zelamiku::{Field, Heap, Object};
+    /// let options = Heap::options().objects(1).field(Field(0), Object(0), 100).transient(Field(1), Object(0), 0);
     /// ```
-    pub fn transient(self, number: u32, object: u32, first: u64) -> Options {
-        self.next(number, object, first, true)
+    pub fn transient(self, field: Field, object: Object, first: u64) -> Options {
+        self.next(field, object, first, true)
     }
 
     /// Declares the fields of a pool, all of whose slots are free: its head is the next field, and its slots' follow. The object has and
@@ -174,10 +176,10 @@ impl Options {
     /// [`open`](Options::open).
     ///
     /// ```
-    /// use zelamiku::Pool;
-    /// let options = zelamiku::service::Heap::options().objects(1).field(0, 0, 100).pool(Pool::new(1, 64), 0);
+    /// use zelamiku::{Field, Object, Pool};
+    /// let options = zelamiku::Heap::options().objects(1).field(Field(0), Object(0), 100).pool(Pool::new(Field(1), 64), Object(0));
     /// ```
-    pub fn pool(mut self, pool: Pool, object: u32) -> Options {
+    pub fn pool(mut self, pool: Pool, object: Object) -> Options {
         self.must_be_next(pool.head());
         match pool.fields(object) {
             Ok(fields) => self.fields.extend(fields),
@@ -186,16 +188,16 @@ impl Options {
         self
     }
 
-    fn must_be_next(&mut self, number: u32) {
+    fn must_be_next(&mut self, field: Field) {
         let place = self.fields.len();
-        if number as usize != place && self.misplaced.is_none() {
-            self.misplaced = Some((number, place));
+        if field.0 as usize != place && self.misplaced.is_none() {
+            self.misplaced = Some((field, place));
         }
     }
 
-    fn next(mut self, number: u32, object: u32, first: u64, is_transient: bool) -> Options {
-        self.must_be_next(number);
-        self.guarded(Field {
+    fn next(mut self, field: Field, object: Object, first: u64, is_transient: bool) -> Options {
+        self.must_be_next(field);
+        self.guarded(NewField {
             owner: object,
             guard: object,
             first,
@@ -206,10 +208,11 @@ impl Options {
     /// Declares the next field, which another object than its owner may guard.
     ///
     /// ```
-    /// let field = zelamiku::Field { owner: 1, guard: 0, first: 5, is_transient: false };
-    /// let options = zelamiku::service::Heap::options().objects(2).guarded(field);
+    /// # use zelamiku::{NewField, Object};
+    /// let field = NewField { owner: Object(1), guard: Object(0), first: 5, is_transient: false };
+    /// let options = zelamiku::Heap::options().objects(2).guarded(field);
     /// ```
-    pub fn guarded(mut self, field: Field) -> Options {
+    pub fn guarded(mut self, field: NewField) -> Options {
         self.fields.push(field);
         self
     }
@@ -217,10 +220,11 @@ impl Options {
     /// Declares so many more fields, each of this object, guarded by it, and at first of this value.
     ///
     /// ```
-    /// let options = zelamiku::service::Heap::options().objects(1).fields(1_000, 0, 0);
+    /// use zelamiku::{Field, Heap, Object};
+    /// let options = Heap::options().objects(1).fields(1_000, Object(0), 0);
     /// ```
-    pub fn fields(mut self, count: u32, object: u32, first: u64) -> Options {
-        let field = Field {
+    pub fn fields(mut self, count: u32, object: Object, first: u64) -> Options {
+        let field = NewField {
             owner: object,
             guard: object,
             first,
@@ -235,7 +239,7 @@ impl Options {
     ///
     /// ```
     /// # use std::time::Duration;
-    /// let options = zelamiku::service::Heap::options().linger(Duration::ZERO);
+    /// let options = zelamiku::Heap::options().linger(Duration::ZERO);
     /// ```
     pub fn linger(mut self, time: Duration) -> Options {
         self.linger = time;
@@ -246,7 +250,7 @@ impl Options {
     /// [`Refusal::OldVersion`]. A library from before can't open it any more afterwards.
     ///
     /// ```
-    /// let options = zelamiku::service::Heap::options().upgrades(true);
+    /// let options = zelamiku::Heap::options().upgrades(true);
     /// ```
     pub fn upgrades(mut self, upgrades: bool) -> Options {
         self.upgrades = upgrades;
@@ -258,10 +262,10 @@ impl Options {
     /// error's [source](std::error::Error::source) is the system's `NotFound`.
     ///
     /// ```
-    /// use zelamiku::service::{ErrorKind, Heap};
+    /// use zelamiku::{ErrorKind, Field, Heap, Object};
     /// # let path = std::env::temp_dir().join(format!("zelamiku-existing-{}", std::process::id()));
     /// # let _ = std::fs::remove_file(&path);
-    /// let error = Heap::options().objects(1).field(0, 0, 100).existing().open(&path).unwrap_err();
+    /// let error = Heap::options().objects(1).field(Field(0), Object(0), 100).existing().open(&path).unwrap_err();
     /// assert_eq!(error.kind(), ErrorKind::NotAHeap);
     /// assert!(!path.exists());
     /// ```
@@ -276,10 +280,10 @@ impl Options {
     /// is refused by [`Part::Fields`] where this isn't said. 0 is none.
     ///
     /// ```
-    /// # use zelamiku::service::{ErrorKind, Heap};
+    /// # use zelamiku::{ErrorKind, Field, Heap, Object};
     /// # let path = std::env::temp_dir().join(format!("zelamiku-fingerprint-{}", std::process::id()));
     /// # let _ = std::fs::remove_file(&path);
-    /// let options = Heap::options().objects(1).field(0, 0, 100);
+    /// let options = Heap::options().objects(1).field(Field(0), Object(0), 100);
     /// options.clone().fingerprint(7).open(&path)?.close()?;
     /// options.clone().fingerprint(7).open(&path)?.close()?;
     /// assert_eq!(options.fingerprint(8).open(&path).unwrap_err().kind(), ErrorKind::OtherHeap);
@@ -299,10 +303,10 @@ impl Options {
     /// Of `["alice", "bob"]` it is `0xe79b_2629_bc40_13b3`.
     ///
     /// ```
-    /// # use zelamiku::service::{ErrorKind, Heap};
+    /// # use zelamiku::{ErrorKind, Field, Heap, Object};
     /// # let path = std::env::temp_dir().join(format!("zelamiku-names-{}", std::process::id()));
     /// # let _ = std::fs::remove_file(&path);
-    /// let options = Heap::options().objects(2).field(0, 0, 100).field(1, 1, 100);
+    /// let options = Heap::options().objects(2).field(Field(0), Object(0), 100).field(Field(1), Object(1), 100);
     /// options.clone().names(&["alice", "bob"]).open(&path)?.close()?;
     /// let error = options.names(&["bob", "alice"]).open(&path).unwrap_err();
     /// assert_eq!(error.kind(), ErrorKind::OtherHeap);
@@ -319,20 +323,20 @@ impl Options {
     /// heap ([`ErrorKind::Abandoned`]): the next opening drops it.
     ///
     /// ```
-    /// # use zelamiku::service::{ErrorKind, Heap};
+    /// # use zelamiku::{ErrorKind, Field, Heap, Object};
     /// # let path = std::env::temp_dir().join(format!("zelamiku-without-{}", std::process::id()));
     /// # let _ = std::fs::remove_file(&path);
-    /// let options = Heap::options().objects(1).field(0, 0, 100).reverts(false);
+    /// let options = Heap::options().objects(1).field(Field(0), Object(0), 100).reverts(false);
     /// let heap = options.clone().open(&path)?;
     /// let mut session = heap.session()?;
-    /// let failed = session.synchronized(0, |s| {
-    ///     s.store(0, 90)?;
-    ///     s.load(7) // there is no such field
+    /// let failed = session.synchronized(Object(0), |s| {
+    ///     s.store(Field(0), 90)?;
+    ///     s.load(Field(7)) // there is no such field
     /// });
     /// assert!(failed.is_err());
     /// assert_eq!(session.durable().unwrap_err().kind(), ErrorKind::Abandoned);
     /// drop((session, heap));
-    /// assert_eq!(options.open(&path)?.session()?.synchronized(0, |s| s.load(0))?, 100);
+    /// assert_eq!(options.open(&path)?.session()?.synchronized(Object(0), |s| s.load(Field(0)))?, 100);
     /// # std::fs::remove_file(path)?;
     /// # Ok::<(), Box<dyn std::error::Error>>(())
     /// ```
@@ -346,7 +350,7 @@ impl Options {
     /// busy processors.
     ///
     /// ```
-    /// let options = zelamiku::service::Heap::options().keeps_slice(true);
+    /// let options = zelamiku::Heap::options().keeps_slice(true);
     /// ```
     pub fn keeps_slice(mut self, keeps: bool) -> Options {
         self.keeps_slice = keeps;
@@ -358,7 +362,7 @@ impl Options {
     /// it ends there.
     ///
     /// ```
-    /// let options = zelamiku::service::Heap::options().log(|level, line| eprintln!("{level:?}: {line}"));
+    /// let options = zelamiku::Heap::options().log(|level, line| eprintln!("{level:?}: {line}"));
     /// ```
     pub fn log(mut self, hook: impl Fn(Level, &str) + Send + Sync + 'static) -> Options {
         self.hook = Some(Hook::new(hook));
@@ -375,10 +379,10 @@ impl Options {
     /// [`ErrorKind::OtherLibrary`].
     ///
     /// ```
-    /// use zelamiku::service::{ErrorKind, Heap};
+    /// use zelamiku::{ErrorKind, Field, Heap, Object};
     /// # let path = std::env::temp_dir().join(format!("zelamiku-open-{}", std::process::id()));
     /// std::fs::write(&path, "notes")?;
-    /// let error = Heap::options().objects(1).field(0, 0, 0).open(&path).unwrap_err();
+    /// let error = Heap::options().objects(1).field(Field(0), Object(0), 0).open(&path).unwrap_err();
     /// assert_eq!(error.kind(), ErrorKind::NotAHeap);
     /// assert_eq!(std::fs::read(&path)?, b"notes");
     /// # std::fs::remove_file(path)?;
@@ -394,11 +398,11 @@ impl Options {
 
     // What the library can't see.
     fn mistake(&self) -> Option<(Option<Refusal>, String)> {
-        if let Some((number, place)) = self.misplaced {
+        if let Some((Field(number), place)) = self.misplaced {
             return Some((None, format!("field {number} was declared where field {place} comes next")));
         }
         if let Some((pool, refusal)) = self.refused {
-            let text = format!("the pool at field {} has {} slots; it may have 1 to 16,383", pool.head(), pool.slots());
+            let text = format!("the pool at field {} has {} slots; it may have 1 to 16,383", pool.head().0, pool.slots());
             return Some((Some(refusal), text));
         }
         // To the library 0 is as good as nothing said.
@@ -436,10 +440,10 @@ impl Heap {
     /// A heap's options: 8 lanes of 16,384 records, no object and no field yet.
     ///
     /// ```
-    /// use zelamiku::service::Heap;
+    /// use zelamiku::{Field, Heap, Object};
     /// # let path = std::env::temp_dir().join(format!("zelamiku-heap-{}", std::process::id()));
     /// # let _ = std::fs::remove_file(&path);
-    /// let heap = Heap::options().objects(1).field(0, 0, 100).open(&path)?;
+    /// let heap = Heap::options().objects(1).field(Field(0), Object(0), 100).open(&path)?;
     /// heap.close()?;
     /// # std::fs::remove_file(path)?;
     /// # Ok::<(), Box<dyn std::error::Error>>(())
@@ -512,10 +516,10 @@ impl Heap {
     /// Hands out a session, of a lane that none has now. [`ErrorKind::NoneLeft`] where all are in use; each final kind.
     ///
     /// ```
-    /// # use zelamiku::service::{ErrorKind, Heap};
+    /// # use zelamiku::{ErrorKind, Field, Heap, Object};
     /// # let path = std::env::temp_dir().join(format!("zelamiku-none-left-{}", std::process::id()));
     /// # let _ = std::fs::remove_file(&path);
-    /// let heap = Heap::options().lanes(1).objects(1).field(0, 0, 100).open(&path)?;
+    /// let heap = Heap::options().lanes(1).objects(1).field(Field(0), Object(0), 100).open(&path)?;
     /// let session = heap.session()?;
     /// assert_eq!(heap.session().unwrap_err().kind(), ErrorKind::NoneLeft);
     /// drop(session);
@@ -530,10 +534,10 @@ impl Heap {
     /// How many lanes the heap has for sessions: so many may be in use at once. The helper's isn't counted.
     ///
     /// ```
-    /// # use zelamiku::service::Heap;
+    /// # use zelamiku::{Field, Heap, Object};
     /// # let path = std::env::temp_dir().join(format!("zelamiku-lanes-{}", std::process::id()));
     /// # let _ = std::fs::remove_file(&path);
-    /// let heap = Heap::options().lanes(3).objects(1).field(0, 0, 100).open(&path)?;
+    /// let heap = Heap::options().lanes(3).objects(1).field(Field(0), Object(0), 100).open(&path)?;
     /// assert_eq!(heap.lanes(), 3);
     /// # std::fs::remove_file(path)?;
     /// # Ok::<(), Box<dyn std::error::Error>>(())
@@ -546,13 +550,13 @@ impl Heap {
     /// What recovery found, where the heap was there; `None` where it was made.
     ///
     /// ```
-    /// # use zelamiku::service::Heap;
+    /// # use zelamiku::{Field, Heap, Object};
     /// # let path = std::env::temp_dir().join(format!("zelamiku-found-{}", std::process::id()));
     /// # let _ = std::fs::remove_file(&path);
-    /// let heap = Heap::options().objects(1).field(0, 0, 100).open(&path)?;
+    /// let heap = Heap::options().objects(1).field(Field(0), Object(0), 100).open(&path)?;
     /// assert!(heap.found().is_none());
     /// heap.close()?;
-    /// let heap = Heap::options().objects(1).field(0, 0, 100).open(&path)?;
+    /// let heap = Heap::options().objects(1).field(Field(0), Object(0), 100).open(&path)?;
     /// assert_eq!(heap.found().map(|found| found.dropped), Some(0));
     /// # std::fs::remove_file(path)?;
     /// # Ok::<(), Box<dyn std::error::Error>>(())
@@ -565,11 +569,11 @@ impl Heap {
     /// Which sections recovery kept and dropped, and why, where the heap was there; `None` where it was made.
     ///
     /// ```
-    /// # use zelamiku::service::Heap;
+    /// # use zelamiku::{Field, Heap, Object};
     /// # let path = std::env::temp_dir().join(format!("zelamiku-report-{}", std::process::id()));
     /// # let _ = std::fs::remove_file(&path);
-    /// # Heap::options().lanes(2).objects(1).field(0, 0, 0).open(&path)?.close()?;
-    /// let heap = Heap::options().lanes(2).objects(1).field(0, 0, 0).open(&path)?;
+    /// # Heap::options().lanes(2).objects(1).field(Field(0), Object(0), 0).open(&path)?.close()?;
+    /// let heap = Heap::options().lanes(2).objects(1).field(Field(0), Object(0), 0).open(&path)?;
     /// let report = heap.report().expect("it was there");
     /// assert_eq!((report.kept.len(), report.dropped.len()), (2, 0));
     /// # std::fs::remove_file(path)?;
@@ -588,16 +592,16 @@ impl Heap {
     /// [`Closed`](ErrorKind::Closed) also where a section that ended meanwhile couldn't be made durable.
     ///
     /// ```
-    /// # use zelamiku::service::{ErrorKind, Heap};
+    /// # use zelamiku::{ErrorKind, Field, Heap, Object};
     /// # let path = std::env::temp_dir().join(format!("zelamiku-close-{}", std::process::id()));
     /// # let _ = std::fs::remove_file(&path);
-    /// let heap = Heap::options().objects(1).field(0, 0, 100).open(&path)?;
+    /// let heap = Heap::options().objects(1).field(Field(0), Object(0), 100).open(&path)?;
     /// let mut session = heap.session()?;
-    /// let guard = session.enter(0)?;
+    /// let guard = session.enter(Object(0))?;
     /// assert_eq!(heap.close().unwrap_err().kind(), ErrorKind::Running);
     /// drop(guard);
     /// heap.close()?;
-    /// assert_eq!(session.enter(0).unwrap_err().kind(), ErrorKind::Closed);
+    /// assert_eq!(session.enter(Object(0)).unwrap_err().kind(), ErrorKind::Closed);
     /// # std::fs::remove_file(path)?;
     /// # Ok::<(), Box<dyn std::error::Error>>(())
     /// ```
@@ -613,12 +617,12 @@ impl Heap {
     /// that from then on. Any other final kind: so it had ended before.
     ///
     /// ```
-    /// # use zelamiku::service::{ErrorKind, Heap};
+    /// # use zelamiku::{ErrorKind, Field, Heap, Object};
     /// # let path = std::env::temp_dir().join(format!("zelamiku-stop-{}", std::process::id()));
     /// # let _ = std::fs::remove_file(&path);
-    /// let heap = Heap::options().objects(1).field(0, 0, 100).open(&path)?;
+    /// let heap = Heap::options().objects(1).field(Field(0), Object(0), 100).open(&path)?;
     /// let mut session = heap.session()?;
-    /// let thread = std::thread::spawn(move || session.synchronized(0, |s| s.wait(0)));
+    /// let thread = std::thread::spawn(move || session.synchronized(Object(0), |s| s.wait(Object(0))));
     /// heap.stop()?;
     /// assert_eq!(thread.join().unwrap().unwrap_err().kind(), ErrorKind::Closed);
     /// # std::fs::remove_file(path)?;
@@ -632,19 +636,19 @@ impl Heap {
     /// opening drops each section that hasn't ended, with all that depends on it.
     ///
     /// ```
-    /// # use zelamiku::service::{ErrorKind, Heap};
+    /// # use zelamiku::{ErrorKind, Field, Heap, Object};
     /// # let path = std::env::temp_dir().join(format!("zelamiku-abandon-{}", std::process::id()));
     /// # let _ = std::fs::remove_file(&path);
-    /// let heap = Heap::options().objects(1).field(0, 0, 100).open(&path)?;
+    /// let heap = Heap::options().objects(1).field(Field(0), Object(0), 100).open(&path)?;
     /// let mut session = heap.session()?;
-    /// let mut guard = session.enter(0)?;
-    /// guard.store(0, 90)?;
+    /// let mut guard = session.enter(Object(0))?;
+    /// guard.store(Field(0), 90)?;
     /// heap.abandon()?;
-    /// assert_eq!(guard.store(0, 80).unwrap_err().kind(), ErrorKind::Abandoned);
+    /// assert_eq!(guard.store(Field(0), 80).unwrap_err().kind(), ErrorKind::Abandoned);
     /// drop(guard);
     /// drop(heap);
-    /// let heap = Heap::options().objects(1).field(0, 0, 100).open(&path)?;
-    /// assert_eq!(heap.session()?.synchronized(0, |s| s.load(0))?, 100);
+    /// let heap = Heap::options().objects(1).field(Field(0), Object(0), 100).open(&path)?;
+    /// assert_eq!(heap.session()?.synchronized(Object(0), |s| s.load(Field(0)))?, 100);
     /// # std::fs::remove_file(path)?;
     /// # Ok::<(), Box<dyn std::error::Error>>(())
     /// ```
@@ -659,17 +663,17 @@ impl Heap {
     /// that path is open. Each final kind.
     ///
     /// ```
-    /// # use zelamiku::service::Heap;
+    /// # use zelamiku::{Field, Heap, Object};
     /// # let path = std::env::temp_dir().join(format!("zelamiku-copied-{}", std::process::id()));
     /// # let copy = path.with_extension("copy");
     /// # let _ = std::fs::remove_file(&path);
-    /// let heap = Heap::options().objects(1).field(0, 0, 100).open(&path)?;
+    /// let heap = Heap::options().objects(1).field(Field(0), Object(0), 100).open(&path)?;
     /// let mut session = heap.session()?;
-    /// session.synchronized(0, |s| s.store(0, 90))?;
+    /// session.synchronized(Object(0), |s| s.store(Field(0), 90))?;
     /// session.durable()?;
     /// heap.copy_to(&copy)?;
-    /// let copied = Heap::options().objects(1).field(0, 0, 100).open(&copy)?;
-    /// assert_eq!(copied.session()?.synchronized(0, |s| s.load(0))?, 90);
+    /// let copied = Heap::options().objects(1).field(Field(0), Object(0), 100).open(&copy)?;
+    /// assert_eq!(copied.session()?.synchronized(Object(0), |s| s.load(Field(0)))?, 90);
     /// # std::fs::remove_file(path)?;
     /// # std::fs::remove_file(copy)?;
     /// # Ok::<(), Box<dyn std::error::Error>>(())
@@ -685,12 +689,12 @@ impl Heap {
     /// What the heap has done since it was opened, and who waits.
     ///
     /// ```
-    /// # use zelamiku::service::Heap;
+    /// # use zelamiku::{Field, Heap, Object};
     /// # let path = std::env::temp_dir().join(format!("zelamiku-stats-{}", std::process::id()));
     /// # let _ = std::fs::remove_file(&path);
-    /// let heap = Heap::options().objects(1).field(0, 0, 100).open(&path)?;
+    /// let heap = Heap::options().objects(1).field(Field(0), Object(0), 100).open(&path)?;
     /// let mut session = heap.session()?;
-    /// session.synchronized(0, |s| s.store(0, 90))?;
+    /// session.synchronized(Object(0), |s| s.store(Field(0), 90))?;
     /// session.durable()?;
     /// let stats = heap.stats()?;
     /// assert_eq!((stats.sections, stats.sessions), (1, 1));
@@ -708,21 +712,21 @@ impl Heap {
     /// for a second. It fails by each final kind.
     ///
     /// ```
-    /// # use zelamiku::service::Heap;
+    /// # use zelamiku::{Field, Heap, Object};
     /// # let path = std::env::temp_dir().join(format!("zelamiku-waits-{}", std::process::id()));
     /// # let _ = std::fs::remove_file(&path);
-    /// # let heap = Heap::options().objects(1).field(0, 0, 100).open(&path)?;
+    /// # let heap = Heap::options().objects(1).field(Field(0), Object(0), 100).open(&path)?;
     /// let (mut session, mut other) = (heap.session()?, heap.session()?);
     /// let (lane, other_lane) = (session.lane(), other.lane());
-    /// let guard = session.enter(0)?;
-    /// let thread = std::thread::spawn(move || other.synchronized(0, |s| s.load(0)));
+    /// let guard = session.enter(Object(0))?;
+    /// let thread = std::thread::spawn(move || other.synchronized(Object(0), |s| s.load(Field(0))));
     /// let waits = loop {
     ///     let waits = heap.waits()?;
     ///     if !waits.is_empty() {
     ///         break waits;
     ///     }
     /// };
-    /// assert_eq!((waits[0].lane, waits[0].object, waits[0].owner), (other_lane, 0, Some(lane)));
+    /// assert_eq!((waits[0].lane, waits[0].object, waits[0].owner), (other_lane, Object(0), Some(lane)));
     /// assert!(!waits[0].is_in_circle);
     /// drop(guard);
     /// # assert_eq!(thread.join().unwrap()?, 100);

@@ -6,7 +6,7 @@ use super::error::ErrorKind;
 use super::opening::Opening;
 use crate::raw::threads::{self, ThreadNumber};
 use crate::raw::{self, OK};
-use crate::{lane, Pool, Refusal, Sight};
+use crate::{lane, Field, Object, Pool, Refusal, Sight};
 use std::fmt;
 use std::mem::ManuallyDrop;
 use std::sync::Arc;
@@ -18,11 +18,11 @@ use std::time::Instant;
 /// the heap, which hands it out again.
 ///
 /// ```
-/// use zelamiku::service::Heap;
+/// use zelamiku::{Field, Heap, Object};
 /// # let path = std::env::temp_dir().join(format!("zelamiku-session-{}", std::process::id()));
 /// # let _ = std::fs::remove_file(&path);
-/// const ACCOUNT: u32 = 0;
-/// const BALANCE: u32 = 0;
+/// const ACCOUNT: Object = Object(0);
+/// const BALANCE: Field = Field(0);
 /// let heap = Heap::options().lanes(2).objects(1).field(BALANCE, ACCOUNT, 100).open(&path)?;
 /// let mut session = heap.session()?;
 /// session.synchronized(ACCOUNT, |account| {
@@ -99,20 +99,20 @@ impl Session {
     /// final kind.
     ///
     /// ```
-    /// # use zelamiku::service::Heap;
+    /// # use zelamiku::{Field, Heap, Object};
     /// # let path = std::env::temp_dir().join(format!("zelamiku-enter-{}", std::process::id()));
     /// # let _ = std::fs::remove_file(&path);
-    /// # let heap = Heap::options().objects(1).field(0, 0, 0).open(&path)?;
+    /// # let heap = Heap::options().objects(1).field(Field(0), Object(0), 0).open(&path)?;
     /// # let mut session = heap.session()?;
-    /// let mut guard = session.enter(0)?;
-    /// guard.store(0, 7)?;
+    /// let mut guard = session.enter(Object(0))?;
+    /// guard.store(Field(0), 7)?;
     /// guard.exit()?;
     /// # std::fs::remove_file(path)?;
     /// # Ok::<(), Box<dyn std::error::Error>>(())
     /// ```
     #[inline]
-    pub fn enter(&mut self, object: u32) -> Result<Held<'_>, Error> {
-        let status = self.thread.enter(object);
+    pub fn enter(&mut self, object: Object) -> Result<Held<'_>, Error> {
+        let status = self.thread.enter(object.0);
         self.answer(status)?;
         Ok(self.hold(object))
     }
@@ -121,44 +121,44 @@ impl Session {
     /// asked for.
     ///
     /// ```
-    /// # use zelamiku::service::Heap;
+    /// # use zelamiku::{Field, Heap, Object};
     /// # let path = std::env::temp_dir().join(format!("zelamiku-try-enter-{}", std::process::id()));
     /// # let _ = std::fs::remove_file(&path);
-    /// # let heap = Heap::options().objects(1).field(0, 0, 0).open(&path)?;
+    /// # let heap = Heap::options().objects(1).field(Field(0), Object(0), 0).open(&path)?;
     /// let (mut session, mut other) = (heap.session()?, heap.session()?);
-    /// let guard = session.enter(0)?;
-    /// assert!(other.try_enter(0)?.is_none());
+    /// let guard = session.enter(Object(0))?;
+    /// assert!(other.try_enter(Object(0))?.is_none());
     /// drop(guard);
-    /// assert!(other.try_enter(0)?.is_some());
+    /// assert!(other.try_enter(Object(0))?.is_some());
     /// # std::fs::remove_file(path)?;
     /// # Ok::<(), Box<dyn std::error::Error>>(())
     /// ```
-    pub fn try_enter(&mut self, object: u32) -> Result<Option<Held<'_>>, Error> {
-        let status = self.thread.try_enter(object);
+    pub fn try_enter(&mut self, object: Object) -> Result<Option<Held<'_>>, Error> {
+        let status = self.thread.try_enter(object.0);
         self.held_or_none(object, status)
     }
 
     /// The same, and sleeps until the deadline at most.
     ///
     /// ```
-    /// # use zelamiku::service::Heap;
+    /// # use zelamiku::{Field, Heap, Object};
     /// # let path = std::env::temp_dir().join(format!("zelamiku-enter-until-{}", std::process::id()));
     /// # let _ = std::fs::remove_file(&path);
-    /// # let heap = Heap::options().objects(1).field(0, 0, 0).open(&path)?;
+    /// # let heap = Heap::options().objects(1).field(Field(0), Object(0), 0).open(&path)?;
     /// use std::time::{Duration, Instant};
     /// let (mut session, mut other) = (heap.session()?, heap.session()?);
-    /// let guard = session.enter(0)?;
-    /// assert!(other.enter_until(0, Instant::now() + Duration::from_millis(20))?.is_none());
+    /// let guard = session.enter(Object(0))?;
+    /// assert!(other.enter_until(Object(0), Instant::now() + Duration::from_millis(20))?.is_none());
     /// # drop(guard);
     /// # std::fs::remove_file(path)?;
     /// # Ok::<(), Box<dyn std::error::Error>>(())
     /// ```
-    pub fn enter_until(&mut self, object: u32, deadline: Instant) -> Result<Option<Held<'_>>, Error> {
-        let status = self.thread.enter_until(object, time_of(deadline));
+    pub fn enter_until(&mut self, object: Object, deadline: Instant) -> Result<Option<Held<'_>>, Error> {
+        let status = self.thread.enter_until(object.0, time_of(deadline));
         self.held_or_none(object, status)
     }
 
-    fn held_or_none(&mut self, object: u32, status: u32) -> Result<Option<Held<'_>>, Error> {
+    fn held_or_none(&mut self, object: Object, status: u32) -> Result<Option<Held<'_>>, Error> {
         match Refusal::from(status) {
             _ if status == OK => Ok(Some(self.hold(object))),
             Refusal::Held | Refusal::Behind => Ok(None),
@@ -167,7 +167,7 @@ impl Session {
     }
 
     #[inline]
-    fn hold(&mut self, object: u32) -> Held<'_> {
+    fn hold(&mut self, object: Object) -> Held<'_> {
         Held { session: self, object }
     }
 
@@ -190,10 +190,10 @@ impl Session {
     /// It fails as [`enter`](Session::enter) and the work do.
     ///
     /// ```
-    /// # use zelamiku::service::{Error, Heap, Session};
+    /// # use zelamiku::{Error, Field, Heap, Object, Session};
     /// # let path = std::env::temp_dir().join(format!("zelamiku-reverts-{}", std::process::id()));
     /// # let _ = std::fs::remove_file(&path);
-    /// # let heap = Heap::options().objects(2).field(0, 0, 90).field(1, 1, 110).open(&path)?;
+    /// # let heap = Heap::options().objects(2).field(Field(0), Object(0), 90).field(Field(1), Object(1), 110).open(&path)?;
     /// # let mut session = heap.session()?;
     /// #[derive(Debug, PartialEq)]
     /// enum Failed {
@@ -206,9 +206,9 @@ impl Session {
     ///     }
     /// }
     /// fn pay(session: &mut Session, amount: u64) -> Result<(), Failed> {
-    ///     session.synchronized(0, |account| {
-    ///         let before = account.load(0)?;
-    ///         account.store(0, before.wrapping_sub(amount))?;
+    ///     session.synchronized(Object(0), |account| {
+    ///         let before = account.load(Field(0))?;
+    ///         account.store(Field(0), before.wrapping_sub(amount))?;
     ///         if before < amount {
     ///             return Err(Failed::TooLittle(before)); // takes the store back
     ///         }
@@ -217,14 +217,14 @@ impl Session {
     /// }
     /// assert_eq!(pay(&mut session, 10), Ok(()));
     /// assert_eq!(pay(&mut session, 100), Err(Failed::TooLittle(80)));
-    /// assert_eq!(session.synchronized(0, |s| s.load(0))?, 80);
+    /// assert_eq!(session.synchronized(Object(0), |s| s.load(Field(0)))?, 80);
     /// # std::fs::remove_file(path)?;
     /// # Ok::<(), Box<dyn std::error::Error>>(())
     /// ```
     #[inline]
     pub fn synchronized<T, E: From<Error>>(
         &mut self,
-        object: u32,
+        object: Object,
         work: impl FnOnce(&mut Held<'_>) -> Result<T, E>,
     ) -> Result<T, E> {
         let mut held = self.enter(object)?;
@@ -241,26 +241,24 @@ impl Session {
     /// does. Where a monitor can't be taken, those before it are freed: this was a section that has stored nothing.
     ///
     /// ```
-    /// # use zelamiku::service::{Error, Heap, Session};
+    /// # use zelamiku::{Error, Field, Heap, Object, Session};
     /// # let path = std::env::temp_dir().join(format!("zelamiku-all-{}", std::process::id()));
     /// # let _ = std::fs::remove_file(&path);
-    /// # let heap = Heap::options().objects(2).field(0, 0, 90).field(1, 1, 110).open(&path)?;
+    /// # let heap = Heap::options().objects(2).field(Field(0), Object(0), 90).field(Field(1), Object(1), 110).open(&path)?;
     /// # let mut session = heap.session()?;
-    /// fn transfer(session: &mut Session, from: u32, to: u32, amount: u64) -> Result<(), Error> {
-    ///     session.synchronized_all(&[from, to], |both| {
-    ///         let before = (both.load(from)?, both.load(to)?);
-    ///         both.store(from, before.0 - amount)?;
-    ///         both.store(to, before.1 + amount)
-    ///     })
-    /// }
-    /// transfer(&mut session, 1, 0, 10)?;
-    /// assert_eq!(session.synchronized(0, |s| s.load(0))?, 100);
+    /// let (alice, bob) = (Object(0), Object(1));
+    /// session.synchronized_all(&[bob, alice], |both| {
+    ///     let (from, to) = (both.load(Field(1))?, both.load(Field(0))?);
+    ///     both.store(Field(1), from - 10)?;
+    ///     both.store(Field(0), to + 10)
+    /// })?;
+    /// assert_eq!(session.synchronized(Object(0), |s| s.load(Field(0)))?, 100);
     /// # std::fs::remove_file(path)?;
     /// # Ok::<(), Box<dyn std::error::Error>>(())
     /// ```
     pub fn synchronized_all<T, E: From<Error>>(
         &mut self,
-        objects: &[u32],
+        objects: &[Object],
         work: impl FnOnce(&mut Held<'_>) -> Result<T, E>,
     ) -> Result<T, E> {
         let mut objects = objects.to_vec();
@@ -271,7 +269,7 @@ impl Session {
     }
 
     // Each monitor inside of the one before.
-    fn within<T, E: From<Error>>(&mut self, objects: &[u32], work: &mut dyn FnMut(&mut Held<'_>) -> Result<T, E>) -> Result<T, E> {
+    fn within<T, E: From<Error>>(&mut self, objects: &[Object], work: &mut dyn FnMut(&mut Held<'_>) -> Result<T, E>) -> Result<T, E> {
         match objects {
             [] => Err(Error::no_object(&self.opening.path).into()),
             [object] => self.synchronized(*object, work),
@@ -301,10 +299,10 @@ impl Session {
     /// The session's lane, from 0 on: the log of the file that has its sections. Another session may have it before and after this one.
     ///
     /// ```
-    /// # use zelamiku::service::Heap;
+    /// # use zelamiku::{Field, Heap, Object};
     /// # let path = std::env::temp_dir().join(format!("zelamiku-lane-{}", std::process::id()));
     /// # let _ = std::fs::remove_file(&path);
-    /// # let heap = Heap::options().lanes(2).objects(1).field(0, 0, 0).open(&path)?;
+    /// # let heap = Heap::options().lanes(2).objects(1).field(Field(0), Object(0), 0).open(&path)?;
     /// let sessions = [heap.session()?, heap.session()?];
     /// assert_ne!(sessions[0].lane(), sessions[1].lane());
     /// # std::fs::remove_file(path)?;
@@ -320,12 +318,12 @@ impl Session {
     /// `dropped.section - earlier`, if that is 1 or more and no later session had the lane by then.
     ///
     /// ```
-    /// # use zelamiku::service::Heap;
+    /// # use zelamiku::{Field, Heap, Object};
     /// # let path = std::env::temp_dir().join(format!("zelamiku-earlier-{}", std::process::id()));
     /// # let _ = std::fs::remove_file(&path);
-    /// # let heap = Heap::options().lanes(1).objects(1).field(0, 0, 0).open(&path)?;
+    /// # let heap = Heap::options().lanes(1).objects(1).field(Field(0), Object(0), 0).open(&path)?;
     /// let mut first = heap.session()?;
-    /// first.synchronized(0, |s| s.store(0, 1))?;
+    /// first.synchronized(Object(0), |s| s.store(Field(0), 1))?;
     /// drop(first);
     /// let second = heap.session()?; // of the same lane, as there is only one
     /// assert_eq!((second.sections(), second.earlier()), (0, 1));
@@ -340,12 +338,12 @@ impl Session {
     /// How many sections this session has ended. One whose end the heap's end has cut off isn't among them.
     ///
     /// ```
-    /// # use zelamiku::service::Heap;
+    /// # use zelamiku::{Field, Heap, Object};
     /// # let path = std::env::temp_dir().join(format!("zelamiku-sections-{}", std::process::id()));
     /// # let _ = std::fs::remove_file(&path);
-    /// # let heap = Heap::options().objects(1).field(0, 0, 0).open(&path)?;
+    /// # let heap = Heap::options().objects(1).field(Field(0), Object(0), 0).open(&path)?;
     /// let mut session = heap.session()?;
-    /// session.synchronized(0, |s| s.store(0, 1))?;
+    /// session.synchronized(Object(0), |s| s.store(Field(0), 1))?;
     /// assert_eq!(session.sections(), 1);
     /// # std::fs::remove_file(path)?;
     /// # Ok::<(), Box<dyn std::error::Error>>(())
@@ -358,12 +356,12 @@ impl Session {
     /// Whether the session's section of this number, from 1 on, is durable: no crash loses it. One that hasn't ended isn't.
     ///
     /// ```
-    /// # use zelamiku::service::Heap;
+    /// # use zelamiku::{Field, Heap, Object};
     /// # let path = std::env::temp_dir().join(format!("zelamiku-is-durable-{}", std::process::id()));
     /// # let _ = std::fs::remove_file(&path);
-    /// # let heap = Heap::options().objects(1).field(0, 0, 0).open(&path)?;
+    /// # let heap = Heap::options().objects(1).field(Field(0), Object(0), 0).open(&path)?;
     /// # let mut session = heap.session()?;
-    /// session.synchronized(0, |s| s.store(0, 1))?;
+    /// session.synchronized(Object(0), |s| s.store(Field(0), 1))?;
     /// let number = session.sections();
     /// session.durable()?;
     /// assert!(session.is_durable(number));
@@ -384,12 +382,12 @@ impl Session {
     /// is lost, and this says so. [`ErrorKind::Running`] where a guard was forgotten (`mem::forget`), whose section is open still.
     ///
     /// ```
-    /// # use zelamiku::service::Heap;
+    /// # use zelamiku::{Field, Heap, Object};
     /// # let path = std::env::temp_dir().join(format!("zelamiku-durable-{}", std::process::id()));
     /// # let _ = std::fs::remove_file(&path);
-    /// # let heap = Heap::options().objects(1).field(0, 0, 0).open(&path)?;
+    /// # let heap = Heap::options().objects(1).field(Field(0), Object(0), 0).open(&path)?;
     /// # let mut session = heap.session()?;
-    /// session.synchronized(0, |s| s.store(0, 1))?;
+    /// session.synchronized(Object(0), |s| s.store(Field(0), 1))?;
     /// session.durable()?;
     /// # std::fs::remove_file(path)?;
     /// # Ok::<(), Box<dyn std::error::Error>>(())
@@ -405,13 +403,13 @@ impl Session {
     /// round and doesn't sleep. It fails as [`durable`](Session::durable) does.
     ///
     /// ```
-    /// # use zelamiku::service::Heap;
+    /// # use zelamiku::{Field, Heap, Object};
     /// # let path = std::env::temp_dir().join(format!("zelamiku-durable-by-{}", std::process::id()));
     /// # let _ = std::fs::remove_file(&path);
-    /// # let heap = Heap::options().objects(1).field(0, 0, 0).open(&path)?;
+    /// # let heap = Heap::options().objects(1).field(Field(0), Object(0), 0).open(&path)?;
     /// # let mut session = heap.session()?;
     /// use std::time::{Duration, Instant};
-    /// session.synchronized(0, |s| s.store(0, 1))?;
+    /// session.synchronized(Object(0), |s| s.store(Field(0), 1))?;
     /// if !session.durable_by(Instant::now() + Duration::from_secs(1))? {
     ///     println!("still not durable, after a second");
     /// }
@@ -433,7 +431,7 @@ impl Session {
     /// ```
     /// use std::future::Future;
     /// use std::task::{Context, Poll, Wake, Waker};
-    /// # use zelamiku::service::Heap;
+    /// # use zelamiku::{Field, Heap, Object};
     /// # let path = std::env::temp_dir().join(format!("zelamiku-durable-async-{}", std::process::id()));
     /// # let _ = std::fs::remove_file(&path);
     ///
@@ -455,11 +453,11 @@ impl Session {
     ///     }
     /// }
     ///
-    /// let heap = Heap::options().objects(1).field(0, 0, 0).open(&path)?;
+    /// let heap = Heap::options().objects(1).field(Field(0), Object(0), 0).open(&path)?;
     /// let mut session = heap.session()?;
-    /// session.synchronized(0, |s| s.store(0, 1))?;
+    /// session.synchronized(Object(0), |s| s.store(Field(0), 1))?;
     /// let durable = session.durable_async();
-    /// session.synchronized(0, |s| s.store(0, 2))?; // of another client
+    /// session.synchronized(Object(0), |s| s.store(Field(0), 2))?; // of another client
     /// block_on(durable)?; // the first client's answer may leave
     /// # std::fs::remove_file(path)?;
     /// # Ok::<(), Box<dyn std::error::Error>>(())
@@ -478,18 +476,18 @@ impl Session {
     /// Looks at a monitor, which needn't be held.
     ///
     /// ```
-    /// # use zelamiku::service::Heap;
+    /// # use zelamiku::{Field, Heap, Object};
     /// # let path = std::env::temp_dir().join(format!("zelamiku-look-{}", std::process::id()));
     /// # let _ = std::fs::remove_file(&path);
-    /// # let heap = Heap::options().objects(1).field(0, 0, 0).open(&path)?;
+    /// # let heap = Heap::options().objects(1).field(Field(0), Object(0), 0).open(&path)?;
     /// # let mut session = heap.session()?;
-    /// assert_eq!(session.look(0)?.owner, None);
+    /// assert_eq!(session.look(Object(0))?.owner, None);
     /// # std::fs::remove_file(path)?;
     /// # Ok::<(), Box<dyn std::error::Error>>(())
     /// ```
-    pub fn look(&mut self, object: u32) -> Result<Sight, Error> {
+    pub fn look(&mut self, object: Object) -> Result<Sight, Error> {
         let mut sight = raw::Sight::default();
-        let status = self.thread.look(object, &mut sight);
+        let status = self.thread.look(object.0, &mut sight);
         self.answer(status)?;
         Ok(Sight::from(sight))
     }
@@ -519,31 +517,31 @@ impl Drop for Session {
 /// (`mem::forget`) does that too, once its session is dropped.
 ///
 /// ```
-/// use zelamiku::service::{Error, Heap, Session};
+/// use zelamiku::{Error, Field, Heap, Object, Session};
 /// # let path = std::env::temp_dir().join(format!("zelamiku-guard-{}", std::process::id()));
 /// # let _ = std::fs::remove_file(&path);
-/// # let heap = Heap::options().objects(2).field(0, 0, 90).field(1, 1, 110).open(&path)?;
+/// # let heap = Heap::options().objects(2).field(Field(0), Object(0), 90).field(Field(1), Object(1), 110).open(&path)?;
 /// # let mut session = heap.session()?;
-/// fn transfer(session: &mut Session, from: u32, to: u32) -> Result<(), Error> {
-///     let mut one = session.enter(from)?;
-///     let balance = one.load(from)?;
-///     one.store(from, balance - 10)?;
-///     let mut both = one.enter(to)?; // an error takes the store back
-///     let balance = both.load(to)?;
-///     both.store(to, balance + 10)?;
+/// fn pay(session: &mut Session, amount: u64, to: Object) -> Result<(), Error> {
+///     let mut from = session.enter(Object(0))?;
+///     let balance = from.load(Field(0))?;
+///     from.store(Field(0), balance - amount)?;
+///     let mut both = from.enter(to)?; // an error takes the store back
+///     let balance = both.load(Field(1))?;
+///     both.store(Field(1), balance + amount)?;
 ///     both.exit()?;
-///     one.exit()
+///     from.exit()
 /// }
-/// transfer(&mut session, 0, 1)?;
-/// assert!(transfer(&mut session, 0, 7).is_err());
-/// assert_eq!(session.enter(0)?.load(0)?, 80);
+/// pay(&mut session, 10, Object(1))?;
+/// assert!(pay(&mut session, 10, Object(7)).is_err()); // there is no such account
+/// assert_eq!(session.enter(Object(0))?.load(Field(0))?, 80);
 /// # std::fs::remove_file(path)?;
 /// # Ok::<(), Box<dyn std::error::Error>>(())
 /// ```
 #[must_use = "the section is taken back as soon as this is dropped"]
 pub struct Held<'session> {
     session: &'session mut Session,
-    object: u32,
+    object: Object,
 }
 
 impl fmt::Debug for Held<'_> {
@@ -558,18 +556,18 @@ impl Held<'_> {
     /// Loads a field whose guard is held, by this or by an outer one. [`ErrorKind::Refused`] by `UnknownField` or `NotHeld`.
     ///
     /// ```
-    /// # use zelamiku::service::Heap;
+    /// # use zelamiku::{Field, Heap, Object};
     /// # let path = std::env::temp_dir().join(format!("zelamiku-load-{}", std::process::id()));
     /// # let _ = std::fs::remove_file(&path);
-    /// let heap = Heap::options().objects(1).field(0, 0, 100).open(&path)?;
-    /// assert_eq!(heap.session()?.synchronized(0, |s| s.load(0))?, 100);
+    /// let heap = Heap::options().objects(1).field(Field(0), Object(0), 100).open(&path)?;
+    /// assert_eq!(heap.session()?.synchronized(Object(0), |s| s.load(Field(0)))?, 100);
     /// # std::fs::remove_file(path)?;
     /// # Ok::<(), Box<dyn std::error::Error>>(())
     /// ```
     #[inline]
-    pub fn load(&mut self, field: u32) -> Result<u64, Error> {
+    pub fn load(&mut self, field: Field) -> Result<u64, Error> {
         let mut value = 0;
-        let status = self.session.thread.load(field, &mut value);
+        let status = self.session.thread.load(field.0, &mut value);
         self.session.answer(status)?;
         Ok(value)
     }
@@ -580,21 +578,21 @@ impl Held<'_> {
     /// taken the section back.
     ///
     /// ```
-    /// # use zelamiku::service::Heap;
+    /// # use zelamiku::{Field, Heap, Object};
     /// # let path = std::env::temp_dir().join(format!("zelamiku-store-{}", std::process::id()));
     /// # let _ = std::fs::remove_file(&path);
-    /// # let heap = Heap::options().objects(1).field(0, 0, 100).open(&path)?;
+    /// # let heap = Heap::options().objects(1).field(Field(0), Object(0), 100).open(&path)?;
     /// # let mut session = heap.session()?;
-    /// session.synchronized(0, |s| s.store(0, 7))?;
-    /// let error = session.synchronized(0, |s| s.store(1, 7)).unwrap_err();
+    /// session.synchronized(Object(0), |s| s.store(Field(0), 7))?;
+    /// let error = session.synchronized(Object(0), |s| s.store(Field(1), 7)).unwrap_err();
     /// assert_eq!(error.refusal(), Some(zelamiku::Refusal::UnknownField));
     /// # std::fs::remove_file(path)?;
     /// # Ok::<(), Box<dyn std::error::Error>>(())
     /// ```
     #[inline]
-    pub fn store(&mut self, field: u32, value: u64) -> Result<(), Error> {
+    pub fn store(&mut self, field: Field, value: u64) -> Result<(), Error> {
         self.session.goes_on()?;
-        let status = self.session.thread.store(field, value);
+        let status = self.session.thread.store(field.0, value);
         self.session.answer(status)
     }
 
@@ -604,13 +602,13 @@ impl Held<'_> {
     /// [`ErrorKind::Reverted`]: nothing was stored then.
     ///
     /// ```
-    /// # use zelamiku::{Error, Heap, Pool};
+    /// # use zelamiku::{Error, Field, Heap, Object, Pool};
     /// # let path = std::env::temp_dir().join(format!("zelamiku-take-{}", std::process::id()));
     /// # let _ = std::fs::remove_file(&path);
-    /// const SEATS: Pool = Pool::new(0, 2);
-    /// let heap = Heap::options().objects(1).pool(SEATS, 0).open(&path)?;
+    /// const SEATS: Pool = Pool::new(Field(0), 2);
+    /// let heap = Heap::options().objects(1).pool(SEATS, Object(0)).open(&path)?;
     /// let mut session = heap.session()?;
-    /// let taken = session.synchronized(0, |s| Ok::<_, Error>([s.take(SEATS)?, s.take(SEATS)?, s.take(SEATS)?]))?;
+    /// let taken = session.synchronized(Object(0), |s| Ok::<_, Error>([s.take(SEATS)?, s.take(SEATS)?, s.take(SEATS)?]))?;
     /// assert_eq!(taken, [Some(0), Some(1), None]);
     /// # std::fs::remove_file(path)?;
     /// # Ok::<(), Box<dyn std::error::Error>>(())
@@ -618,7 +616,7 @@ impl Held<'_> {
     pub fn take(&mut self, pool: Pool) -> Result<Option<u32>, Error> {
         self.session.goes_on()?;
         let mut slot = raw::NO_SLOT;
-        let status = self.session.thread.take(pool.head, pool.slots, &mut slot);
+        let status = self.session.thread.take(pool.head.0, pool.slots, &mut slot);
         match Refusal::from(status) {
             _ if status == OK => Ok(Some(slot)),
             Refusal::PoolEmpty => Ok(None),
@@ -631,24 +629,24 @@ impl Held<'_> {
     /// [`ErrorKind::Refused`] by `NotTaken`, and as [`take`](Held::take): nothing was stored then.
     ///
     /// ```
-    /// # use zelamiku::{service::Heap, Pool, Refusal};
+    /// # use zelamiku::{Field, Heap, Object, Pool, Refusal};
     /// # let path = std::env::temp_dir().join(format!("zelamiku-give-{}", std::process::id()));
     /// # let _ = std::fs::remove_file(&path);
-    /// # const SEATS: Pool = Pool::new(0, 2);
-    /// # let heap = Heap::options().objects(1).pool(SEATS, 0).open(&path)?;
+    /// # const SEATS: Pool = Pool::new(Field(0), 2);
+    /// # let heap = Heap::options().objects(1).pool(SEATS, Object(0)).open(&path)?;
     /// # let mut session = heap.session()?;
-    /// session.synchronized(0, |s| {
+    /// session.synchronized(Object(0), |s| {
     ///     let slot = s.take(SEATS)?.expect("a seat");
     ///     s.give(SEATS, slot)
     /// })?;
-    /// let error = session.synchronized(0, |s| s.give(SEATS, 0)).unwrap_err();
+    /// let error = session.synchronized(Object(0), |s| s.give(SEATS, 0)).unwrap_err();
     /// assert_eq!(error.refusal(), Some(Refusal::NotTaken));
     /// # std::fs::remove_file(path)?;
     /// # Ok::<(), Box<dyn std::error::Error>>(())
     /// ```
     pub fn give(&mut self, pool: Pool, slot: u32) -> Result<(), Error> {
         self.session.goes_on()?;
-        let status = self.session.thread.give(pool.head, pool.slots, slot);
+        let status = self.session.thread.give(pool.head.0, pool.slots, slot);
         self.session.answer(status)
     }
 
@@ -657,14 +655,14 @@ impl Held<'_> {
     /// monitors in one order everywhere: two threads that wait for each other's wait for ever.
     ///
     /// ```
-    /// # use zelamiku::service::Heap;
+    /// # use zelamiku::{Field, Heap, Object};
     /// # let path = std::env::temp_dir().join(format!("zelamiku-nested-{}", std::process::id()));
     /// # let _ = std::fs::remove_file(&path);
-    /// # let heap = Heap::options().objects(2).field(0, 0, 1).field(1, 1, 2).open(&path)?;
+    /// # let heap = Heap::options().objects(2).field(Field(0), Object(0), 1).field(Field(1), Object(1), 2).open(&path)?;
     /// # let mut session = heap.session()?;
-    /// let mut first = session.enter(0)?;
-    /// let mut second = first.enter(1)?;
-    /// let sum = second.load(0)? + second.load(1)?;
+    /// let mut first = session.enter(Object(0))?;
+    /// let mut second = first.enter(Object(1))?;
+    /// let sum = second.load(Field(0))? + second.load(Field(1))?;
     /// second.exit()?;
     /// first.exit()?;
     /// assert_eq!((sum, session.sections()), (3, 1));
@@ -672,19 +670,19 @@ impl Held<'_> {
     /// # Ok::<(), Box<dyn std::error::Error>>(())
     /// ```
     #[inline]
-    pub fn enter(&mut self, object: u32) -> Result<Held<'_>, Error> {
+    pub fn enter(&mut self, object: Object) -> Result<Held<'_>, Error> {
         self.session.enter(object)
     }
 
     /// Does the work while one more monitor is held, as [`Session::synchronized`] does.
     ///
     /// ```
-    /// # use zelamiku::{Error, Heap};
+    /// # use zelamiku::{Error, Field, Heap, Object};
     /// # let path = std::env::temp_dir().join(format!("zelamiku-nested-work-{}", std::process::id()));
     /// # let _ = std::fs::remove_file(&path);
-    /// # let heap = Heap::options().objects(2).field(0, 0, 1).field(1, 1, 2).open(&path)?;
+    /// # let heap = Heap::options().objects(2).field(Field(0), Object(0), 1).field(Field(1), Object(1), 2).open(&path)?;
     /// # let mut session = heap.session()?;
-    /// let sum = session.synchronized(0, |s| s.synchronized(1, |s| Ok::<_, Error>(s.load(0)? + s.load(1)?)))?;
+    /// let sum = session.synchronized(Object(0), |s| s.synchronized(Object(1), |s| Ok::<_, Error>(s.load(Field(0))? + s.load(Field(1))?)))?;
     /// assert_eq!(sum, 3);
     /// # std::fs::remove_file(path)?;
     /// # Ok::<(), Box<dyn std::error::Error>>(())
@@ -692,7 +690,7 @@ impl Held<'_> {
     #[inline]
     pub fn synchronized<T, E: From<Error>>(
         &mut self,
-        object: u32,
+        object: Object,
         work: impl FnOnce(&mut Held<'_>) -> Result<T, E>,
     ) -> Result<T, E> {
         self.session.synchronized(object, work)
@@ -706,30 +704,30 @@ impl Held<'_> {
     /// can't write, and [`ErrorKind::Reverted`] where a nested work has failed: what is held stays as it was. Each final kind: it isn't.
     ///
     /// ```
-    /// # use zelamiku::service::Heap;
+    /// # use zelamiku::{Field, Heap, Object};
     /// # let path = std::env::temp_dir().join(format!("zelamiku-wait-{}", std::process::id()));
     /// # let _ = std::fs::remove_file(&path);
-    /// let heap = Heap::options().objects(1).field(0, 0, 0).open(&path)?;
+    /// let heap = Heap::options().objects(1).field(Field(0), Object(0), 0).open(&path)?;
     /// let (mut producer, mut consumer) = (heap.session()?, heap.session()?);
     /// let thread = std::thread::spawn(move || {
-    ///     consumer.synchronized(0, |s| {
-    ///         while s.load(0)? == 0 {
-    ///             s.wait(0)?;
+    ///     consumer.synchronized(Object(0), |s| {
+    ///         while s.load(Field(0))? == 0 {
+    ///             s.wait(Object(0))?;
     ///         }
-    ///         s.load(0)
+    ///         s.load(Field(0))
     ///     })
     /// });
-    /// producer.synchronized(0, |s| {
-    ///     s.store(0, 7)?;
-    ///     s.notify_all(0)
+    /// producer.synchronized(Object(0), |s| {
+    ///     s.store(Field(0), 7)?;
+    ///     s.notify_all(Object(0))
     /// })?;
     /// assert_eq!(thread.join().unwrap()?, 7);
     /// # std::fs::remove_file(path)?;
     /// # Ok::<(), Box<dyn std::error::Error>>(())
     /// ```
-    pub fn wait(&mut self, object: u32) -> Result<(), Error> {
+    pub fn wait(&mut self, object: Object) -> Result<(), Error> {
         self.session.goes_on()?;
-        let status = self.session.thread.wait(object);
+        let status = self.session.thread.wait(object.0);
         self.session.answer(status)
     }
 
@@ -738,18 +736,18 @@ impl Held<'_> {
     /// to have its turn, wake all.
     ///
     /// ```
-    /// # use zelamiku::service::Heap;
+    /// # use zelamiku::{Field, Heap, Object};
     /// # let path = std::env::temp_dir().join(format!("zelamiku-notify-{}", std::process::id()));
     /// # let _ = std::fs::remove_file(&path);
-    /// # let heap = Heap::options().objects(1).field(0, 0, 0).open(&path)?;
+    /// # let heap = Heap::options().objects(1).field(Field(0), Object(0), 0).open(&path)?;
     /// # let mut session = heap.session()?;
-    /// assert_eq!(session.synchronized(0, |s| s.notify(0))?, None);
+    /// assert_eq!(session.synchronized(Object(0), |s| s.notify(Object(0)))?, None);
     /// # std::fs::remove_file(path)?;
     /// # Ok::<(), Box<dyn std::error::Error>>(())
     /// ```
-    pub fn notify(&mut self, object: u32) -> Result<Option<u32>, Error> {
+    pub fn notify(&mut self, object: Object) -> Result<Option<u32>, Error> {
         let mut woken = raw::NOBODY;
-        let status = self.session.thread.notify(object, &mut woken);
+        let status = self.session.thread.notify(object.0, &mut woken);
         self.session.answer(status)?;
         Ok(lane(woken))
     }
@@ -758,18 +756,18 @@ impl Held<'_> {
     /// isn't promised.
     ///
     /// ```
-    /// # use zelamiku::service::Heap;
+    /// # use zelamiku::{Field, Heap, Object};
     /// # let path = std::env::temp_dir().join(format!("zelamiku-notify-all-{}", std::process::id()));
     /// # let _ = std::fs::remove_file(&path);
-    /// # let heap = Heap::options().objects(1).field(0, 0, 0).open(&path)?;
+    /// # let heap = Heap::options().objects(1).field(Field(0), Object(0), 0).open(&path)?;
     /// # let mut session = heap.session()?;
-    /// assert!(session.synchronized(0, |s| s.notify_all(0))?.is_empty());
+    /// assert!(session.synchronized(Object(0), |s| s.notify_all(Object(0)))?.is_empty());
     /// # std::fs::remove_file(path)?;
     /// # Ok::<(), Box<dyn std::error::Error>>(())
     /// ```
-    pub fn notify_all(&mut self, object: u32) -> Result<Vec<u32>, Error> {
+    pub fn notify_all(&mut self, object: Object) -> Result<Vec<u32>, Error> {
         let mut woken = 0;
-        let status = self.session.thread.notify_all(object, &mut woken);
+        let status = self.session.thread.notify_all(object.0, &mut woken);
         self.session.answer(status)?;
         Ok((0..raw::NOBODY).filter(|lane| woken >> lane & 1 == 1).collect())
     }
@@ -783,22 +781,22 @@ impl Held<'_> {
     /// [`Options::reverts(false)`](super::Options::reverts). Each final kind.
     ///
     /// ```
-    /// # use zelamiku::{Error, Heap};
+    /// # use zelamiku::{Error, Field, Heap, Object};
     /// # let path = std::env::temp_dir().join(format!("zelamiku-revert-{}", std::process::id()));
     /// # let _ = std::fs::remove_file(&path);
-    /// # let heap = Heap::options().objects(2).field(0, 0, 100).field(1, 1, 0).open(&path)?;
+    /// # let heap = Heap::options().objects(2).field(Field(0), Object(0), 100).field(Field(1), Object(1), 0).open(&path)?;
     /// # let mut session = heap.session()?;
-    /// let is_paid = session.synchronized(0, |from| {
-    ///     let balance = from.load(0)?;
-    ///     from.store(0, balance - 10)?;
-    ///     if from.synchronized(1, |to| to.load(1))? == 0 {
+    /// let is_paid = session.synchronized(Object(0), |from| {
+    ///     let balance = from.load(Field(0))?;
+    ///     from.store(Field(0), balance - 10)?;
+    ///     if from.synchronized(Object(1), |to| to.load(Field(1)))? == 0 {
     ///         from.revert()?; // to an account that was closed nothing is paid
     ///         return Ok::<_, Error>(false);
     ///     }
     ///     Ok(true)
     /// })?;
     /// assert!(!is_paid);
-    /// assert_eq!(session.synchronized(0, |s| s.load(0))?, 100);
+    /// assert_eq!(session.synchronized(Object(0), |s| s.load(Field(0)))?, 100);
     /// # std::fs::remove_file(path)?;
     /// # Ok::<(), Box<dyn std::error::Error>>(())
     /// ```
@@ -813,12 +811,12 @@ impl Held<'_> {
     /// monitor was freed. Each final kind: the section hasn't ended, and the next opening drops it.
     ///
     /// ```
-    /// # use zelamiku::service::Heap;
+    /// # use zelamiku::{Field, Heap, Object};
     /// # let path = std::env::temp_dir().join(format!("zelamiku-exit-{}", std::process::id()));
     /// # let _ = std::fs::remove_file(&path);
-    /// # let heap = Heap::options().objects(1).field(0, 0, 0).open(&path)?;
+    /// # let heap = Heap::options().objects(1).field(Field(0), Object(0), 0).open(&path)?;
     /// # let mut session = heap.session()?;
-    /// session.enter(0)?.exit()?;
+    /// session.enter(Object(0))?.exit()?;
     /// assert_eq!(session.sections(), 1);
     /// # std::fs::remove_file(path)?;
     /// # Ok::<(), Box<dyn std::error::Error>>(())
@@ -834,7 +832,7 @@ impl Held<'_> {
     // Frees one lock. One that a wait has lost with its heap isn't there any more, and is refused.
     #[inline]
     fn leave(&mut self) -> Result<(), Error> {
-        let status = self.session.thread.exit(self.object);
+        let status = self.session.thread.exit(self.object.0);
         // The next section is none of that.
         self.session.is_taken_back &= self.session.thread.is_open();
         self.session.answer(status)

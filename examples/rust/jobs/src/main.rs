@@ -14,7 +14,7 @@ use std::io::{self, Write};
 use std::process::ExitCode;
 use std::sync::atomic::{AtomicBool, Ordering};
 use std::thread;
-use zelamiku::service::{Heap, Session};
+use zelamiku::{Heap, Session};
 
 const CONSUMERS: u32 = 3;
 

@@ -3,13 +3,12 @@
 //! A job is there from the section that put it to the section that says it is done, whatever happens in between: one that was taken
 //! when the process died is handed out again, since that a consumer has it is kept in a transient field. One job of a producer is in hand
 //! at a time, so that its jobs are done in its order.
-use zelamiku::service::{Error, Heap, Held, Options, Session};
-use zelamiku::Pool;
+use zelamiku::{Error, Field, Heap, Held, Object, Options, Pool, Session};
 
 pub const PRODUCERS: u32 = 3;
 
 // The object whose monitor guards all fields.
-const QUEUE: u32 = 0;
+const QUEUE: Object = Object(0);
 
 // Each producer's fields.
 #[derive(Clone, Copy)]
@@ -26,30 +25,18 @@ enum Of {
 
 const OF_EACH: u32 = 5;
 
-fn of(producer: u32, which: Of) -> u32 {
-    producer * OF_EACH + which as u32
+fn of(producer: u32, which: Of) -> Field {
+    Field(producer * OF_EACH + which as u32)
 }
 
 // The pool, whose slots all producers share, and of each slot what lies in it.
-const SLOTS: Pool = Pool::new(PRODUCERS * OF_EACH, 16);
-const PAYLOAD: u32 = SLOTS.head() + 1 + SLOTS.slots();
+const SLOTS: Pool = Pool::new(Field(PRODUCERS * OF_EACH), 16);
+const PAYLOAD: Field = SLOTS.head().plus(1 + SLOTS.slots());
 // The slot of the producer's next job, plus one.
-const NEXT: u32 = PAYLOAD + SLOTS.slots();
+const NEXT: Field = PAYLOAD.plus(SLOTS.slots());
 
 // Whether a consumer has the producer's oldest job. It is transient: at each opening nobody has.
-const IN_HAND: u32 = NEXT + SLOTS.slots();
-
-fn payload_of(slot: u32) -> u32 {
-    PAYLOAD + slot
-}
-
-fn next_of(slot: u32) -> u32 {
-    NEXT + slot
-}
-
-fn in_hand(producer: u32) -> u32 {
-    IN_HAND + producer
-}
+const IN_HAND: Field = NEXT.plus(SLOTS.slots());
 
 /// The heap that has the queue: for so many threads.
 pub fn options(threads: u32) -> Options {
@@ -59,7 +46,7 @@ pub fn options(threads: u32) -> Options {
         .fields(PRODUCERS * OF_EACH, QUEUE, 0)
         .pool(SLOTS, QUEUE)
         .fields(2 * SLOTS.slots(), QUEUE, 0);
-    (0..PRODUCERS).fold(options, |options, producer| options.transient(in_hand(producer), QUEUE, 0))
+    (0..PRODUCERS).fold(options, |options, producer| options.transient(IN_HAND.plus(producer), QUEUE, 0))
 }
 
 /// A job that a consumer has in hand.
@@ -104,8 +91,8 @@ fn look_at(queue: &mut Held<'_>, producer: u32, slots: &mut Vec<u32>) -> Result<
     let mut link = queue.load(of(producer, Of::First))?;
     while let Some(slot) = slot_in(link) {
         slots.push(slot);
-        open.push(queue.load(payload_of(slot))?);
-        link = queue.load(next_of(slot))?;
+        open.push(queue.load(PAYLOAD.plus(slot))?);
+        link = queue.load(NEXT.plus(slot))?;
     }
     Ok(Found {
         put,
@@ -134,11 +121,11 @@ pub fn put(session: &mut Session, producer: u32, payload: impl Fn(u64) -> u64) -
             }
         };
         let number = queue.load(of(producer, Of::Put))? + 1;
-        queue.store(payload_of(slot), payload(number))?;
-        queue.store(next_of(slot), 0)?;
+        queue.store(PAYLOAD.plus(slot), payload(number))?;
+        queue.store(NEXT.plus(slot), 0)?;
         // Behind the newest, or as the oldest.
         match slot_in(queue.load(of(producer, Of::Last))?) {
-            Some(newest) => queue.store(next_of(newest), link_to(slot))?,
+            Some(newest) => queue.store(NEXT.plus(newest), link_to(slot))?,
             None => queue.store(of(producer, Of::First), link_to(slot))?,
         }
         queue.store(of(producer, Of::Last), link_to(slot))?;
@@ -157,12 +144,12 @@ pub fn take(session: &mut Session, last: u32, is_over: impl Fn() -> bool) -> Res
                 continue;
             };
             is_empty = false;
-            if queue.load(in_hand(producer))? == 0 {
-                queue.store(in_hand(producer), 1)?;
+            if queue.load(IN_HAND.plus(producer))? == 0 {
+                queue.store(IN_HAND.plus(producer), 1)?;
                 return Ok(Some(Job {
                     producer,
                     number: queue.load(of(producer, Of::Done))? + 1,
-                    payload: queue.load(payload_of(slot))?,
+                    payload: queue.load(PAYLOAD.plus(slot))?,
                 }));
             }
         }
@@ -180,14 +167,14 @@ pub fn finish(session: &mut Session, job: Job) -> Result<(), Error> {
         queue.store(of(job.producer, Of::Sum), sum.wrapping_add(job.payload))?;
         queue.store(of(job.producer, Of::Done), job.number)?;
         if let Some(slot) = slot_in(queue.load(of(job.producer, Of::First))?) {
-            let next = queue.load(next_of(slot))?;
+            let next = queue.load(NEXT.plus(slot))?;
             queue.store(of(job.producer, Of::First), next)?;
             if next == 0 {
                 queue.store(of(job.producer, Of::Last), 0)?;
             }
             queue.give(SLOTS, slot)?;
         }
-        queue.store(in_hand(job.producer), 0)?;
+        queue.store(IN_HAND.plus(job.producer), 0)?;
         queue.notify_all(QUEUE).map(|_| ())
     })
 }
