@@ -403,7 +403,7 @@ typedef struct {
 } zelamiku_device;
 
 /* Opens the heap of the device as zelamiku_heap_open opens that of a file, and makes one where the device is free, in place: as many
- * bytes as the heap takes are zeros, or what a making that was cut off has left. Whatever comes after these bytes is never looked at.
+ * bytes as the heap takes are zeros, or what a making that was cut off at any call has left. Whatever comes after these bytes is never looked at.
  * `name` stands for the path in messages. Nothing is locked: one heap at a time is on a device, and nobody else writes it. As
  * zelamiku_heap_open, but never BUSY. TOO_SMALL: the device has fewer bytes than the heap takes, and stays as it is. NOT_FORMATTED: it
  * isn't free; so as to make a heap over what is there, write zeros over it first. */

@@ -89,8 +89,8 @@ typedef struct {
 /* Tells which image a device has, by its first ZELAMIKU_HEAD_BYTES bytes; of a shorter one, by all of them and zeros.
  * OK: they are the header of an image of that shape. Whether the rest is as large, and an image, zelamiku_open finds.
  * NOT_FORMATTED: they are none. Where `is_damaged` is 0 a heap may be made there, if the device has only zeros from `zeros_from` on. That is
- * 0; or where the lanes' areas begin, if a making in place was cut off before its first control. BAD_HEADER: a number of the header is out of
- * its limits. TOO_SMALL: fewer bytes are given. All other numbers are 0 then. */
+ * 0; or where the lanes' areas begin, if a making in place was cut off before its last gate. BAD_HEADER: a number of the header is out of its
+ * limits. TOO_SMALL: fewer bytes are given. All other numbers are 0 then. */
 ZELAMIKU_MUST_USE zelamiku_status zelamiku_head(const uint8_t *begun, size_t size, zelamiku_shape *shape);
 
 /* Makes a heap of so many objects and of these fields, with `lanes` (1 to 32) lanes of `capacity` (2,000 to 1,048,576) records

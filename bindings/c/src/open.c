@@ -177,10 +177,13 @@ static void leave_helper_out(door *at) {
     found->lanes = found->threads;
 }
 
+enum { HEADER_BYTES = 64 }; /* where a device has fewer, there is no heap, and nothing else is said of its bytes */
+
 /* Opens the heap of the device's bytes, which are durable. NOT_FORMATTED has no message yet: its first bytes are no header. */
 static zelamiku_status open_image(door *at, uint64_t size) {
     uint8_t begun[ZELAMIKU_HEAD_BYTES] = {0};
     const zelamiku_device *from = &at->of->device;
+    if (size < HEADER_BYTES) return ZELAMIKU_NOT_FORMATTED;
     if (read_device(from, 0, begun, (size_t)(size < sizeof begun ? size : sizeof begun)) != ZELAMIKU_OK) return no_device(at, "it can't be read");
     zelamiku_status status = zelamiku_head(begun, sizeof begun, &at->shape);
     if (status == ZELAMIKU_NOT_FORMATTED) return status;
@@ -205,29 +208,66 @@ static zelamiku_status open_image(door *at, uint64_t size) {
 }
 
 /* Whether the device has only zeros from there on, up to `size`. */
-static zelamiku_status must_be_zeros(door *at, uint64_t from, uint64_t size) {
+static zelamiku_status look_for_zeros(door *at, uint64_t from, uint64_t size, bool *has_zeros) {
     uint8_t bytes[4096];
     static const uint8_t zeros[sizeof bytes];
-    for (uint64_t count; from < size; from += count) {
+    *has_zeros = true;
+    for (uint64_t count; *has_zeros && from < size; from += count) {
         count = size - from < sizeof bytes ? size - from : sizeof bytes;
         if (read_device(&at->of->device, from, bytes, (size_t)count) != ZELAMIKU_OK) return no_device(at, "it can't be read");
-        if (memcmp(bytes, zeros, (size_t)count) != 0) return refuse(at, ZELAMIKU_NOT_FORMATTED, 0);
+        *has_zeros = memcmp(bytes, zeros, (size_t)count) == 0;
     }
     return ZELAMIKU_OK;
 }
 
-/* Whether a heap may replace the first `size` bytes of the device, in which the library has found none: they are none, only zeros, or what a
- * making in place that was cut off before its first control has left. A heap with a changed byte isn't free: its control shows that there was
- * one, or its lanes' areas do. */
+/* A device that stands for a making: it compares each write with what is on another device, and keeps nothing. */
+typedef struct {
+    const zelamiku_device *with;
+    uint64_t end; /* of the writes */
+    bool is_left; /* each byte is a zero, or the one that the making writes there */
+} comparison;
+
+static zelamiku_status compare_write(void *context, uint64_t at, const void *bytes, size_t size) {
+    comparison *it = (comparison *)context;
+    uint8_t there[ZELAMIKU_MOST_BYTES];
+    assert(size <= sizeof there);
+    zelamiku_status status = read_device(it->with, at, there, size);
+    for (size_t i = 0; status == ZELAMIKU_OK && i < size; i++) it->is_left &= there[i] == 0 || there[i] == ((const uint8_t *)bytes)[i];
+    if (at + size > it->end) it->end = at + size;
+    return status;
+}
+
+static zelamiku_status compare_sync(void *context) {
+    (void)context;
+    return ZELAMIKU_OK;
+}
+
+/* Whether a making of the heap that the handle has may have left what is on the device, and was cut off before its last gate: whichever of its
+ * writes are there, whole or torn. Nothing was acknowledged then. It takes the handle's first calls, and writes nothing. */
+static zelamiku_status compare_with_making(door *at, uint64_t size, bool *is_left) {
+    comparison it = {.with = &at->of->device, .is_left = true};
+    const zelamiku_device compared = {.write = compare_write, .sync = compare_sync, .context = &it};
+    uint64_t calls = 0, syncs = 0;
+    zelamiku_status status = make_calls_on(&at->handle, &compared, &calls, &syncs);
+    if (status != ZELAMIKU_OK) return no_device(at, "it can't be read");
+    *is_left = it.is_left;
+    return it.is_left ? look_for_zeros(at, it.end, size, is_left) : ZELAMIKU_OK;
+}
+
+/* Whether a heap may replace the first `size` bytes of the device, in which the library has found none. They are none, or only zeros. Or a making
+ * in place has left them that was cut off, of this heap or of another one: the library tells of another's, by what it begins with, from where on
+ * there are zeros. A heap with a changed byte isn't free: its control shows that there was one, or its lanes' areas do. */
 static zelamiku_status must_be_free(door *at, uint64_t size) {
     const zelamiku_shape *begun = &at->shape;
-    if (begun->is_damaged == 0 && begun->zeros_from == 0) return must_be_zeros(at, 0, size);
-    (void)snprintf(at->cause, sizeof at->cause, "it begins as a heap does, and has none: its first bytes are damaged");
-    (void)snprintf(at->cure, sizeof at->cure, "it was left as it is: take the back-up");
-    if (begun->is_damaged != 0) return refuse(at, ZELAMIKU_NOT_FORMATTED, 0);
-    zelamiku_status status = must_be_zeros(at, begun->zeros_from, size);
-    if (status == ZELAMIKU_OK) at->cause[0] = at->cure[0] = 0;
-    return status;
+    bool is_whole = size >= ZELAMIKU_HEAD_BYTES, has_name = begun->is_damaged != 0 || begun->zeros_from != 0, is_free = false;
+    zelamiku_status status = ZELAMIKU_OK;
+    if (begun->is_damaged == 0) status = look_for_zeros(at, is_whole ? begun->zeros_from : 0, size, &is_free);
+    if (status != ZELAMIKU_OK || is_free) return status;
+    if (has_name) {
+        (void)snprintf(at->cause, sizeof at->cause, "it begins as a heap does, and has none: its first bytes are damaged");
+        (void)snprintf(at->cure, sizeof at->cure, "it was left as it is: take the back-up");
+    }
+    return refuse(at, ZELAMIKU_NOT_FORMATTED, 0);
 }
 
 /* Writes so many zeros, durably, so that there is space before anything is kept in it. */
@@ -340,8 +380,10 @@ static zelamiku_status make_at_path(door *at) {
 /* Where a device of `has` bytes has no heap: makes one in place, if what it is to lie on is free. */
 static zelamiku_status make_in_place(door *at, uint64_t has) {
     uint64_t size = 0;
+    bool is_left = false;
     zelamiku_status status = format(at, &size);
-    if (status == ZELAMIKU_OK) status = must_be_free(at, has < size ? has : size);
+    if (status == ZELAMIKU_OK && has >= size) status = compare_with_making(at, size, &is_left);
+    if (status == ZELAMIKU_OK && !is_left) status = must_be_free(at, has < size ? has : size);
     if (status == ZELAMIKU_OK) status = may_make(at, 0);
     if (status != ZELAMIKU_OK) return status;
     if (has < size) {
@@ -350,7 +392,9 @@ static zelamiku_status make_in_place(door *at, uint64_t has) {
         (void)snprintf(at->cure, sizeof at->cure, "give it more, or the plan fewer lanes or a smaller capacity");
         return refuse(at, ZELAMIKU_TOO_SMALL, 0);
     }
-    status = make_on(at, &at->of->device, size);
+    zelamiku_free(&at->handle); /* its first calls were compared */
+    status = format(at, &size);
+    if (status == ZELAMIKU_OK) status = make_on(at, &at->of->device, size);
     if (status == ZELAMIKU_OK) report_made(at, size);
     return status;
 }

@@ -6,7 +6,7 @@
 #include "must.h"
 #include "altered.h"
 
-enum { TRIES_BY_CHANCE = 10000, CONTROLLED = 2160 };
+enum { TRIES_BY_CHANCE = 10000, CONTROLLED = 2160, SHUT_GATES = 8 };
 static const zelamiku_plan PLAN = {.fields = FIELDS, .count = FIELDS_THERE, .objects = OBJECTS_THERE, .lanes = 2, .capacity = 2000};
 
 static image bases[3]; /* of heaps that were closed, that was let go in the midst of sections, and that nobody used */
@@ -41,13 +41,20 @@ static bool is_zeros(const uint8_t *bytes, size_t size) {
     return size == 0 || (bytes[0] == 0 && memcmp(bytes, bytes + 1, size - 1) == 0);
 }
 
+/* Whether the control with which a heap is made stands in slot A, and slot B has zeros. */
+static bool has_first_control(const uint8_t *begun) {
+    static const uint8_t FIRST[24] = {[0] = 0xa5, [15] = 1, [19] = 2};
+    return memcmp(begun + 64, FIRST, sizeof FIRST) == 0 && is_zeros(begun + 88, CONTROLLED - 88);
+}
+
 /* Whether nothing is left of a heap, by docs/FORMAT.md. Then the file has only zeros. Or it has the name, a gate that is shut, no slot that is
- * open and has a sequence, and only zeros after the rows and cells of as many fields as the header says. */
+ * open and has a sequence but the first control, and only zeros after the rows and cells of as many fields as the header says. */
 static bool is_free(const image *it) {
     if (is_zeros(it->bytes, it->size)) return true;
-    uint8_t begun[CONTROLLED] = {0};
-    memcpy(begun, it->bytes, it->size < sizeof begun ? it->size : sizeof begun);
+    if (it->size < CONTROLLED) return false;
+    const uint8_t *begun = it->bytes;
     bool has_slot = (begun[64] == 0xa5 && !is_zeros(begun + 72, 8)) || (begun[1112] == 0xa5 && !is_zeros(begun + 1120, 8));
+    has_slot = has_slot && !has_first_control(begun);
     size_t fields = (size_t)begun[16] << 24 | (size_t)begun[17] << 16 | (size_t)begun[18] << 8 | begun[19], end = CONTROLLED + 24 * fields;
     if (memcmp(begun, "MONIHEAP", 8) != 0 || begun[8] == 0xa5 || has_slot || fields > 16384) return false;
     return it->size <= end || is_zeros(it->bytes + end, it->size - end);
@@ -87,6 +94,17 @@ static void each_byte(const image *base, bool all) {
         }
         altered.bytes[at] = base->bytes[at];
     }
+}
+
+/* What is left of a file that was cut short within header and control, its gate open or shut. */
+static void each_beginning(const image *base) {
+    static image altered;
+    altered = *base;
+    for (altered.size = 1; altered.size < CONTROLLED; altered.size++)
+        for (unsigned i = 0; i < 2; i++) {
+            altered.bytes[8] = i == 0 ? 0xa5 : 0;
+            try_one(&altered);
+        }
 }
 
 static uint64_t chance;
@@ -142,12 +160,15 @@ int main(int argc, char **argv) {
     fflush(stdout);
     chance = seed;
     make_bases();
-    for (unsigned i = 0; i < 3; i++) each_byte(&bases[i], i == 0);
-    unsigned first = openings + refusals;
+    for (unsigned i = 0; i < 2; i++) each_byte(&bases[i], i == 0);
+    each_beginning(&bases[0]);
     MUST(makings == 0);
+    each_byte(&bases[2], false); /* with its gate shut it is what a making leaves that was cut off: nothing was acknowledged in it */
+    MUST(makings == SHUT_GATES);
+    unsigned first = openings + refusals;
     by_chance();
-    printf("altered: %u files with one byte changed, none of which was made anew, and %u by chance: %u were opened, %u refused and left as they "
-           "were, and %u made, of which nothing was left\n",
-           first, openings + refusals - first, openings - makings, refusals, makings);
+    printf("altered: %u files with one byte changed, or cut short, of which %u were made anew, that nobody had used, and %u by chance: %u were opened, %u refused "
+           "and left as they were, and %u made, of which nothing was left\n",
+           first, SHUT_GATES, openings + refusals - first, openings - makings, refusals, makings);
     return 0;
 }

@@ -337,8 +337,32 @@ static unsigned openings(unsigned what) {
     }
 }
 
-/* A fault at each call of a making: afterwards there is no heap or the new one. Where there is none the device is free, or refused and left as
- * it is. */
+/* What is on the device now, or what is durable of it, is opened as a heap with its first values: it was made, or is made anew. */
+static void makes_again(const uint8_t *left) {
+    memory copy = new_memory(SIZE);
+    zelamiku_heap other;
+    memcpy(copy.now, left, SIZE);
+    zelamiku_device device = device_of(&copy);
+    OK(zelamiku_heap_open_on(&other, "another host", &device, &PLAN, NULL));
+    OK(zelamiku_heap_close(other));
+    MUST(value_on(copy.durable) == 5);
+    free_memory(&copy);
+}
+
+/* The same where only some of the sectors that differ are there, as a crash leaves them. */
+static void makes_again_of_some(void) {
+    enum { SECTOR = 512, CRASHES = 24 };
+    memory some = new_memory(SIZE);
+    for (uint32_t crash = 0; crash < CRASHES; crash++) {
+        memcpy(some.now, held.durable, SIZE);
+        for (uint32_t part = 0; part < SIZE / SECTOR; part++)
+            if ((crash * 2654435761u + part * 40503u) >> 7 & 1) memcpy(some.now + part * SECTOR, held.now + part * SECTOR, SECTOR);
+        makes_again(some.now);
+    }
+    free_memory(&some);
+}
+
+/* A fault at each call of a making: afterwards there is no heap, or the new one, and whatever is there it is made or opened by the next call. */
 static unsigned makings(unsigned what) {
     for (unsigned at = 1;; at++) {
         empty();
@@ -355,11 +379,11 @@ static unsigned makings(unsigned what) {
         is_over = true;
         uint64_t now = value_on(held.now), durable = value_on(held.durable);
         MUST((now == 5 || now == 0) && (durable == 5 || durable == 0) && (!is_done || durable == 5));
+        makes_again(held.durable);
+        makes_again_of_some();
         if (is_done) return at - 1;
-        is_over = false;
-        status = zelamiku_heap_open_on(&heap, "device", &DEVICE, &PLAN, NULL);
-        MUST(status == ZELAMIKU_OK || (status == ZELAMIKU_NOT_FORMATTED && says("it was left as it is")));
-        if (status == ZELAMIKU_OK) OK(zelamiku_heap_close(heap));
+        begin();
+        close_heap();
     }
 }
 

@@ -512,14 +512,12 @@ static int cut_off_makings(void) {
     return count;
 }
 
-/* Whether what a making in place has left is free, by docs/FORMAT.md: no slot of the control is open and has a sequence, and after the row and
- * the cell of the one field there are zeros; where the header isn't there yet, before these too. */
+/* Whether what a making in place has left is free, by docs/FORMAT.md: after the row and the cell of the one field there are zeros; where the
+ * header isn't there yet, before these too. The control is none, or the first. */
 static bool is_left_free(const uint8_t *image, size_t size) {
-    static const uint8_t NONE[8];
-    bool has_slot = (image[64] == 0xa5 && memcmp(image + 72, NONE, 8) != 0) || (image[1112] == 0xa5 && memcmp(image + 1120, NONE, 8) != 0);
     size_t end = 2160 + 24 * (size_t)image[19];
     while (end < size && image[end] == 0) end++;
-    return !has_slot && end == size;
+    return end == size;
 }
 
 /* What makings in place have left that were cut off: zeros, the name, and then some of the heap's calls. A free one is made; any other is refused,

@@ -106,7 +106,7 @@ static void write_file(const char *path, const char *bytes, size_t size) {
 }
 
 static void must_have(const char *path, const char *bytes, size_t size) {
-    char found[256];
+    char found[4096];
     int file = open(path, O_RDONLY | O_CLOEXEC);
     MUST(file >= 0 && read(file, found, sizeof found) == (ssize_t)size && memcmp(found, bytes, size) == 0 && close(file) == 0);
 }
@@ -173,7 +173,7 @@ static void must_exist(void) {
     zelamiku_heap heap;
     zelamiku_report report;
     zelamiku_plan strict = plan;
-    static const char ZEROS[300], CUT_OFF[300] = "MONIHEAP", NONE[] = "there is no heap; mount its volume, or open without must_exist to make one";
+    static const char ZEROS[300], CUT_OFF[2200] = "MONIHEAP", NONE[] = "there is no heap; mount its volume, or open without must_exist to make one";
     strict.must_exist = 1;
     IS(zelamiku_heap_open(&heap, "absent", &strict, &report), NOT_FORMATTED, "absent: open: there is no heap: No such file or directory; mount its");
     MUST(zelamiku_heap_error() == ENOENT && access("absent", F_OK) != 0 && report.is_made == 0);
@@ -186,8 +186,11 @@ static void must_exist(void) {
     IS(zelamiku_heap_open(&heap, "empty", &strict, NULL), NOT_FORMATTED, NONE);
     must_have("empty", ZEROS, 200);
     write_file("empty", CUT_OFF, 200);
-    IS(zelamiku_heap_open(&heap, "empty", &strict, NULL), NOT_FORMATTED, NONE);
+    IS(zelamiku_heap_open(&heap, "empty", &strict, NULL), NOT_FORMATTED, "its first bytes are damaged");
     must_have("empty", CUT_OFF, 200);
+    write_file("empty", CUT_OFF, sizeof CUT_OFF);
+    IS(zelamiku_heap_open(&heap, "empty", &strict, NULL), NOT_FORMATTED, NONE);
+    must_have("empty", CUT_OFF, sizeof CUT_OFF);
     IS(zelamiku_heap_open(&heap, "notes", &strict, NULL), NOT_FORMATTED, "notes: open: it has no heap, and isn't empty");
     MUST(access("empty.heapctl-new", F_OK) != 0 && access("absent.heapctl-new", F_OK) != 0);
     IS(zelamiku_heap_open(&heap, "empty", &plan, &report), OK, "");

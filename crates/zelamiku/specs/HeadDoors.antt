@@ -1,5 +1,6 @@
 -- What C is told of the first bytes of a device: whose image they begin, or whether there may have been one (this project's own).
-use Rattle.std.specs.Prelude.{ℕ, ◌≡◌, ◌<◌, ◌≤◌, ◌+◌, ◌*◌, List, length}
+use Rattle.std.specs.Prelude.{ℕ, ◌≡◌, ◌⊎◌, ◌<◌, ◌≤◌, ◌+◌, ◌*◌, List, [], ◌∷◌, length, All}
+use Rattle.block_disk.specs.Bytes.{part}
 use Rattle.image_parts.specs.Head.{HasNoControl, IsNamed, fields_in}
 use Rattle.image_parts.specs.Header.{HasHeader, IsFormatted}
 use Rattle.image_parts.specs.Layout.{size_of}
@@ -23,11 +24,27 @@ begun_head zeros_from = record { size = 0; zeros_from = zeros_from; objects = 0;
 abbrev pub head_of : Layout → Head
 head_of l = record { size = size_of l; zeros_from = 0; objects = l.objects; fields = l.fields; lanes = l.lanes; capacity = l.capacity; is_damaged = 0 }
 
--- A making in place that was cut off before its first control may leave these bytes, and zeros after the rows and cells of so many fields.
+-- slot A of a new image up to its rows: an open gate, seven zeros, sequence 1, version 2, four zeros
+abbrev pub first_control : List ℕ
+first_control =
+    165 ∷ 0 ∷ 0 ∷ 0 ∷ 0 ∷ 0 ∷ 0 ∷ 0
+    ∷ 0 ∷ 0 ∷ 0 ∷ 0 ∷ 0 ∷ 0 ∷ 0 ∷ 1
+    ∷ 0 ∷ 0 ∷ 0 ∷ 2 ∷ 0 ∷ 0 ∷ 0 ∷ 0 ∷ []
+
+-- the control with which an image is made, with empty logs, and no other: a heap's first round, and its first recovery, write slot B
+pub record HasFirstControl (begun : List ℕ) : Type 0 where
+  pub first : part 64 24 begun ≡ first_control
+  pub zeros : All (λ byte. byte ≡ 0) (part 88 2072 begun)
+
+-- no control counts but the one with which an image is made
+abbrev pub IsUnused : List ℕ → Type 0
+IsUnused begun = HasNoControl begun ⊎ HasFirstControl begun
+
+-- A making in place that was cut off before its last gate may leave these bytes, and zeros after the rows and cells of so many fields.
 pub record IsBegun (begun : List ℕ) : Type 0 where
   pub named : IsNamed begun
   pub shut : IsFormatted begun → ⊥
-  pub uncontrolled : HasNoControl begun
+  pub unused : IsUnused begun
   pub fields : fields_in begun ≤ 16384
 
 -- `zelamiku_head`

@@ -1,8 +1,8 @@
 //! What the first bytes of a device say (`docs/FORMAT.md`, "Header", "Control" and "Making an image").
-ghost use Rattle.std.specs.Prelude.{◌≡◌, ◌≤◌, ◌+◌, ◌*◌, length};
+ghost use Rattle.std.specs.Prelude.{◌≡◌, ◌≤◌, ◌+◌, ◌*◌, ◌↔◌, IsFalse, IsTrue, length};
 ghost use Rattle.image_parts.specs.Header.{IsFormatted};
 ghost use Rattle.image_parts.specs.Layout.{IsLayout};
-ghost use Rattle.zelamiku.specs.HeadDoors.{TellsHead, begun_head, damaged_head, no_head};
+ghost use Rattle.zelamiku.specs.HeadDoors.{HasFirstControl, IsUnused, TellsHead, begun_head, damaged_head, no_head};
 ghost use Rattle.zelamiku.specs.HeadDoors as doors;
 ghost use Rattle.zelamiku.specs.declared.status.TheConstants.{NOT_FORMATTED};
 
@@ -12,6 +12,11 @@ use heap_model::MOST_FIELDS;
 use image::{
     HEAD_BYTES, Layout, areas_at, fields_in, has_control, is_formatted, is_named, layout_in,
 };
+
+// Slot A of a new image up to its rows: an open gate, seven zeros, sequence 1, version 2, four zeros.
+const FIRST_CONTROL: [u8; 24] = [
+    165, 0, 0, 0, 0, 0, 0, 0, 0, 0, 0, 0, 0, 0, 0, 1, 0, 0, 0, 2, 0, 0, 0, 0,
+];
 
 /// What these bytes say, with which a device begins, and the status.
 pub fn told_of(begun: &[u8]) -> (Head, u32)
@@ -39,10 +44,26 @@ fn unformatted(begun: &[u8]) -> Head
         return nothing();
     }
     let fields = fields_in(begun);
-    if fields > MOST_FIELDS as u32 || has_control(begun) {
+    if fields > MOST_FIELDS as u32 || is_used(begun) {
         return damaged();
     }
     making(fields)
+}
+
+// Whether a control counts that no making has written.
+fn is_used(begun: &[u8]) -> bool
+    requires { 2160 ≤ length begun.now }
+    ensures { IsFalse result ↔ IsUnused begun.now }
+{
+    has_control(begun) && !has_first_control(begun)
+}
+
+// Whether slot A has the control with which an image is made, and slot B has zeros, as before a heap's first round.
+fn has_first_control(begun: &[u8]) -> bool
+    requires { 2160 ≤ length begun.now }
+    ensures { IsTrue result ↔ HasFirstControl begun.now }
+{
+    begun[64..88] == FIRST_CONTROL[..] && begun[88..HEAD_BYTES].iter().all(|byte| *byte == 0)
 }
 
 /// No head.
