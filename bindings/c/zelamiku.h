@@ -303,6 +303,8 @@ int zelamiku_heap_error(void);
  * NULL. It is filled in also where the call fails. After a failure `heap` is no handle.
  * A heap is made in a new file beside the path (PATH.heapctl-new, at the end of links). It is locked, synced and renamed to the path, and the
  * folder is synced. A process that dies meanwhile leaves the path as it was, and the file beside, which the next making there takes up.
+ * Each opening syncs the folder of the real path, or its whole file system where the folder can't be read. So no crash loses the name of a file
+ * in which something is durable, also where the file was renamed to the path just before.
  * A heap that is made has a lane for each of the plan's threads, and one more for the helper, by which rounds take two syncs. With 32 threads it
  * has 32 lanes, and none for the helper: rounds take four. A heap that is there may have more lanes than the plan has threads: the last one is
  * the helper's then, and all others are threads'. One with just as many lanes is opened too, as threads' lanes, and rounds take four.
@@ -312,9 +314,9 @@ int zelamiku_heap_error(void);
  * value. The report doesn't count it, and a program has no use of it: a store there lasts until the heap is closed, and changes no
  * fingerprint. A heap without one, with as many fields as the plan, is opened too.
  * BUSY: another process has the heap, or makes one there, or this one has it open already (by device and inode: another name of the file is
- * the same), or the file was replaced meanwhile. OTHER_HEAP: the file's heap isn't that of the plan: the report has the first difference.
+ * the same; also where the program has closed that heap's descriptor: close that heap first), or the file was replaced meanwhile. OTHER_HEAP: the file's heap isn't that of the plan: the report has the first difference.
  * NOT_FORMATTED: the file has something else, also a heap whose first bytes were damaged; or there is no heap, and by the plan there must be.
- * DEVICE: it can't be opened, made, locked, read or written: zelamiku_heap_error has the cause. These, and what zelamiku_open and
+ * DEVICE: it can't be opened, made, locked, read or written, or its folder can't be synced: zelamiku_heap_error has the cause. These, and what zelamiku_open and
  * zelamiku_format answer, leave a file that was there as it was, and no file where there was none; but where a new heap's folder can't be
  * synced (DEVICE) a file that was free may be one with the heap. NONE_LEFT: 255 heaps are open. NO_MEMORY: no memory, or no thread could be
  * started. */

@@ -1,17 +1,18 @@
 /* Files that are made beside a path and take its place once they are whole: locks, where a path leads, drafts.
  *
- * The registry's mutex has the list of drafts, and every descriptor from its opening to its closing, so that a fork's child closes all.
+ * The registry has the list of drafts, and every descriptor from its opening to its closing, so that a fork's child closes all.
  * Else a draft is its caller's own. What keeps other processes out are locks of the system on the files (flock). */
 /* ---- locks and paths ---- */
 
-/* Opens a file whose descriptor the registry has: as soon as it is open, for a fork. One that was made for this goes where it can't be had. */
+/* Opens a file whose descriptor the registry has: as soon as it is open, for a fork, which waits for `opens_underway`. No mutex is held, since an open
+ * may hang. A file that was made for this is removed where it has no descriptor. */
 static bool open_listed(int *descriptor, const char *path, int flags, mode_t mode) {
-    pthread_mutex_lock(&registry);
+    opens_underway++;
     int file = AGAIN(open(path, flags | O_CLOEXEC | O_NOCTTY | O_NONBLOCK, mode));
     *descriptor = above_streams(file);
     int error = errno;
+    opens_underway--;
     if (SELDOM(file >= 0 && *descriptor < 0 && (flags & O_EXCL) != 0)) (void)unlink(path);
-    pthread_mutex_unlock(&registry);
     errno = error;
     return *descriptor >= 0;
 }
@@ -22,11 +23,44 @@ static zelamiku_status lock_alone(int file) {
     return errno == EWOULDBLOCK ? ZELAMIKU_BUSY : ZELAMIKU_DEVICE;
 }
 
-/* Whether the path leads to this file; to none, where `file` is -1. */
-static bool leads_to(const char *path, int file) {
+/* Under the registry's mutex: whether a heap of this process has the file. */
+static bool is_known(const struct stat *its) {
+    bool is = false;
+    for (size_t place = 1; place < ZELAMIKU_MOST_HEAPS; place++)
+        is |= heaps[place].is_used && heaps[place].volume == its->st_dev && heaps[place].inode == its->st_ino;
+    return is;
+}
+
+static bool is_open_here(const struct stat *its) {
+    pthread_mutex_lock(&registry);
+    bool is = is_known(its);
+    pthread_mutex_unlock(&registry);
+    return is;
+}
+
+/* The heap has the file from now on, which is locked by this descriptor. BUSY: another heap of this process has it: the lock was free since the
+ * program has closed that one's descriptor. DEVICE, by errno. */
+static zelamiku_status claim(heap *of, int file) {
+    struct stat its;
+    if (fstat(file, &its) != 0) return ZELAMIKU_DEVICE;
+    pthread_mutex_lock(&registry);
+    zelamiku_status status = is_known(&its) ? ZELAMIKU_BUSY : mark(file, MARK_OF_FILE) ? ZELAMIKU_OK : ZELAMIKU_DEVICE;
+    if (status == ZELAMIKU_OK) {
+        of->volume = its.st_dev;
+        of->inode = its.st_ino;
+    }
+    pthread_mutex_unlock(&registry);
+    return status;
+}
+
+/* Whether the path leads to this file, or to none where `file` is -1. BUSY: it doesn't. DEVICE: the system doesn't say, by errno. */
+static zelamiku_status leads_to(const char *path, int file) {
     struct stat own, named;
-    if (stat(path, &named) != 0) return file < 0 && errno == ENOENT;
-    return file >= 0 && fstat(file, &own) == 0 && own.st_dev == named.st_dev && own.st_ino == named.st_ino;
+    bool is_there = stat(path, &named) == 0;
+    if (!is_there && errno != ENOENT) return ZELAMIKU_DEVICE;
+    if (!is_there || file < 0) return is_there == (file >= 0) ? ZELAMIKU_OK : ZELAMIKU_BUSY;
+    if (fstat(file, &own) != 0) return ZELAMIKU_DEVICE;
+    return own.st_dev == named.st_dev && own.st_ino == named.st_ino ? ZELAMIKU_OK : ZELAMIKU_BUSY;
 }
 
 /* How many bytes of the path its folder has, with the last slash. */
@@ -145,10 +179,13 @@ static zelamiku_status make_beside(draft *it, mode_t mode) {
         zelamiku_status status = open_beside(it, mode, &is_new, &has_gone);
         if (has_gone) continue;
         if (status != ZELAMIKU_OK) return status;
-        bool is_there = leads_to(it->beside, it->file);
-        if (is_there && is_new) return ZELAMIKU_OK;
-        if (is_there) (void)unlink(it->beside);
+        status = leads_to(it->beside, it->file);
+        if (status == ZELAMIKU_OK && is_new) return ZELAMIKU_OK;
+        int error = errno;
+        if (status == ZELAMIKU_OK || (status == ZELAMIKU_DEVICE && is_new)) (void)unlink(it->beside);
         close_listed(&it->file);
+        errno = error;
+        if (status == ZELAMIKU_DEVICE) return status;
     }
     return ZELAMIKU_BUSY;
 }
@@ -159,9 +196,10 @@ static zelamiku_status begin_draft(draft *it, mode_t mode, const char **cause) {
     if (!fits) errno = ENAMETOOLONG;
     zelamiku_status status = fits ? make_beside(it, mode) : ZELAMIKU_DEVICE;
     *cause = status == ZELAMIKU_DEVICE ? "a file can't be made beside it" : "a heap, a copy or an image is being made there";
-    if (status != ZELAMIKU_OK || leads_to(it->path, it->old)) return status;
-    *cause = "the file was replaced or removed meanwhile";
-    return ZELAMIKU_BUSY;
+    if (status != ZELAMIKU_OK) return status;
+    status = leads_to(it->path, it->old);
+    *cause = status == ZELAMIKU_DEVICE ? "it can't be used" : "the file was replaced or removed meanwhile";
+    return status;
 }
 
 /* The draft, whose bytes are durable, takes its place. False: it didn't; or it did (`is_in_place`), and that isn't durable. */
@@ -169,5 +207,5 @@ static bool put_in_place(draft *it) {
     assert(it->file >= 0 && !it->is_in_place);
     if (rename(it->beside, it->path) != 0) return false;
     it->is_in_place = true;
-    return sync_folder_of(it->path);
+    return sync_name(it->path, it->file);
 }

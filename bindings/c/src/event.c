@@ -22,7 +22,7 @@ static void count_loop(heap *of, seat *own) {
 
 /* Whether the lane has an event. Another file that has its number is neither written, read nor closed. */
 static bool has_its_event(const seat *own) {
-    return own->event != 0 && is_of_file(own->event - 1, own->event_volume, own->event_inode);
+    return own->event != 0 && has_mark(own->event - 1, MARK_OF_EVENT);
 }
 
 /* Under the mutex, by which the descriptor stays open. */
@@ -128,16 +128,32 @@ static void drop_event(heap *of, seat *own) {
     pthread_mutex_unlock(&of->mutex);
 }
 
+/* Under the registry's mutex: whether a lane has an event of that number. */
+static bool is_of_a_lane(int file) {
+    for (size_t place = 1; place < ZELAMIKU_MOST_HEAPS; place++)
+        for (uint32_t lane = 0; heaps[place].events > 0 && lane < ZELAMIKU_MOST_LANES; lane++)
+            if (seat_at(&heaps[place], lane)->event == file + 1) return true;
+    return false;
+}
+
+/* Under the registry's mutex: an event whose number no lane has. Where the program has closed a lane's event the system gives its number anew,
+ * and that lane would take the new event for its own. -1, by errno. */
+static int new_event(void) {
+    int file = above_streams(eventfd(0, EFD_CLOEXEC | EFD_NONBLOCK));
+    while (file >= 0 && is_of_a_lane(file)) file = move_above(file, file);
+    if (file < 0 || mark(file, MARK_OF_EVENT)) return file;
+    int error = errno;
+    (void)close(file);
+    errno = error;
+    return -1;
+}
+
 /* Under the mutex: makes the lane's event, in place of one that the program has closed. False: the system has no descriptor, by errno. */
 static bool make_event(heap *of, seat *own) {
     pthread_mutex_lock(&registry);
     close_event(of, own);
-    int file = above_streams(eventfd(0, EFD_CLOEXEC | EFD_NONBLOCK)), error = errno;
+    int file = new_event(), error = errno;
     if (file >= 0) {
-        struct stat its = {0};
-        (void)fstat(file, &its);
-        own->event_volume = its.st_dev;
-        own->event_inode = its.st_ino;
         own->event = file + 1;
         own->begun = own->ended;
         own->has_event = 1; /* after that, which who leads reads then */

@@ -23,18 +23,22 @@ static void forked(void) {
         if (it->file >= 0) (void)close(it->file);
     }
     drafts = NULL;
+    opens_underway = 0; /* their threads aren't here */
     (void)pthread_mutex_unlock(&registry);
 }
 
+/* A file that is being opened is waited for: until then the child wouldn't know that it has it. An open that hangs is waited for only so long. */
 static void before_fork(void) {
     pthread_mutex_lock(&registry);
+    for (unsigned naps = 0; opens_underway > 0 && naps < OPENING_NAPS; naps++) nap(NAP);
 }
 
 static void after_fork(void) {
     pthread_mutex_unlock(&registry);
 }
 
-static void watch_forks(void) {
+/* Before any handler of the program: so a fork takes the registry's mutex after whatever those take, and unlocks it before. */
+__attribute__((constructor)) static void watch_forks(void) {
     (void)pthread_atfork(before_fork, after_fork, forked);
 }
 
@@ -62,10 +66,16 @@ static heap *longest_free(void) {
     }
 }
 
+/* Whether this copy of the library has the table of lanes. All copies in a process share one table, which is bound by its name; each has its own
+ * places of heaps. No heap has the first seat: its first word says whose the table is. */
+static bool has_table(void) {
+    _Atomic(uintptr_t) *whose = (_Atomic(uintptr_t) *)(void *)ZELAMIKU_SEATS;
+    uintptr_t nobody = 0, own = (uintptr_t)heaps;
+    return atomic_compare_exchange_strong(whose, &nobody, own) || nobody == own;
+}
+
 /* A place for a heap; NULL: each is used. */
 static heap *new_place(void) {
-    static pthread_once_t once = PTHREAD_ONCE_INIT;
-    (void)pthread_once(&once, watch_forks);
     pthread_mutex_lock(&registry);
     heap *found = longest_free();
     if (found != NULL) {

@@ -58,6 +58,7 @@ enum {
     UNSPUN_ROUNDS = 64,       /* so nobody looks for so many rounds */
     SHORT_SLICE = 100000,     /* nanoseconds that a thread which makes rounds, or waits for them, runs at once where others want to */
     NAP = 20000,              /* nanoseconds between two looks, for each thread that waits for a round, where many do */
+    OPENING_NAPS = 100,       /* for which a fork waits until a file is open */
     SECOND = 1000000000
 };
 
@@ -113,8 +114,6 @@ typedef struct {
     bool lacks_room;                     /* mutex: the loop has found no room */
     bool counts_as_waiting;              /* mutex: the loop counts among `awaiting` */
     bool is_rung;                        /* mutex: its event is readable, or is to be once there is one */
-    dev_t event_volume;                  /* as `event`: which file that is */
-    ino_t event_inode;
     _Alignas(128) _Atomic uint64_t number; /* the handle that it is lent by; 0: calls look at `lent_number` and the heap */
     _Atomic uint64_t open;               /* the same while a section is open, so that one look is enough for a load */
     _Atomic uint64_t ended;              /* how many sections the lane has ended */
@@ -219,6 +218,7 @@ _Static_assert(sizeof(seat) == 256 && offsetof(seat, number) == 128 && PLACE == 
 
 static pthread_mutex_t registry = PTHREAD_MUTEX_INITIALIZER;
 static _Atomic uint64_t handed_out;
+static _Atomic uint32_t opens_underway; /* files that are being opened */
 
 /* A file that is written beside a path, and takes its place once it is whole. Whoever has a draft has both files locked, so that no other
  * draft is made there, and nobody opens what is replaced. */

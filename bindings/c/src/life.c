@@ -92,6 +92,10 @@ static void set_room(heap *of, uint32_t ring, uint32_t capacity) {
 
 /* A place for a heap of this path and plan; NULL: why not. */
 static heap *place_for(const char *path, const zelamiku_plan *plan, const char *call, zelamiku_status *status) {
+    if (!has_table()) {
+        *status = fail(path, ZELAMIKU_NONE_LEFT, 0, "another copy of the library has the lanes of this process", "load one copy alone", "%s", call);
+        return NULL;
+    }
     heap *of = new_place();
     if (of == NULL) {
         *status = fail(path, ZELAMIKU_NONE_LEFT, 0, "255 heaps are open", "close one", "%s", call);
@@ -156,6 +160,12 @@ static void tell_end_of_rounds(heap *of) {
     tell_all(of);
 }
 
+/* Under the mutex: whether the lane's thread is inside of a section or a call. A thread of a heap that had the place before may have been kept from
+ * running since it has looked at its handle, and then write `is_busy` here. In a lane that nobody has that means nothing. */
+static bool is_inside(const seat *own) {
+    return own->is_lent && own->is_busy;
+}
+
 /* Lets go of the file, the library's memory, and the place, but for the sessions of threads that are inside of theirs: each lets go of its
  * own with its next call, and the last of them of the place. */
 static void release(heap *of) {
@@ -167,7 +177,7 @@ static void release(heap *of) {
     of->dropped = NULL;
     for (uint32_t lane = 0; lane < of->lanes; lane++) {
         seat *own = seat_at(of, lane);
-        own->frees_session = own->is_busy;
+        own->frees_session = is_inside(own);
         if (own->frees_session)
             of->sessions_out++;
         else
@@ -214,7 +224,7 @@ static zelamiku_status try_stop(heap *of) {
     shut(of, false);
     for (uint32_t lane = 0; lane < of->lanes; lane++) {
         seat *own = seat_at(of, lane);
-        if (own->is_busy)
+        if (is_inside(own))
             status = ZELAMIKU_RUNNING;
         else if (status == ZELAMIKU_OK && !is_durable(own, own->ended))
             status = ZELAMIKU_CALLS_LEFT;
@@ -456,7 +466,7 @@ static zelamiku_status take_target(draft *it) {
     if (!open_listed(&it->old, it->path, O_RDWR, 0) && (errno == EACCES || errno == EROFS)) (void)open_listed(&it->old, it->path, O_RDONLY, 0);
     if (it->old < 0) return errno == ENOENT ? ZELAMIKU_OK : ZELAMIKU_DEVICE;
     if (fstat(it->old, &info) != 0) return ZELAMIKU_DEVICE;
-    if (S_ISREG(info.st_mode)) return lock_alone(it->old);
+    if (S_ISREG(info.st_mode)) return is_open_here(&info) ? ZELAMIKU_BUSY : lock_alone(it->old);
     errno = S_ISDIR(info.st_mode) ? EISDIR : EINVAL;
     return ZELAMIKU_DEVICE;
 }

@@ -304,6 +304,7 @@ static zelamiku_status make_file(door *at, draft *it, uint64_t size) {
     const char *cause = NULL;
     if (!find_real_path(at->path, it->path)) return no_device(at, "it can't be opened");
     zelamiku_status status = begin_draft(it, it->old < 0 ? 0666 : 0600, &cause);
+    if (status == ZELAMIKU_OK && (status = claim(at->of, it->file)) != ZELAMIKU_OK) cause = "it can't be used";
     if (status == ZELAMIKU_DEVICE) return no_device(at, cause);
     if (status != ZELAMIKU_OK) return fail(at->path, status, 0, cause, "open it again", "open");
     keep_rights(it);
@@ -316,16 +317,12 @@ static zelamiku_status make_file(door *at, draft *it, uint64_t size) {
     return status;
 }
 
-/* The draft's file is the heap's from now on. */
+/* The heap's file is that of the draft, which it has claimed. */
 static void adopt(heap *of, draft *it) {
-    struct stat own = {0};
-    (void)fstat(it->file, &own);
     pthread_mutex_lock(&registry);
     of->file = it->file;
     of->device = device_of_file(of->file);
     it->file = -1;
-    of->volume = own.st_dev;
-    of->inode = own.st_ino;
     pthread_mutex_unlock(&registry);
 }
 
@@ -406,28 +403,20 @@ static zelamiku_status lock_file(door *at) {
     heap *of = at->of;
     if (fstat(of->file, &own) != 0) return no_device(at, "it can't be used");
     if (!S_ISREG(own.st_mode)) return errno = EINVAL, no_device(at, "it is no regular file");
-    bool is_ours = false;
-    pthread_mutex_lock(&registry);
-    for (size_t place = 1; place < ZELAMIKU_MOST_HEAPS; place++)
-        is_ours |= heaps[place].is_used && heaps[place].volume == own.st_dev && heaps[place].inode == own.st_ino;
-    pthread_mutex_unlock(&registry);
     zelamiku_status status = lock_alone(of->file);
+    if (status == ZELAMIKU_OK) status = claim(of, of->file);
     if (status == ZELAMIKU_DEVICE) return no_device(at, "it can't be locked");
-    if (status == ZELAMIKU_BUSY && is_ours) {
+    if (status == ZELAMIKU_BUSY && is_open_here(&own)) {
         (void)snprintf(at->cause, sizeof at->cause, "this process has its heap open already");
         (void)snprintf(at->cure, sizeof at->cure, "use that one's handle, or close it before");
     }
     if (status != ZELAMIKU_OK) return refuse(at, status, 0);
-    if (!leads_to(at->path, of->file)) {
-        (void)snprintf(at->cause, sizeof at->cause, "the file was replaced or removed while it was opened");
-        (void)snprintf(at->cure, sizeof at->cure, "open it again");
-        return refuse(at, ZELAMIKU_BUSY, 0);
-    }
-    pthread_mutex_lock(&registry);
-    of->volume = own.st_dev;
-    of->inode = own.st_ino;
-    pthread_mutex_unlock(&registry);
-    return ZELAMIKU_OK;
+    status = leads_to(at->path, of->file);
+    if (status == ZELAMIKU_DEVICE) return no_device(at, "it can't be used");
+    if (status == ZELAMIKU_OK) return ZELAMIKU_OK;
+    (void)snprintf(at->cause, sizeof at->cause, "the file was replaced or removed while it was opened");
+    (void)snprintf(at->cure, sizeof at->cure, "open it again");
+    return refuse(at, status, 0);
 }
 
 /* Writes the header and both slots of the control back with the bytes that they read, and syncs. Where a write or a sync of a process before this
@@ -438,6 +427,13 @@ static zelamiku_status write_head_back(const zelamiku_device *on) {
     zelamiku_status status = read_device(on, 0, head, sizeof head);
     if (status == ZELAMIKU_OK) status = write_device(on, 0, head, sizeof head);
     return status == ZELAMIKU_OK ? sync_device(on) : status;
+}
+
+/* Whoever renamed the file to its path may have been killed before the folder was synced, and an overlay has just made the name: what becomes
+ * durable in the file would be lost with it. */
+static bool keep_name(const door *at) {
+    char real[PATH_MAX];
+    return find_real_path(at->path, real) && sync_name(real, at->of->file);
 }
 
 /* The heap of the device, which nobody else writes: recovered, or made. Its first calls are made here. */
@@ -456,6 +452,7 @@ static zelamiku_status recover_or_make(door *at) {
     }
     if (status != ZELAMIKU_OK) return status;
     status = write_head_back(on);
+    if (status == ZELAMIKU_OK && is_file && !keep_name(at)) return no_device(at, "its folder can't be synced");
     if (status == ZELAMIKU_OK) status = make_calls_on(&at->handle, on, &calls, &at->of->syncs_made);
     if (status == ZELAMIKU_OK) return ZELAMIKU_OK;
     if (status != ZELAMIKU_DEVICE && status != ZELAMIKU_LOST) return refuse(at, status, 0);

@@ -12,7 +12,8 @@ static zelamiku_status lend(heap *of, zelamiku_thread *thread) {
     for (uint32_t lane = 0; lane < of->lanes && status == ZELAMIKU_NONE_LEFT; lane++) {
         seat *own = seat_at(of, lane);
         if (own->is_lent) continue;
-        assert(own->locks == 0 && !own->is_busy && own->lent_number == 0 && own->wanted == 0 && own->event == 0);
+        assert(own->locks == 0 && own->lent_number == 0 && own->wanted == 0 && own->event == 0);
+        own->is_busy = 0; /* see is_inside */
         own->is_lent = true;
         own->earlier = own->ended;
         thread->number = new_number((size_t)((char *)own - ZELAMIKU_SEATS));

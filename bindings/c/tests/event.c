@@ -272,17 +272,16 @@ static void forks(void) {
     close_heap_well();
 }
 
-/* Another file gets the event's number, as after a program's close too many. */
+/* An event of the program's own gets the event's number, as after a close too many. The system has one inode for all events. */
 static void give_away(int event) {
-    int other = open("another", O_RDWR | O_CREAT | O_TRUNC | O_CLOEXEC, 0600);
-    MUST(other >= 0 && other != event && write(other, "another file's", 14) == 14 && lseek(other, 0, SEEK_SET) == 0);
-    MUST(dup2(other, event) == event && close(other) == 0);
+    int other = eventfd(5, EFD_CLOEXEC | EFD_NONBLOCK);
+    MUST(other >= 0 && (other == event || (dup2(other, event) == event && close(other) == 0)));
 }
 
-/* Whether that file is as it was: open, at its beginning, and with its bytes. */
+/* Whether that one is as it was: neither written, read nor closed. */
 static bool is_untouched(int event) {
-    char bytes[32];
-    return lseek(event, 0, SEEK_CUR) == 0 && pread(event, bytes, sizeof bytes, 0) == 14 && memcmp(bytes, "another file's", 14) == 0;
+    uint64_t count = 0;
+    return read(event, &count, sizeof count) == sizeof count && count == 5 && write(event, &count, sizeof count) == sizeof count;
 }
 
 static void closed_by_the_program(void) {
@@ -305,8 +304,14 @@ static void closed_by_the_program(void) {
     add(a, 0);
     await_event(a, other);
     MUST(is_untouched(event) && close(event) == 0);
+    /* No other lane's event gets its number. */
+    int third, fourth;
+    MUST(close(other) == 0);
+    zelamiku_thread c = begin_loop(&third), d = begin_loop(&fourth);
+    MUST(third != other && fourth != other && its_heap()->events == 4);
     give_away(other);
-    MUST(zelamiku_thread_end(a) == ZELAMIKU_OK && is_untouched(other) && close(other) == 0 && its_heap()->events == 1);
+    MUST(zelamiku_thread_end(a) == ZELAMIKU_OK && is_untouched(other) && close(other) == 0 && its_heap()->events == 3);
+    MUST(zelamiku_thread_end(c) == ZELAMIKU_OK && zelamiku_thread_end(d) == ZELAMIKU_OK && is_closed(third) && is_closed(fourth));
     /* So it is at the heap's end. */
     give_away(two);
     close_heap_well();

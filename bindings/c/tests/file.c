@@ -32,7 +32,7 @@ static int is_interrupted(void) {
 }
 
 /* What was done to the file while `records` is set, in order. */
-enum { WRITTEN, SYNCED, RENAMED };
+enum { WRITTEN, SYNCED, RENAMED, FOLDER_SYNCED };
 static struct {
     int kind;
     off_t at;
@@ -71,9 +71,10 @@ static ssize_t flaky_pread(int file, void *bytes, size_t size, off_t at) {
 }
 
 static int stolen_at; /* at which sync from now on the program closes the heap's descriptor, and another file gets its number; 0: at none */
+static const char *stolen_for;
 
 static void steal(int file) {
-    if (close(file) != 0 || open("notes", O_RDWR | O_CREAT | O_CLOEXEC, 0600) != file) abort();
+    if (close(file) != 0 || open(stolen_for, O_RDWR | O_CREAT | O_CLOEXEC, 0600) != file) abort();
 }
 
 static int flaky_sync(int file) {
@@ -83,9 +84,19 @@ static int flaky_sync(int file) {
     return fcntl(file, F_GETFD) < 0 ? -1 : 0; /* no power fails here */
 }
 
-static int flaky_fsync(int file) {
+static int folder_error;  /* what a folder's sync answers, and an open of a folder to read it */
+static int whole_syncs;   /* of a file system */
+
+static int flaky_fsync(int folder) {
     if (is_interrupted() || is_due()) return -1;
-    note(SYNCED, NULL, 0, 0);
+    note(FOLDER_SYNCED, NULL, 0, 0);
+    if (folder_error != 0) return errno = folder_error, -1;
+    return fcntl(folder, F_GETFD) < 0 ? -1 : 0;
+}
+
+static int flaky_syncfs(int file) {
+    if (is_interrupted() || is_due()) return -1;
+    whole_syncs++;
     return fcntl(file, F_GETFD) < 0 ? -1 : 0;
 }
 
@@ -106,6 +117,7 @@ static int flaky_open(const char *path, int flags, ...) {
     mode_t mode = (flags & O_CREAT) != 0 ? va_arg(more, mode_t) : 0;
     va_end(more);
     if ((flags & O_CREAT) != 0) mode_made = mode;
+    if ((flags & O_DIRECTORY) != 0 && folder_error == EACCES) return errno = EACCES, -1;
     return is_interrupted() ? -1 : open(path, flags, mode);
 }
 
@@ -126,6 +138,7 @@ static void *watched_malloc(size_t size) {
 #define pread flaky_pread
 #define fdatasync flaky_sync
 #define fsync flaky_fsync
+#define syncfs flaky_syncfs
 #define rename flaky_rename
 #define open flaky_open
 #define flock(file, how) replacing_flock(file, how)
@@ -382,8 +395,9 @@ static void lanes(void) {
     plan = usual;
 }
 
-/* An opening syncs, writes back what it has read of the header and the control, and syncs, before any other write. Where one of these fails,
- * there is no heap, and the file is as it was. */
+/* An opening syncs, writes back what it has read of the header and the control, syncs, and syncs the folder, before any other write: whoever
+ * renamed the file to its path may have been killed before. Where one of these fails, there is no heap, and the file is as it was. A folder that
+ * can't be read, or has no syncs, is synced with its file system. */
 static void openings(void) {
     uint8_t before[ZELAMIKU_HEAD_BYTES], after[ZELAMIKU_HEAD_BYTES];
     zelamiku_heap heap;
@@ -392,18 +406,28 @@ static void openings(void) {
     records = 1;
     MUST(open_heap(&heap) == ZELAMIKU_OK);
     records = 0;
-    MUST(step_count > 4 && steps[0].kind == SYNCED && steps[1].kind == WRITTEN && steps[2].kind == SYNCED);
-    MUST(steps[3].kind == SYNCED); /* the recovery's own first */
+    MUST(step_count > 5 && steps[0].kind == SYNCED && steps[1].kind == WRITTEN && steps[2].kind == SYNCED && steps[3].kind == FOLDER_SYNCED);
+    MUST(steps[4].kind == SYNCED); /* the recovery's own first */
     MUST(steps[1].at == 0 && steps[1].size == ZELAMIKU_HEAD_BYTES && memcmp(steps[1].bytes, before, ZELAMIKU_HEAD_BYTES) == 0);
     while (step_count > 0) free(steps[--step_count].bytes);
     MUST(zelamiku_heap_close(heap) == ZELAMIKU_OK);
     read_head(before);
-    for (int call = 1; call <= 3; call++) {
+    for (int call = 1; call <= 4; call++) {
         fails_in = call;
         MUST(open_heap(&heap) == ZELAMIKU_DEVICE && fails_in == 0 && strstr(zelamiku_heap_message(), "No space left") != NULL);
+        MUST((strstr(zelamiku_heap_message(), "its folder can't be synced") != NULL) == (call == 4));
         read_head(after);
         MUST(memcmp(before, after, ZELAMIKU_HEAD_BYTES) == 0);
     }
+    static const int OTHERS[] = {EACCES, EINVAL, EIO};
+    for (int i = 0; i < 3; i++) {
+        whole_syncs = 0;
+        folder_error = OTHERS[i];
+        zelamiku_status status = open_heap(&heap);
+        MUST(status == (folder_error == EIO ? ZELAMIKU_DEVICE : ZELAMIKU_OK) && whole_syncs == (folder_error != EIO));
+        if (status == ZELAMIKU_OK) MUST(zelamiku_heap_close(heap) == ZELAMIKU_OK);
+    }
+    folder_error = 0;
     MUST(found() == 8);
 }
 
@@ -498,7 +522,7 @@ static int cut_off_makings(void) {
     MUST(found() == 5);
     records = 0;
     while (renamed < step_count && steps[renamed].kind != RENAMED) renamed++;
-    MUST(renamed < step_count && steps[renamed - 1].kind == SYNCED && steps[renamed + 1].kind == SYNCED);
+    MUST(renamed < step_count && steps[renamed - 1].kind == SYNCED && steps[renamed + 1].kind == FOLDER_SYNCED);
     for (int done = 0; done <= step_count; done++)
         for (uint32_t crash = 0; crash < CRASHES; crash++, count++) {
             int durable = done;
@@ -800,22 +824,34 @@ static void astray(void) {
     MUST(zelamiku_heap_close(heap) == ZELAMIKU_OK && chdir("..") == 0);
 }
 
-/* The program has closed the heap's descriptor, before a round or at this sync of it, and another file may have its number. What doesn't go to
- * the heap's file isn't told as durable. Nothing goes to the other one once that is known, and it stays open. The heap can be opened again. */
-static void closed_by_the_program(int at, bool is_reused) {
+/* While another file has the path's heap, or did, whoever asks for it in this process is refused. */
+static void must_stay_alone(void) {
+    zelamiku_heap other;
+    MUST(open_heap(&other) == ZELAMIKU_BUSY && strstr(zelamiku_heap_message(), "this process has its heap open already") != NULL);
+    MUST(zelamiku_heap_open(&other, "spare", &plan, NULL) == ZELAMIKU_OK && zelamiku_heap_copy(other, "heap") == ZELAMIKU_BUSY);
+    MUST(zelamiku_heap_close(other) == ZELAMIKU_OK);
+}
+
+/* The program has closed the heap's descriptor, before a round or at this sync of it. Another file may have its number, or the program's own open
+ * of the same file. What doesn't go to the heap's file by the heap's open isn't told as durable. Nothing goes to the other one once that is
+ * known, and it stays open. There is no lock any more, and no second heap of the file in this process. The heap can be opened again. */
+static void closed_by_the_program(int at, const char *reused_for) {
     zelamiku_heap heap;
     zelamiku_thread own;
     struct stat info;
     life();
     MUST(open_heap(&heap) == ZELAMIKU_OK && zelamiku_thread_begin(&own, heap) == ZELAMIKU_OK);
     int file = heaps[heap.number >> 8 & (ZELAMIKU_MOST_HEAPS - 1)].file;
-    if (at == 0 && is_reused) steal(file);
-    if (!is_reused) MUST(close(file) == 0);
+    stolen_for = reused_for;
+    if (at == 0 && reused_for != NULL) steal(file);
+    if (reused_for == NULL) MUST(close(file) == 0);
+    if (at == 0) must_stay_alone();
     stolen_at = at;
     MUST(zelamiku_thread_enter(own, 0) == ZELAMIKU_OK && zelamiku_thread_store(own, 0, 100) == ZELAMIKU_OK);
     MUST(zelamiku_thread_exit(own, 0) == ZELAMIKU_OK && zelamiku_thread_await(own) == ZELAMIKU_LOST && zelamiku_heap_error() == EBADF);
     MUST(zelamiku_thread_end(own) == ZELAMIKU_LOST && zelamiku_heap_close(heap) == ZELAMIKU_LOST && stolen_at == 0);
-    if (is_reused) MUST(fstat(file, &info) == 0 && info.st_size == 0 && close(file) == 0 && unlink("notes") == 0);
+    if (reused_for != NULL) MUST(fstat(file, &info) == 0 && close(file) == 0);
+    if (reused_for != NULL && strcmp(reused_for, "notes") == 0) MUST(info.st_size == 0 && unlink("notes") == 0);
     uint64_t value = found();
     MUST(value == 8 || (at > 0 && value == 100));
 }
@@ -837,9 +873,11 @@ int main(int argc, char **argv) {
     at_once();
     links();
     astray();
-    closed_by_the_program(0, false);
-    closed_by_the_program(0, true);
-    closed_by_the_program(2, true);
+    closed_by_the_program(0, NULL);
+    closed_by_the_program(0, "notes");
+    closed_by_the_program(0, "heap");
+    closed_by_the_program(2, "notes");
+    closed_by_the_program(2, "heap");
     moves_one_byte = 1;
     remove_file();
     life();
