@@ -46,7 +46,6 @@ class Sizes(unittest.TestCase):
             library.Found: 48,
             library.Told: 320,
             library.DroppedRow: 32,
-            library.Sight: 16,
             library.PlanRow: 72,
             library.ReportRow: 352,
             library.StatsRow: 104,

@@ -1,10 +1,15 @@
 """Sections: monitors, exceptions, waits, durability, and the threads that have them."""
+import asyncio
+import concurrent.futures
+import contextlib
 import math
 import random
 import signal
+import sys
 import threading
 import time
 import unittest
+from unittest import mock
 
 import zelamiku
 from support import Account, LONG, OnFile, Queue, bob_in_alice, held_elsewhere, in_process, in_thread
@@ -127,6 +132,25 @@ class Monitors(OnFile):
                     heap.many.values[998] = 1
             with heap.synchronized(heap.many):
                 self.assertEqual(sum(heap.many.values), 998)
+
+
+    def test_a_section_is_for_one_with_also_by_an_exit_stack(self):
+        with self.open() as heap:
+            section = heap.synchronized(heap.alice)
+            with contextlib.ExitStack() as stack:
+                stack.enter_context(section)
+                heap.alice.balance = 1
+            with self.assertRaises(ValueError), contextlib.ExitStack() as stack:
+                stack.enter_context(heap.synchronized(heap.alice))
+                heap.alice.balance = 2
+                raise ValueError
+            self.assertEqual(in_thread(lambda: self.values(heap)), [1, 100])
+            with self.assertRaisesRegex(zelamiku.Refused, "for each `with`"):
+                section.__enter__()
+            section = heap.synchronized(heap.alice)
+            with section, self.assertRaisesRegex(zelamiku.Refused, "for each `with`"):
+                with section:
+                    pass
 
 
 class Exceptions(OnFile):
@@ -455,73 +479,84 @@ class Exceptions(OnFile):
         with self.open() as heap:
             self.assertEqual(self.values(heap), [100, 100])
 
-    def test_signals_that_raise_anywhere_leave_no_half(self):
-        class Ring(Exception):
-            pass
+
+class Ring(Exception):
+    """What a signal's handler raises."""
+
+
+class Signals(OnFile):
+    def setUp(self):
+        super().setUp()
+        self.addCleanup(signal.signal, signal.SIGALRM, signal.getsignal(signal.SIGALRM))
+        self.addCleanup(signal.setitimer, signal.ITIMER_REAL, 0)
+
+    def test_those_that_raise_anywhere_leave_no_half_and_no_monitor_held(self):
+        """Also while the exception lives, whose traceback keeps frames; and where more come while the section ends."""
 
         def ring(*_):
-            raise Ring
+            nonlocal left
+            left -= 1
+            if left >= 0:
+                raise Ring
 
-        heap = self.open(alice=Account, bob=Account, queue=Queue)
-        begun, ended = 0, 0
-        before = signal.signal(signal.SIGALRM, ring)
-        try:
-            for turn in range(3_000):
+        left = begun = ended = rings = 0
+        signal.signal(signal.SIGALRM, ring)
+        # Where two are on their way Python tells one of them there.
+        with mock.patch.object(sys, "unraisablehook", id), self.open() as heap:
+            for turn in range(1_500):
                 begun += 1
                 try:
-                    signal.setitimer(signal.ITIMER_REAL, random.uniform(1e-6, 8e-5))
-                    with heap.synchronized(heap.alice, heap.bob):
+                    # What is stored under bob's is stored while alice's is held too, which is freed last.
+                    left = 3 if turn % 3 == 0 else 1
+                    signal.setitimer(signal.ITIMER_REAL, random.uniform(1e-6, 9e-5), 2e-5)
+                    kept = heap.synchronized(heap.alice, heap.bob)
+                    with kept:
                         heap.bob.balance += 1
                         with heap.synchronized(heap.bob):
                             heap.bob.balance += 1
                         heap.alice.balance += 2
                     ended += 1
-                    while True:
+                    while left > 0:
                         pass
                 except Ring:
-                    pass
-                if turn % 50 == 0:
+                    left = 0
+                    rings += 1
                     self.assertIsNone(in_thread(lambda: heap.synchronized(heap.alice, heap.bob, timeout=0).__enter__()))
-        finally:
+                left = 0
             signal.setitimer(signal.ITIMER_REAL, 0)
-            signal.signal(signal.SIGALRM, before)
-        alice, bob = self.values(heap)
-        self.assertEqual(alice, bob)
-        # Where it comes just at a section's end the section may be there, and is then there whole.
-        self.assertTrue(2 * ended <= alice - 100 <= 2 * begun, (begun, ended, alice))
-        heap.close()
-        with self.open(alice=Account, bob=Account, queue=Queue) as heap:
+            alice, bob = self.values(heap)
+            self.assertEqual(alice, bob)
+            # Where it comes just at a section's end the section may be there, and is then there whole.
+            self.assertTrue(2 * ended <= alice - 100 <= 2 * begun, (begun, ended, alice))
+        self.assertEqual(rings, 1_500)
+        with self.open() as heap:
             self.assertEqual(self.values(heap), [alice, bob])
 
-    def test_signals_that_raise_anywhere_leave_no_monitor_held(self):
-        class Ring(Exception):
-            pass
+    def test_a_handler_that_uses_the_heap_changes_no_call_that_it_interrupts(self):
+        class Seats(zelamiku.Object):
+            number = zelamiku.Field()
+            slots = zelamiku.Pool(3)
 
         def ring(*_):
-            raise Ring
+            with heap.synchronized(heap.other):
+                told.append((heap.other.number, heap.other.slots.take(), heap.other.notify_all()))
+                heap.other.slots.give(1)
+            if len(told) < 1_000:
+                signal.setitimer(signal.ITIMER_REAL, 2e-4)
 
-        heap = self.open()
-        rings = 0
-        before = signal.signal(signal.SIGALRM, ring)
-        try:
-            for turn in range(3_000):
-                try:
-                    signal.setitimer(signal.ITIMER_REAL, random.uniform(1e-6, 6e-5))
-                    with heap.synchronized(heap.alice, heap.bob):
-                        with heap.synchronized(heap.alice):
-                            heap.alice.balance
-                    while True:
-                        pass
-                except Ring:
-                    rings += 1
-                if turn % 50 == 0:
-                    # All is free, so that another thread may have it.
-                    self.assertIsNone(in_thread(lambda: heap.synchronized(heap.alice, heap.bob, timeout=0).__enter__()))
-        finally:
-            signal.setitimer(signal.ITIMER_REAL, 0)
-            signal.signal(signal.SIGALRM, before)
-        self.assertEqual(rings, 3_000)
-        heap.close()
+        told, seen = [], set()
+        with self.open(own=Seats, other=Seats) as heap:
+            with heap.synchronized(heap.own, heap.other):
+                heap.own.number, heap.other.number = 1, 2
+                heap.other.slots.take()
+            signal.signal(signal.SIGALRM, ring)
+            signal.setitimer(signal.ITIMER_REAL, 2e-4)
+            while len(told) < 1_000:
+                with heap.synchronized(heap.own, heap.other):
+                    for _ in range(5):
+                        seen.add((heap.own.number, heap.own.slots.take(), heap.own.notify(), heap.own.notify_all()))
+                        heap.own.slots.give(0)
+        self.assertEqual((seen, set(told)), ({(1, 0, None, ())}, {(2, 1, ())}))
 
 
 class Threads(OnFile):
@@ -797,6 +832,46 @@ class Sessions(OnFile):
 
                 self.assertIsNone(in_thread(pay))
             self.assertEqual((session.lane, session.earlier), (None, 0))
+
+    def test_a_lane_that_is_given_back_is_another_threads(self):
+        with self.open(lanes=2, alice=Account, bob=Account) as heap:
+            self.values(heap)
+
+            def pay(timeout=None, ends=True):
+                with heap.synchronized(heap.alice, timeout=timeout):
+                    heap.alice.balance += 1
+                if ends:
+                    heap.durable()
+                    heap.session.end()
+                    self.assertEqual((heap.session.lane, heap.session.sections, heap.durable()), (None, 0, True))
+
+            with held_elsewhere(heap.synchronized(heap.bob)):
+                # Without a timeout nobody waits for a lane.
+                self.assertIsInstance(in_thread(pay), zelamiku.NoLaneFree)
+                begun = time.monotonic()
+                error = in_thread(lambda: pay(0.2))
+                self.assertIsInstance(error, zelamiku.NoLaneFree)
+                self.assertIn("session.end()", error.cure)
+                self.assertGreaterEqual(time.monotonic() - begun, 0.2)
+            with concurrent.futures.ThreadPoolExecutor(8) as pool:
+                for done in [pool.submit(pay, LONG) for _ in range(100)]:
+                    done.result()
+            self.assertEqual(self.values(heap), [200, 100])
+
+    def test_a_lane_is_not_given_back_in_a_section_and_its_sections_are_not_waited_for(self):
+        with self.open(alice=Account, bob=Account, linger=3_600) as heap:
+            with heap.synchronized(heap.alice):
+                heap.alice.balance = 1
+                with self.assertRaisesRegex(zelamiku.InSection, "leave it first"):
+                    heap.session.end()
+                heap.alice.balance = 2
+            heap.session.end()
+            for wait in (heap.durable, lambda: asyncio.run(heap.durable_async())):
+                with self.assertRaisesRegex(zelamiku.Refused, r"call durable\(\) before session\.end\(\)"):
+                    wait()
+            heap.session.end()
+            self.assertEqual(self.values(heap), [2, 100])
+            self.assertTrue(heap.durable())
 
     def test_one_that_times_out_after_a_monitor_counts_as_a_section(self):
         with self.open() as heap:

@@ -99,7 +99,7 @@ class TimedOut(Refused, TimeoutError):
 
 
 class NoLaneFree(Refused):
-    """As many threads use the heap as it has lanes."""
+    """As many threads use the heap as it has lanes. A thread keeps its lane until it ends, or calls :meth:`Session.end`."""
 
 
 class SectionFull(Refused):
@@ -189,7 +189,9 @@ _MAKE = "choose another path, or remove the file"
 KINDS = {
     1: Kind(Closed, "the heap was closed or stopped", "open it again"),
     4: Kind(NoMemory, "there was no memory", "free some memory and try again"),
-    6: Kind(NoLaneFree, "all lanes are in use", "end a thread that uses the heap, or open a heap of more lanes (32 at most)"),
+    6: Kind(
+        NoLaneFree, "all lanes are in use", "call heap.session.end() in threads that are idle, and give a timeout; or make a heap of more lanes (32 at most)"
+    ),
     9: Kind(Running, "a section is open or a thread waits", "let all threads leave their sections, or call stop()"),
     10: Kind(Refused, "there is no such object", _MISTAKE),
     11: Kind(Refused, "there is no such field", _MISTAKE),

@@ -127,7 +127,7 @@ class Heap:
 
     @property
     def session(self) -> Session:
-        """What the thread that asks has of the heap: its lane, its count of sections, and :meth:`Session.revert`."""
+        """What the thread that asks has of the heap: its lane, its count of sections, :meth:`Session.revert`, :meth:`Session.end`."""
         return self._session
 
     def synchronized(self, *objects: Object, timeout: float | None = None) -> Section:
@@ -137,8 +137,9 @@ class Heap:
         all, with all that it depends on. Monitors are taken in the order of their objects, whichever is named first, so that no two threads
         wait for each other's. So a ``with`` inside another takes only what comes after all that is held, or is held already; else it is refused
         by :class:`OutOfOrder`. After ``timeout`` seconds, where they are given, it is :class:`TimedOut`; 0 never sleeps. Monitors that were
-        taken before are given back then: if one was, this was a section that changed nothing, and it counts as one. No signal is handled
-        while the thread sleeps.
+        taken before are given back then: if one was, this was a section that changed nothing, and it counts as one. A thread's first section
+        needs a lane (:attr:`session`). If other threads have them all, it waits for one until the timeout, and without a timeout not at all:
+        :class:`NoLaneFree`. No signal is handled while the thread sleeps for a monitor. Call this anew for each ``with``.
 
         An exception that leaves the ``with``, also KeyboardInterrupt, reverts the section: each field has again the value that it had before
         the section's first store to it. Then the monitors are given back, and the exception goes on. The heap goes on for all threads, and
@@ -147,7 +148,9 @@ class Heap:
 
         The outermost ``with`` is the section, and those inside are parts of it. An exception that leaves one inside reverts the whole section.
         If the program catches it before it leaves the outermost one, all that the section does further is refused, and its end tells
-        :class:`Reverted`. A section that had stored nothing goes on. :meth:`Session.revert` reverts a section on purpose.
+        :class:`Reverted`. A section that had stored nothing goes on. :meth:`Session.revert` reverts a section on purpose. By the time that a
+        program catches an exception, also a signal's, the monitors are free. If several signals raise while a section ends, Python prints
+        all but the last.
 
         A section can't be reverted where it has freed a monitor under which it had stored, while it held another: at the end of a ``with``
         inside, or by :meth:`Object.wait`. Then, and where the heap was opened with ``reverts=False``, the exception stops the heap as a crash
@@ -164,7 +167,9 @@ class Heap:
         for of in objects:
             if not isinstance(of, Object) or of._own is not own:
                 raise ValueError(f"{of!r} is no object of {self._link.path}")
-        return Section(own, sorted(objects, key=_number) if len(objects) > 1 else objects, timeout)
+        numbers = [of._number for of in objects]
+        numbers.sort()
+        return Section(own, numbers, timeout)
 
     def durable(self, timeout: float | None = None) -> bool:
         """Sleeps until no crash loses what this thread has ended, or so many seconds at most; whether that is so.
@@ -175,8 +180,7 @@ class Heap:
         :class:`InSection`. :class:`WriteFailed`: they aren't durable yet, and may be waited for again. :class:`Stopped`: the heap has ended
         before they were known to be durable.
         """
-        lane = self._own.lane
-        return lane.durable(timeout) if isinstance(lane, Lane) else True
+        return self._own.lane.durable(timeout)
 
     async def durable_async(self) -> None:
         """The same for a task of asyncio, without a timeout: the loop goes on meanwhile, and one round tells all tasks that wait.
@@ -186,8 +190,9 @@ class Heap:
         """
         lane = self._own.lane
         if not isinstance(lane, Lane):
+            lane.durable(0)
             return
-        if lane.sections:
+        if lane.held:
             raise InSection(self._link.path, "this section hasn't ended, so it can't be durable", "leave it first")
         if lane.has_durable(lane.ended()) and lane.is_durable(0):
             return
@@ -285,10 +290,6 @@ class Heap:
             # An exception that is on its way says more.
             if error is None:
                 raise
-
-
-def _number(of: Object) -> int:
-    return of._number
 
 
 def _end_unclosed(link: Link) -> None:

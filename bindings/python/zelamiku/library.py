@@ -27,8 +27,8 @@ ALL_SECTIONS = 2**64 - 1
 
 OK = 0
 NOTHING = 1
-WRONG_KIND = 3
 NO_MEMORY = 4
+NONE_LEFT = 6
 RUNNING = 9
 NOT_HELD = 12
 BEHIND = 13
@@ -84,12 +84,6 @@ class DroppedRow(ctypes.Structure):
         ("why", c_uint32),
         ("other_lane", c_uint32),
     ]
-
-
-class Sight(ctypes.Structure):
-    """zelamiku_sight"""
-
-    _fields_ = [("owner", c_uint32), ("locks", c_uint32), ("number", c_uint64)]
 
 
 class PlanRow(ctypes.Structure):
@@ -186,7 +180,6 @@ _SHORT: dict[str, list[Any]] = {
     "thread_notify_all": [_THREAD, c_uint32, POINTER(c_uint64)],
     "thread_take": [_THREAD, c_uint32, c_uint32, POINTER(c_uint32)],
     "thread_give": [_THREAD, c_uint32, c_uint32, c_uint32],
-    "thread_look": [_THREAD, c_uint32, POINTER(Sight)],
     "thread_revert": [_THREAD],
 }
 _TELLING: dict[str, tuple[list[Any], Any]] = {

@@ -1,10 +1,13 @@
 """An open heap of the library: its handle, and how what it answers becomes an exception."""
 from __future__ import annotations
 
+import queue
+import time
 from collections.abc import Mapping
+from typing import Any
 
 from .errors import MONITOR_KINDS, Abandoned, Error, Kind, NotHeld, for_status
-from .library import ABANDONED, DEVICE, LOST, NO_MEMORY, NOT_HELD, NOTHING, OK, Library
+from .library import ABANDONED, DEVICE, LOST, NO_MEMORY, NONE_LEFT, NOT_HELD, NOTHING, OK, Library
 from .plan import Plan
 
 
@@ -19,6 +22,33 @@ class Link:
         """Whether what a section has stored can be put back."""
         self._plan = plan
         self._reason = ""
+        self._awaiting_lanes = 0
+        self._freed_lanes: queue.SimpleQueue[None] = queue.SimpleQueue()
+
+    def begin(self, place: Any, deadline: int) -> int:
+        """Lends a lane. While none is free it sleeps, until the deadline at most."""
+        status: int = self.calls.thread_begin(place, self.handle)
+        self._awaiting_lanes += 1
+        try:
+            while status == NONE_LEFT and (left := deadline - time.monotonic_ns()) > 0:
+                try:
+                    # At the heap's end nobody may be left who frees a lane.
+                    self._freed_lanes.get(timeout=min(left / 1e9, 1))
+                except queue.Empty:
+                    pass
+                status = self.calls.thread_begin(place, self.handle)
+        finally:
+            self._awaiting_lanes -= 1
+        return status
+
+    def has_freed_lane(self) -> None:
+        """A lane was given back. A finalizer may call it anywhere, so it takes no lock."""
+        if self._awaiting_lanes:
+            self._freed_lanes.put(None)
+
+    def name(self, number: int) -> str:
+        """An object's."""
+        return self._plan.objects[number].name
 
     def error(self, status: int, doing: str = "", also: Mapping[int, Kind] | None = None) -> Error:
         """The exception for what a call of this thread has just answered."""
@@ -34,11 +64,11 @@ class Link:
 
     def object_error(self, status: int, number: int) -> Error:
         """The same of a call on an object's monitor."""
-        name = self._plan.objects[number].name
+        name = self.name(number)
         return self._not_held(name, number) if status == NOT_HELD else self.error(status, name, MONITOR_KINDS)
 
     def _not_held(self, name: str, guard: int) -> NotHeld:
-        monitor = self._plan.objects[guard].name
+        monitor = self.name(guard)
         return NotHeld(self.path, f"{name}: the thread doesn't hold the monitor of {monitor}", f"take it: `with heap.synchronized(heap.{monitor})`")
 
     def abandon(self, reason: str) -> Error:

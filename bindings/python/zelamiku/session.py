@@ -1,17 +1,23 @@
-"""What a thread has of a heap: a lane, the sections that it is in, and the calls that it makes there."""
+"""What a thread has of a heap: a lane, the sections that it is in, and the calls that it makes there.
+
+A signal's handler may raise an exception in the main thread after any call that Python makes, and where a function of Python begins. So what
+may not be cut off is one call: :func:`max` or :func:`any` over a :class:`map` makes all calls of the library, with no step of Python between.
+"""
 from __future__ import annotations
 
+import functools
 import threading
 import time
 import weakref
-from collections.abc import Callable, Sequence
+from collections.abc import Generator, Sequence
 from ctypes import byref, c_bool, c_uint32, c_uint64
+from itertools import chain
 from types import TracebackType
-from typing import TYPE_CHECKING, NamedTuple, NoReturn
+from typing import TYPE_CHECKING, Any, NoReturn
 
 from .declare import Object
-from .errors import Error, InSection, NotHeld, NotReverted, OutOfOrder, Reverted, TimedOut
-from .library import ALL_SECTIONS, BEHIND, HELD, NO_DEADLINE, NOBODY, NOT_HELD, OK, POOL_EMPTY, UNFINISHED, WRONG_KIND, Sight
+from .errors import Error, InSection, NotHeld, NotReverted, OutOfOrder, Refused, Reverted, TimedOut
+from .library import ALL_SECTIONS, BEHIND, HELD, NO_DEADLINE, NOBODY, NOT_HELD, OK, POOL_EMPTY, UNFINISHED
 from .link import Link
 
 if TYPE_CHECKING:
@@ -20,38 +26,34 @@ if TYPE_CHECKING:
 # Nanoseconds after which the main thread, where it sleeps until its sections are durable, handles signals, as that of Ctrl-C.
 _TICK = 200_000_000
 
-
-class _Open(NamedTuple):
-    """A `with` that a thread is in. The outermost one's is the section."""
-
-    section: weakref.ref[Section]
-    objects: Sequence[Object]
-    before: int
-    """How many monitors were held before it."""
+Hold = Generator[None, "BaseException | None", None]
+"""Holds the monitors of a `with`: :func:`hold`."""
 
 
 class NoLane:
-    """What a thread has of a heap before its first section: all that needs a monitor is refused."""
+    """What a thread has of a heap without a lane: all that needs a monitor is refused."""
 
-    sections: Sequence[_Open] = ()
+    handle = 0
+    held: Sequence[int] = ()
+    failure = ""
     number: int | None = None
     earlier = 0
 
-    def __init__(self, link: Link) -> None:
+    def __init__(self, link: Link, is_settled: bool = True) -> None:
         self._link = link
-
-    def enter(self, section: Section) -> None:
-        """Has a lane lent to the thread, and takes the section's monitors."""
-        section.own.lane = lane = Lane(self._link)
-        lane.enter(section)
-
-    def leave(self, section: Section, error: BaseException | None) -> None:
-        """Stops the heap: the section has begun in another thread."""
-        _tell(self._link.abandon("a section has ended in another thread than it began"), error)
+        self._is_settled = is_settled
+        """Whether all is durable that the thread has ended, as far as can be known."""
 
     def ended(self) -> int:
         """How many sections the thread has ended."""
         return 0
+
+    def durable(self, timeout: float | None) -> bool:
+        """Whether all that the thread has ended is durable."""
+        if not self._is_settled:
+            cause = "the thread has given its lane back before all that it had ended was durable"
+            raise Refused(self._link.path, cause, "call durable() before session.end()")
+        return True
 
     def revert(self) -> None:
         """Is refused."""
@@ -72,142 +74,81 @@ class Lane:
 
     _begun: c_uint64 | None = None
 
-    def __init__(self, link: Link) -> None:
+    def __init__(self, link: Link, deadline: int) -> None:
         self._link = link
         self._calls = link.calls
-        self.sections: list[_Open] = []
-        """Those that the thread is in, the outermost first."""
-        self._held: list[int] = []
-        self._has_stored = False
-        """Whether the section has stored what wasn't put back."""
-        self._failure = ""
+        self.held: list[int] = []
+        """The monitors that the thread holds, by the `with` that has taken them. In a section there is one."""
+        self.stores = 0
+        """How many stores the section has begun that weren't refused or put back: at least as many as there were."""
+        self.failure = ""
         """What has left a `with` inside the section, which was reverted then. The section can do nothing more."""
         self._thread = threading.current_thread()
-        self._when_cut_off = _when_cut_off(weakref.ref(self))
-        # What the library writes to, kept since a call would otherwise make it anew each time.
-        self._value = c_uint64()
-        self._value_place = byref(self._value)
-        self._count = c_uint32()
-        self._count_place = byref(self._count)
+        # What the library writes to. Each call takes one for itself, since a signal's handler may make others before it has been read.
+        self._values: list[tuple[c_uint64, Any]] = []
+        self._counts: list[tuple[c_uint32, Any]] = []
         # Before the lane is lent, since a signal's handler may raise an exception right after it.
         self._begun = c_uint64()
-        status = self._calls.thread_begin(byref(self._begun), link.handle)
+        status = link.begin(byref(self._begun), deadline)
         if status != OK:
             raise link.error(status)
         self.handle = self._begun.value
+        self.revert_of = self._calls.thread_revert
+        self.exit = functools.partial(self._calls.thread_exit, self.handle)
         # Kept, since nobody tells them at the heap's end.
         self.number: int | None = self._calls.thread_lane(self.handle)
         self.earlier: int = self._calls.thread_earlier(self.handle)
 
     def __del__(self) -> None:
-        if self._begun is not None and self._calls.thread_end(self._begun.value) == UNFINISHED:
-            self._abandon("a thread has ended inside a section")
+        if self._begun is None:
+            return
+        if self._calls.thread_end(self._begun.value) == UNFINISHED:
+            self.abandon("a thread has ended inside a section")
+        self._link.has_freed_lane()
 
-    def _abandon(self, reason: str) -> Error:
+    def abandon(self, reason: str) -> Error:
+        """Stops the heap, for what this thread has done."""
         return self._link.abandon(f"{reason}, in the thread {self._thread.name}")
 
     # ---- sections ----
 
-    def enter(self, section: Section) -> None:
-        """Takes the section's monitors, in the order of their numbers. Where one isn't to be had those that it took are given back."""
-        held = self._held
-        if held:
-            self._must_be_in_order(section)
-        else:
-            self._has_stored, self._failure = False, ""
-        before, depth = len(held), len(self.sections)
-        deadline = None
-        try:
-            for of in section.objects:
-                status = self._calls.thread_try_enter(self.handle, of._number)
-                if status:
-                    deadline = _deadline(section.timeout) if deadline is None else deadline
-                    self._await_monitor(of, status, deadline)
-                held.append(of._number)
-            self.sections.append(_Open(weakref.ref(section, self._when_cut_off), section.objects, before))
-        except BaseException:
-            # A signal's handler may have raised it anywhere.
-            del held[before:], self.sections[depth:]
-            self._restore(section.objects)
-            raise
-
-    def _must_be_in_order(self, section: Section) -> None:
-        if self._failure:
-            raise self._reverted()
-        last = max(self._held)
-        for of in section.objects:
-            if of._number < last and of._number not in self._held:
-                cause = f"{of._name} comes before a monitor that the thread holds already"
+    def admit(self, numbers: list[int]) -> list[int]:
+        """Which of these monitors have to be taken for a `with` inside the section: those that aren't held."""
+        if self.failure:
+            raise self.reverted()
+        last = max(self.held)
+        missing = [number for number in numbers if number not in self.held]
+        for number in missing:
+            if number < last:
+                cause = f"{self._link.name(number)} comes before a monitor that the thread holds already"
                 raise OutOfOrder(self._link.path, cause, "take all of them by one synchronized(..), or declare it after")
+        return missing
 
-    def _await_monitor(self, of: Object, status: int, deadline: int) -> None:
-        """Takes a monitor of which a try has answered this."""
+    def await_monitor(self, number: int, status: int, deadline: int) -> None:
+        """Takes a monitor for which a try has returned this."""
         if status in (HELD, BEHIND) and deadline == NO_DEADLINE:
-            status = self._calls.thread_enter(self.handle, of._number)
+            status = self._calls.thread_enter(self.handle, number)
         elif status in (HELD, BEHIND) and deadline:
-            status = self._calls.thread_enter_until(self.handle, of._number, deadline)
+            status = self._calls.thread_enter_until(self.handle, number, deadline)
         if status in (HELD, BEHIND):
             cause = "another thread has its monitor" if status == HELD else "the lane has no room for a section's records"
-            raise TimedOut(self._link.path, f"{of._name}: {cause}, still after the timeout", "try again")
+            raise TimedOut(self._link.path, f"{self._link.name(number)}: {cause}, still after the timeout", "try again")
         if status:
-            raise self._link.object_error(status, of._number)
+            raise self._link.object_error(status, number)
 
-    def leave(self, section: Section, error: BaseException | None) -> None:
-        """Gives the section's monitors back. Where an exception leaves it, what the section has stored is put back before."""
-        last = depth = len(self.sections) - 1
-        while depth >= 0 and self.sections[depth].section() is not section:
-            depth -= 1
-        # An exception may have cut off the end of those inside of it.
-        if depth < 0 or (depth < last and error is None):
-            _tell(self._abandon("sections have ended in another order than they began, as by an await or a yield in one"), error)
-        else:
-            self._leave(depth, error)
-
-    def _leave(self, depth: int, error: BaseException | None) -> None:
-        before = self.sections[depth].before
-        is_all = False
-        try:
-            if error is not None:
-                self._put_back(depth, error)
-            status = self._give_back(before)
-            is_all = depth + 1 == len(self.sections)
-        finally:
-            if error is not None and not is_all:
-                # A signal's handler may have cut it off. It does nothing where all is put back.
-                self._put_back(depth, error)
-            left = self.sections[depth:]
-            del self._held[before:], self.sections[depth:]
-            if not is_all:
-                for each in left:
-                    self._restore(each.objects)
-        if status:
-            _tell(self._link.error(status), error)
-        if self._failure:
-            told = self._reverted()
-            if depth == 0:
-                self._failure = ""
-            _tell(told, error)
-
-    def _put_back(self, depth: int, error: BaseException) -> None:
-        """Puts back what the section has stored, since an exception leaves a `with` of it; or stops the heap."""
-        if not self._has_stored:
-            return
-        if depth > 0:
-            # Before it is done. What was stored outside of this `with` is put back too, so who catches the exception there may not go on.
-            self._failure = _told(error)
-        status = self._calls.thread_revert(self.handle) if self._link.reverts else WRONG_KIND
-        if status:
-            self._failure = ""
-            refusal = f" and can't be reverted: {_FREED}" if status == NOT_HELD else ""
-            self._abandon(f"an exception has left a section that had stored ({_told(error)}){refusal}")
-        self._has_stored = False
+    def stop_unreverted(self, error: BaseException) -> None:
+        """Stops the heap, since an exception has left a section that can't be reverted."""
+        status = self._calls.thread_revert(self.handle)
+        refusal = f" and can't be reverted: {_FREED}" if status == NOT_HELD else ""
+        self.failure = ""
+        self.abandon(f"an exception has left a section that had stored ({_told(error)}){refusal}")
 
     def revert(self) -> None:
         """Puts back what the section has stored. Its monitors stay held."""
-        if not self.sections:
+        if not self.held:
             raise _in_no_section(self._link)
-        if self._failure:
-            raise self._reverted()
+        if self.failure:
+            raise self.reverted()
         if not self._link.reverts:
             raise NotReverted(self._link.path, "the heap was opened with reverts=False", "open it without")
         status = self._calls.thread_revert(self.handle)
@@ -215,124 +156,105 @@ class Lane:
             raise NotReverted(self._link.path, f"nothing was put back: {_FREED}", "hold all monitors until the section's end")
         if status:
             raise self._link.error(status)
-        self._has_stored = False
+        self.stores = 0
 
-    def _reverted(self) -> Reverted:
-        cause = f"an exception has left a `with` inside this section, which was reverted ({self._failure})"
+    def reverted(self) -> Reverted:
+        """Why the section can do nothing more."""
+        cause = f"an exception has left a `with` inside this section, which was reverted ({self.failure})"
         return Reverted(self._link.path, cause, "let the exception leave the outermost `with` too, or catch it in the inner one")
-
-    def cut_off(self, section: weakref.ref[Section]) -> None:
-        """A section is gone that hasn't ended: a signal's handler has raised an exception just where it was to end."""
-        error = InterruptedError("its end was cut off")
-        if threading.get_ident() != self._thread.ident:
-            self._abandon("a section's end was cut off")
-            return
-        for depth, each in enumerate(self.sections):
-            if each.section is section:
-                return self._leave(depth, error)
-
-    def _give_back(self, left: int) -> int:
-        """Gives monitors back, the last first, until so many are held. Answers the first status that isn't OK."""
-        first = OK
-        while len(self._held) > left:
-            status: int = self._calls.thread_exit(self.handle, self._held.pop())
-            first = first or status
-        return first
-
-    def _restore(self, objects: Sequence[Object]) -> None:
-        """Gives back what the thread holds of these monitors beyond what it should: an exception has cut off a take or a give."""
-        sight = Sight()
-        for of in objects:
-            is_told = self._calls.thread_look(self.handle, of._number, byref(sight)) == OK
-            locks = sight.locks if is_told and sight.owner == self.number else 0
-            for _ in range(locks - self._held.count(of._number)):
-                self._calls.thread_exit(self.handle, of._number)
 
     # ---- in a section ----
 
     def load(self, field: int) -> int:
         """The bits of a field."""
-        if self._failure:
-            raise self._reverted()
-        status = self._calls.thread_load(self.handle, field, self._value_place)
+        if self.failure:
+            raise self.reverted()
+        cell = self._values.pop() if self._values else _cell(c_uint64)
+        status = self._calls.thread_load(self.handle, field, cell[1])
+        bits: int = cell[0].value
+        self._values.append(cell)
         if status:
             raise self._link.field_error(status, field)
-        return self._value.value
+        return bits
 
     def store(self, field: int, bits: int) -> None:
         """Stores the bits of a field."""
-        if self._failure:
-            raise self._reverted()
-        has_stored = self._has_stored
+        if self.failure:
+            raise self.reverted()
         # Before it is done, since a signal's handler may raise an exception right after it.
-        self._has_stored = True
+        self.stores += 1
         status = self._calls.thread_store(self.handle, field, bits)
         if status:
-            self._has_stored = has_stored
+            self.stores -= 1
             raise self._link.field_error(status, field)
 
     def take(self, head: int, slots: int) -> int | None:
         """Takes a slot of the pool with this head; None where none is free."""
-        if self._failure:
-            raise self._reverted()
-        has_stored = self._has_stored
-        self._has_stored = True
-        status = self._calls.thread_take(self.handle, head, slots, self._count_place)
+        if self.failure:
+            raise self.reverted()
+        self.stores += 1
+        cell = self._counts.pop() if self._counts else _cell(c_uint32)
+        status = self._calls.thread_take(self.handle, head, slots, cell[1])
+        slot: int = cell[0].value
+        self._counts.append(cell)
         if not status:
-            return self._count.value
-        self._has_stored = has_stored
+            return slot
+        self.stores -= 1
         if status == POOL_EMPTY:
             return None
         raise self._link.field_error(status, head)
 
     def give(self, head: int, slots: int, slot: int) -> None:
         """Gives a slot back to the pool with this head."""
-        if self._failure:
-            raise self._reverted()
-        has_stored = self._has_stored
-        self._has_stored = True
+        if self.failure:
+            raise self.reverted()
+        self.stores += 1
         status = self._calls.thread_give(self.handle, head, slots, slot)
         if status:
-            self._has_stored = has_stored
+            self.stores -= 1
             raise self._link.field_error(status, head)
 
     def wait(self, of: Object) -> None:
         """Waits for a notification of the object's monitor."""
-        if self._failure:
-            raise self._reverted()
-        has_stored = self._has_stored
+        if self.failure:
+            raise self.reverted()
         # With the only monitor the section ends, and the next one has stored nothing.
-        self._has_stored = has_stored and any(number != of._number for number in self._held)
+        ended = 0 if any(number != of._number for number in self.held) else self.stores
+        self.stores -= ended
         status = self._calls.thread_wait(self.handle, of._number)
         if status:
-            self._has_stored = has_stored
+            self.stores += ended
             raise self._link.object_error(status, of._number)
 
     def notify(self, of: Object) -> int | None:
         """Wakes one thread that waits for the object's monitor, and answers its lane; None: there was none."""
-        if self._failure:
-            raise self._reverted()
-        status = self._calls.thread_notify(self.handle, of._number, self._count_place)
+        if self.failure:
+            raise self.reverted()
+        cell = self._counts.pop() if self._counts else _cell(c_uint32)
+        status = self._calls.thread_notify(self.handle, of._number, cell[1])
+        lane: int = cell[0].value
+        self._counts.append(cell)
         if status:
             raise self._link.object_error(status, of._number)
-        lane = self._count.value
         return None if lane == NOBODY else lane
 
     def notify_all(self, of: Object) -> tuple[int, ...]:
         """Wakes all threads that wait for the object's monitor, and answers their lanes."""
-        if self._failure:
-            raise self._reverted()
-        status = self._calls.thread_notify_all(self.handle, of._number, self._value_place)
+        if self.failure:
+            raise self.reverted()
+        cell = self._values.pop() if self._values else _cell(c_uint64)
+        status = self._calls.thread_notify_all(self.handle, of._number, cell[1])
+        lanes: int = cell[0].value
+        self._values.append(cell)
         if status:
             raise self._link.object_error(status, of._number)
-        lanes = self._value.value
         return tuple(lane for lane in range(lanes.bit_length()) if lanes >> lane & 1)
 
     # ---- outside of sections ----
 
     def durable(self, timeout: float | None) -> bool:
         """Sleeps until what the thread has ended is durable, or until the timeout; whether it is."""
-        if self.sections:
+        if self.held:
             raise InSection(self._link.path, "this section hasn't ended, so it can't be durable", "leave it first")
         deadline = _deadline(timeout)
         while self._thread is threading.main_thread() and (tick := time.monotonic_ns() + _TICK) < deadline:
@@ -359,17 +281,6 @@ class Lane:
         return durable >= count
 
 
-def _when_cut_off(of: weakref.ref[Lane]) -> Callable[[weakref.ref[Section]], None]:
-    """What is called where a section is gone that hasn't ended. It doesn't keep the lane, which goes with its thread."""
-
-    def tell(section: weakref.ref[Section]) -> None:
-        lane = of()
-        if lane is not None:
-            lane.cut_off(section)
-
-    return tell
-
-
 class Own(threading.local):
     """What each thread has of a heap by itself."""
 
@@ -379,25 +290,149 @@ class Own(threading.local):
         self.tasks: Tasks | None = None
 
 
+def hold(own: Own, numbers: list[int], timeout: float | None) -> Hold:
+    """Takes these objects' monitors by its first step, and gives them back by the next, to which the exception is sent that leaves the `with`.
+
+    It is a generator, since Python goes on inside its ``try`` whatever ends it: a step, an exception that a signal's handler raises there, or
+    that its last reference is gone, since such an exception has cut off the `with` itself. It keeps no lane, which goes with its thread.
+    """
+    lane = own.lane
+    deadline = NO_DEADLINE if timeout is None else _deadline(timeout)
+    if not lane.handle:
+        # Who gives no timeout doesn't wait for a lane, which another thread may keep for ever.
+        own.lane = lane = Lane(own.link, 0 if timeout is None else deadline)
+    handle, held, try_enter = lane.handle, lane.held, own.link.calls.thread_try_enter
+    before = len(held)
+    if before:
+        mine = lane.admit(numbers)
+    else:
+        lane.stores, lane.failure, mine = 0, "", numbers
+    # The exit of a monitor that wasn't taken is refused. So it needn't be known how far the taking has come.
+    exits = map(lane.exit, mine[::-1])
+    is_undone: list[bool] = []
+    undo = chain(map(lane.revert_of, (handle,)), exits, map(is_undone.append, (True,)))
+    is_inside = False
+    error: BaseException | None = _CUT_OFF
+    told: Error | None = None
+    try:
+        for number in mine:
+            status = try_enter(handle, number)
+            if status:
+                lane.await_monitor(number, status, deadline)
+            # Only what is held: a signal's handler may be in a section of its own before this, or after.
+            held += (number,)
+        is_inside = True
+        del lane
+        error = yield
+    finally:
+        # No call comes before that which gives the monitors back.
+        lane = own.lane
+        if lane.handle != handle:
+            told = own.link.abandon("a section has ended in another thread than it began")
+        elif is_inside and held[before:] != mine:
+            told = lane.abandon("sections have ended in another order than they began, as by an await or a yield in one")
+        elif not is_inside:
+            del held[before:]
+            list(exits)
+        elif error is None or not lane.stores:
+            del held[before:]
+            if any(exits):
+                # Only at the heap's end, where the first exit gives all back.
+                told = own.link.error(lane.exit(mine[0]))
+        else:
+            # What was stored outside of an inner `with` is put back too, so who catches the exception there may not go on.
+            lane.failure = "an exception of a signal's handler"
+            del held[before:]
+            try:
+                any(undo)
+            finally:
+                if not is_undone:
+                    try:
+                        lane.stop_unreverted(error)
+                    finally:
+                        own.link.calls.heap_abandon(own.link.handle)
+                        list(exits)
+            lane.stores = 0
+            if lane.failure:
+                lane.failure = _told(error)
+        if lane.failure and is_inside and told is None:
+            told = lane.reverted()
+            if not before:
+                lane.failure = ""
+        if told is not None and error is None:
+            # An exception that is on its way says more.
+            raise told
+
+
+_CUT_OFF = InterruptedError("its end was cut off")
+
+
+class _Leave(functools.partial[None]):
+    """What a `with` calls at its end. Nothing else keeps the monitors' generator, so they are given back where a `with` ends without a call:
+    an exception's traceback has this one's frames, and not this."""
+
+    __slots__ = ("hold",)
+
+
+def _leave(hold: weakref.ref[Hold], kind: type[BaseException] | None, error: BaseException | None, trace: TracebackType | None) -> None:
+    if error is None:
+        next(hold(), None)  # type: ignore[call-overload]
+        return
+    try:
+        hold().send(error)  # type: ignore[union-attr]
+    except StopIteration:
+        pass
+
+
+class _Exit:
+    """``Section.__exit__``: asked of a section by a `with`, it is what ends that `with`."""
+
+    def __get__(self, section: Section | None, owner: type) -> Any:
+        if section is None:
+            return self
+        leave = _Leave(_leave, section.ref)
+        leave.hold, section.hold = section.hold, None
+        if leave.hold is None:
+            raise section.used()
+        return leave
+
+    def __call__(self, section: Section, kind: type[BaseException] | None, error: BaseException | None, trace: TracebackType | None) -> None:
+        """As contextlib.ExitStack calls it."""
+        _leave(section.ref, kind, error, trace)
+
+
 class Section:
-    """Monitors that are held inside of its ``with``: :meth:`Heap.synchronized` makes it."""
+    """Monitors that are held inside of its ``with``: :meth:`Heap.synchronized` makes it for one."""
 
-    __slots__ = ("own", "objects", "timeout", "__weakref__")
+    __slots__ = ("link", "hold", "ref", "is_begun")
 
-    def __init__(self, own: Own, objects: Sequence[Object], timeout: float | None) -> None:
-        self.own = own
-        self.objects = objects
-        self.timeout = timeout
+    def __init__(self, own: Own, numbers: list[int], timeout: float | None) -> None:
+        self.link = own.link
+        self.hold: Hold | None = hold(own, numbers, timeout)
+        self.ref = weakref.ref(self.hold)
+        self.is_begun = False
 
     def __enter__(self) -> None:
-        self.own.lane.enter(self)
+        if self.is_begun:
+            raise self.used()
+        self.is_begun = True
+        next(self.ref())  # type: ignore[arg-type]
 
-    def __exit__(self, kind: type[BaseException] | None, error: BaseException | None, trace: TracebackType | None) -> None:
-        self.own.lane.leave(self, error)
+    if TYPE_CHECKING:
+
+        def __exit__(self, kind: type[BaseException] | None, error: BaseException | None, trace: TracebackType | None) -> None: ...
+
+    else:
+        __exit__ = _Exit()
+
+    def used(self) -> Refused:
+        """Why it can't be entered again."""
+        return Refused(self.link.path, "this section was entered before", "call synchronized(..) for each `with`")
 
 
 class Session:
-    """What the calling thread has of a heap: :attr:`Heap.session`. A thread has a lane from its first section on, until it ends.
+    """What the calling thread has of a heap: :attr:`Heap.session`. A thread has a lane from its first section on, until it ends or calls
+    :meth:`end`.
 
     The next opening's report names each section that it drops by its lane and its number there. Such a section of this lane is the thread's
     own section ``number - earlier``, if that is 1 or more and no more than the thread has begun.
@@ -433,8 +468,27 @@ class Session:
         """
         self._own.lane.revert()
 
+    def end(self) -> None:
+        """Gives the thread's lane back, for other threads. The thread's next section has a lane again, perhaps another one.
+
+        It is for the threads of a pool, which may be idle for long. What the thread has ended becomes durable as before, but
+        :meth:`Heap.durable` can't wait for it any more: call that first. :class:`InSection`: nothing was done.
+        """
+        own, lane = self._own, self._own.lane
+        if lane.held:
+            raise InSection(own.link.path, "this section hasn't ended, so the lane can't be given back", "leave it first")
+        if isinstance(lane, Lane):
+            # The lane ends with its last reference: tasks that wait by it keep it until they are told.
+            own.lane, own.tasks = NoLane(own.link, lane.has_durable(lane.ended())), None
+
 
 _FREED = "it has freed a monitor under which it had stored"
+
+
+def _cell(kind: type[Any]) -> tuple[Any, Any]:
+    """What a call writes to, and the pointer to it."""
+    cell = kind()
+    return cell, byref(cell)
 
 
 def _told(error: BaseException) -> str:
@@ -443,12 +497,6 @@ def _told(error: BaseException) -> str:
 
 def _in_no_section(link: Link) -> NotHeld:
     return NotHeld(link.path, "the thread is in no section", "call it inside `with heap.synchronized(..)`")
-
-
-def _tell(stopped: Error, error: BaseException | None) -> None:
-    """Raises what has stopped a section's end, unless an exception is on its way, which says more."""
-    if error is None:
-        raise stopped
 
 
 def _deadline(timeout: float | None) -> int:

@@ -31,7 +31,6 @@ class Tasks:
         self._waiting: deque[tuple[int, asyncio.Future[None]]] = deque()
         """How many sections each waits for, in their order."""
         self._watches: dict[asyncio.AbstractEventLoop, _Watch] = {}
-        self._durable = c_uint64()
 
     def durable(self) -> asyncio.Future[None]:
         """A future of the running loop, done once all is durable that the thread has ended by now."""
@@ -62,8 +61,9 @@ class Tasks:
     def _look(self, watch: _Watch) -> None:
         """Tells those whose sections are durable, and all where it went wrong. Asks for the others' sections."""
         watch.asks_soon = False
-        status = self._link.calls.thread_ask(self._lane.handle, byref(self._durable))
-        durable, waiting = self._durable.value, self._waiting
+        count = c_uint64()
+        status = self._link.calls.thread_ask(self._lane.handle, byref(count))
+        durable, waiting = count.value, self._waiting
         while waiting and waiting[0][0] <= durable:
             _settle(waiting.popleft()[1], None)
         while waiting and status != OK:
