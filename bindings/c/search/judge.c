@@ -289,8 +289,9 @@ static void take_back(judge *it, uint32_t lane) {
 void judge_reverted(judge *it, uint32_t lane, zelamiku_status status) {
     bool can = judge_held(it, lane) > 0 && !it->of[lane].is_past;
     if (is_over(it, lane, status)) return;
-    zelamiku_status right = !it->reverts ? ZELAMIKU_WRONG_KIND : can ? ZELAMIKU_OK : ZELAMIKU_NOT_HELD;
-    if (status != right) search_fail("lane %u: revert answers %u", lane, status);
+    bool has_nothing = judge_held(it, lane) > 0 && !it->of[lane].has_stored;
+    zelamiku_status without = has_nothing ? ZELAMIKU_OK : ZELAMIKU_WRONG_KIND, with = can ? ZELAMIKU_OK : ZELAMIKU_NOT_HELD;
+    if (status != (it->reverts ? with : without)) search_fail("lane %u: revert answers %u", lane, status);
     if (status == ZELAMIKU_OK) take_back(it, lane);
 }
 

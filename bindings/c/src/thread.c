@@ -235,10 +235,11 @@ zelamiku_status zelamiku_thread_store(zelamiku_thread thread, uint32_t field, ui
     seat *own = seat_of(thread);
     if (SELDOM(!is_open(own, thread))) return not_open(own, thread, "store", true, field);
     if (own->changes != NULL) return store_keeping(own, field, value);
+    zelamiku_status status = zelamiku_store(&own->session, field, value);
+    if (SELDOM(status != ZELAMIKU_OK)) return refused(own, status, "store", "field", field);
     own->records++;
     own->has_stored = 1;
-    zelamiku_status status = zelamiku_store(&own->session, field, value);
-    return SELDOM(status != ZELAMIKU_OK) ? refused(own, status, "store", "field", field) : ZELAMIKU_OK;
+    return ZELAMIKU_OK;
 }
 
 zelamiku_status zelamiku_thread_take(zelamiku_thread thread, uint32_t head, uint32_t slots, uint32_t *slot) {
@@ -247,8 +248,8 @@ zelamiku_status zelamiku_thread_take(zelamiku_thread thread, uint32_t head, uint
     *slot = ZELAMIKU_NO_SLOT;
     if (!is_open(own, thread)) return not_open(own, thread, "take of the pool at", true, head);
     own->records += 2;
-    own->has_stored = 1;
     zelamiku_status status = own->changes != NULL ? take_keeping(own, head, slots, slot) : zelamiku_pool_take(&own->session, head, slots, slot);
+    own->has_stored |= status == ZELAMIKU_OK;
     bool is_answer = status == ZELAMIKU_OK || status == ZELAMIKU_POOL_EMPTY;
     return is_answer ? status : refused(own, status, "take", "of the pool at field", head);
 }
@@ -257,8 +258,8 @@ zelamiku_status zelamiku_thread_give(zelamiku_thread thread, uint32_t head, uint
     seat *own = seat_of(thread);
     if (!is_open(own, thread)) return not_open(own, thread, "give to the pool at", true, head);
     own->records += 2;
-    own->has_stored = 1;
     zelamiku_status status = own->changes != NULL ? give_keeping(own, head, slots, slot) : zelamiku_pool_give(&own->session, head, slots, slot);
+    own->has_stored |= status == ZELAMIKU_OK;
     return status == ZELAMIKU_OK ? status : refused(own, status, "give back", "slot", slot);
 }
 

@@ -525,6 +525,7 @@ static void refusals(void) {
         MUST(says("revert.heap: revert: the heap's plan doesn't keep what a section changes; open it with reverts = 1"));
         if (i > 0) break;
         OK(zelamiku_thread_enter(own, 0));
+        MUST(zelamiku_thread_store(own, 1, 7) == ZELAMIKU_NOT_HELD);
         OK(zelamiku_thread_revert(own)); /* nothing is stored yet */
         OK(zelamiku_thread_store(own, 12, 77));
         MUST(is_transient(12) && zelamiku_thread_revert(own) == ZELAMIKU_WRONG_KIND);
