@@ -11,20 +11,21 @@
  *     });
  *     session.durable();                                                         // returns when no crash can lose it
  *
- * A call that fails throws an Error, and has done nothing. Destructors throw nothing. What was moved from answers NOTHING.
- * An exception that leaves a guard, or the work of `synchronized`, takes the whole section back (zelamiku_thread_revert) before the monitor
- * is given back. Caught under an outer guard, it leaves a section that can't store, wait or end well any more: each throws NOTHING. The
- * outer guard's destructor can't; its exit() does. A section that can't be taken back stops the heap (zelamiku_heap_abandon), and the next
- * opening drops it: one that has given back a monitor under which it had stored, and any where the plan's `reverts` was set to 0.
- * One thread at a time uses a session and its guards. A session outlives its guards, and isn't moved while it has some. A guard doesn't see
- * that its thread is cancelled or ends by pthread_exit: there only `synchronized` takes the section back. */
+ * A call that fails throws an Error, and has done nothing. Destructors throw nothing. What was moved from reports NOTHING.
+ * A section keeps what it has stored if each of its guards has ended by exit(), and the work of each `synchronized` has returned. A guard that
+ * is destroyed before, by an exception, a return or the end of its thread, takes the whole section back (zelamiku_thread_revert), and then
+ * frees its monitors. Under an outer guard it leaves a section that can't store, wait or end well any more: each throws NOTHING. One that has
+ * only loaded needs no exit(), where it has one guard. A section that fails and can't be taken back stops the heap (zelamiku_heap_abandon), and
+ * the next opening drops it: one that has freed a monitor under which it had stored, and one that has stored where the plan's `reverts` is 0.
+ * So take a section's monitors together: `enter({a, b})`.
+ * One thread at a time uses a session and its guards. A session outlives its guards, and isn't moved while it has some. */
 #ifndef ZELAMIKU_HPP
 #define ZELAMIKU_HPP
 #include <cassert>
 #include <cerrno>
 #include <chrono>
 #include <cstring>
-#include <exception>
+#include <initializer_list>
 #include <optional>
 #include <stdexcept>
 #include <string>
@@ -84,37 +85,71 @@ public:
     zelamiku_heap number() const noexcept { return heap_; }
 };
 
+struct Objects { /* one, or several: each once, in the order of their numbers, so that no two threads wait for each other's */
+    std::uint32_t numbers[ZELAMIKU_MOST_HELD]{};
+    unsigned count = 0;
+    Objects(Object one) { add(one); }
+    Objects(std::initializer_list<Object> all) : Objects(all.begin(), all.end()) {}
+    template <class Place> Objects(Place begin, Place end) {
+        for (; begin != end; ++begin) add(*begin);
+        if (count == 0) throw Error(ZELAMIKU_EMPTY, "enter: no object is named");
+    }
+private:
+    void add(Object one) {
+        unsigned place = count;
+        while (place > 0 && numbers[place - 1] > one.number) place--;
+        if (place > 0 && numbers[place - 1] == one.number) return;
+        if (count == ZELAMIKU_MOST_HELD) throw Error(ZELAMIKU_TOO_MANY, "enter: more than 16 objects are named");
+        for (unsigned i = count++; i > place; i--) numbers[i] = numbers[i - 1];
+        numbers[place] = one.number;
+    }
+};
 struct Lane { /* what a session has together with its guards */
     zelamiku_heap heap;
     zelamiku_thread thread;
     unsigned guards;
     bool is_taken_back; /* the section that is open */
     static void must_go_on(bool goes_on) {
-        if (!goes_on) throw Error(ZELAMIKU_NOTHING, "the section was taken back when an exception left a guard, or the guard has ended");
+        if (!goes_on) throw Error(ZELAMIKU_NOTHING, "the section was taken back when a guard ended without exit(), or the guard has ended");
+    }
+    zelamiku_status take(const Objects &of, std::uint64_t deadline) noexcept { /* all, or none */
+        for (unsigned i = 0; i < of.count; i++) {
+            const std::uint32_t next = of.numbers[i];
+            const bool sleeps = deadline == ZELAMIKU_NO_DEADLINE;
+            const zelamiku_status status = sleeps ? zelamiku_thread_enter(thread, next) : zelamiku_thread_enter_until(thread, next, deadline);
+            if (status != ZELAMIKU_OK) return drop(leave(of, i)), status;
+        }
+        return ZELAMIKU_OK;
+    }
+    zelamiku_status leave(const Objects &of, unsigned count) noexcept { /* the first so many */
+        zelamiku_status status = ZELAMIKU_OK;
+        while (status == ZELAMIKU_OK && count > 0) status = zelamiku_thread_exit(thread, of.numbers[--count]);
+        return status;
+    }
+    void take_back() noexcept { /* at the heap's end the section is cut off in any case */
+        const zelamiku_status status = zelamiku_thread_revert(thread);
+        is_taken_back = status == ZELAMIKU_OK;
+        if (status == ZELAMIKU_NOT_HELD || status == ZELAMIKU_WRONG_KIND) drop(zelamiku_heap_abandon(heap));
     }
 };
-class [[nodiscard]] Guard { /* has a monitor, and gives it back at its end */
+class [[nodiscard]] Guard { /* has monitors, until exit() keeps what its section has stored, or its end takes that back */
     friend class Session;
-    Lane *lane_; /* NULL once it has */
-    std::uint32_t object_;
-    int exceptions_; /* in flight at its begin: where more are at its end, one leaves it */
-    Guard(Lane *lane, Object of, int exceptions) noexcept : lane_(lane), object_(of.number), exceptions_(exceptions) { lane->guards++; }
+    Lane *lane_; /* NULL once it has ended */
+    Objects objects_;
+    Guard(Lane *lane, const Objects &of) noexcept : lane_(lane), objects_(of) { lane->guards++; }
     zelamiku_status leave() noexcept {
         Lane *lane = std::exchange(lane_, nullptr);
         if (--lane->guards == 0) lane->is_taken_back = false;
-        return zelamiku_thread_exit(lane->thread, object_);
+        return lane->leave(objects_, objects_.count);
     }
 public:
-    Guard(Guard &&other) noexcept : lane_(std::exchange(other.lane_, nullptr)), object_(other.object_), exceptions_(other.exceptions_) {}
+    Guard(Guard &&other) noexcept : lane_(std::exchange(other.lane_, nullptr)), objects_(other.objects_) {}
     ~Guard() {
         if (lane_ == nullptr) return;
-        if (std::uncaught_exceptions() > exceptions_) {
-            lane_->is_taken_back = zelamiku_thread_revert(lane_->thread) == ZELAMIKU_OK;
-            if (!lane_->is_taken_back) drop(zelamiku_heap_abandon(lane_->heap));
-        }
+        lane_->take_back();
         drop(leave());
     }
-    void exit() { /* the same now, and throws what the end comes to */
+    void exit() { /* frees the monitors. With the section's last ones what it has stored stays */
         const bool goes_on = lane_ != nullptr && !lane_->is_taken_back;
         if (lane_ != nullptr) must(leave());
         Lane::must_go_on(goes_on);
@@ -129,18 +164,18 @@ public:
         if (thread.number != 0 && zelamiku_thread_end(thread) == ZELAMIKU_UNFINISHED) drop(zelamiku_heap_abandon(heap));
     }
     zelamiku_thread number() const noexcept { return thread; }
-    Guard enter(Object object) { /* sleeps while another thread has the monitor */
-        return must(zelamiku_thread_enter(thread, object.number)), Guard(this, object, std::uncaught_exceptions());
+    Guard enter(const Objects &of) & { /* sleeps while another thread has a monitor */
+        return must(take(of, ZELAMIKU_NO_DEADLINE)), Guard(this, of);
     }
-    std::optional<Guard> try_enter(Object object, std::chrono::nanoseconds time = {}) { /* the same, for so long at most */
-        const std::uint64_t deadline = zelamiku_now() + std::uint64_t(time.count() > 0 ? time.count() : 0);
-        const zelamiku_status status = zelamiku_thread_enter_until(thread, object.number, deadline);
+    std::optional<Guard> try_enter(const Objects &of, std::chrono::nanoseconds time = {}) & { /* the same, for so long at most */
+        const zelamiku_status status = take(of, zelamiku_now() + std::uint64_t(time.count() > 0 ? time.count() : 0));
         if (status == ZELAMIKU_HELD || status == ZELAMIKU_BEHIND) return std::nullopt;
-        return must(status), Guard(this, object, std::uncaught_exceptions());
+        return must(status), Guard(this, of);
     }
-    template <class Work> auto synchronized(Object object, Work &&work) -> decltype(work()) {
-        must(zelamiku_thread_enter(thread, object.number));
-        Guard guard(this, object, -1); /* whatever leaves the work before its end takes the section back */
+    Guard enter(const Objects &of) && = delete; /* the guard would outlive the session */
+    std::optional<Guard> try_enter(const Objects &of, std::chrono::nanoseconds time = {}) && = delete;
+    template <class Work> auto synchronized(const Objects &of, Work &&work) -> decltype(work()) {
+        Guard guard = enter(of);
         if constexpr (std::is_void_v<decltype(work())>) return work(), guard.exit();
         else {
             decltype(work()) answer = work();

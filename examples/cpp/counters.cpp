@@ -28,16 +28,17 @@ static std::atomic<bool> is_over{false};
 static void count(zelamiku::Session &session, unsigned i) {
     const auto add = [&](Counter counter) { session.store(counter, session.load(counter) + 1); };
     while (!is_over) {
-        const auto own = session.enter(counters.worker[i]); // sleeps while another thread has the monitor; a section begins
+        auto both = session.enter({counters.all, counters.worker[i]}); // sleeps while another thread has one; a section begins
         add(counters.own[i]);
-        session.synchronized(counters.all, [&] { add(counters.total); });
-    } // it ends
+        add(counters.total);
+        both.exit(); // it ends; without this it is taken back
+    }
 }
 
 static std::string look(zelamiku::Session &session) {
-    std::vector<zelamiku::Guard> held;
-    for (const auto worker : counters.worker) held.push_back(session.enter(worker));
-    held.push_back(session.enter(counters.all));
+    std::vector<zelamiku::Object> all(std::begin(counters.worker), std::end(counters.worker));
+    all.push_back(counters.all);
+    const auto held = session.enter({all.begin(), all.end()}); // it only loads, so its end may take it back
     std::ostringstream text;
     text << "total " << session.load(counters.total);
     for (unsigned i = 0; i < WORKERS; i++) text << (i == 0 ? " = " : " + ") << session.load(counters.own[i]);

@@ -78,7 +78,8 @@ static void clear_place(heap *of, const zelamiku_plan *plan) {
     memset(&of->stats, 0, sizeof of->stats);
     for (unsigned i = 0; i < BUCKETS; i++) of->waiting[i] = 0;
     of->has_work = of->is_settled = of->awaiting = of->arrivals = of->expected = of->has_more = of->has_timer = of->has_reads = 0;
-    of->steps = of->poll_until = of->rounds = of->troubles = of->no_spin_before = of->hooks_underway = 0;
+    of->steps = of->poll_until = of->rounds = of->troubles = of->no_spin_before = 0;
+    of->hooks_underway = 0; /* clang joins no atomics of two types */
 }
 
 /* Sets how many records a lane takes, by its ring and its log, and after how many a section's end asks for a round: three quarters of what is

@@ -1,4 +1,4 @@
-/* Tests of zelamiku.hpp: what an exception leaves of a section, guards and sessions that are moved or never destroyed, fields of each kind,
+/* Tests of zelamiku.hpp: what a guard's end leaves of a section, guards and sessions that are moved or never destroyed, fields of each kind,
  * errors, waits, and threads whose sections fail by chance.
  *
  *     classes FOLDER      answers 0 where all is as it must be */
@@ -40,6 +40,13 @@ template <class T> constexpr bool is_move_only =
 static_assert(is_move_only<Heap> && is_move_only<Session> && is_move_only<Guard>);
 static_assert(std::is_nothrow_destructible_v<Heap> && std::is_nothrow_destructible_v<Session> && std::is_nothrow_destructible_v<Guard>);
 static_assert(std::is_nothrow_move_assignable_v<Heap> && std::is_nothrow_copy_constructible_v<Error>);
+
+/* A guard of a temporary session would outlive it. */
+template <class S, class = void> constexpr bool enters = false;
+template <class S, class = void> constexpr bool tries_enter = false;
+template <class S> constexpr bool enters<S, std::void_t<decltype(std::declval<S>().enter(Object{}))>> = true;
+template <class S> constexpr bool tries_enter<S, std::void_t<decltype(std::declval<S>().try_enter(Object{}))>> = true;
+static_assert(enters<Session &> && tries_enter<Session &> && !enters<Session> && !tries_enter<Session>);
 
 static const char *const PATH = "classes.heap";
 
@@ -95,21 +102,27 @@ static void sections() {
     Session session(heap);
     session.synchronized(accounts.alice, [&] { session.synchronized(accounts.bob, [&] { move_ten(session); }); });
     {
-        const Guard alice = session.enter(accounts.alice), bob = session.enter(accounts.bob);
+        Guard alice = session.enter(accounts.alice), bob = session.enter(accounts.bob);
         move_ten(session);
+        bob.exit();
+        alice.exit();
     }
-    MUST((seen(session) == Balances{80, -80}));
+    Guard both = session.enter({accounts.bob, accounts.alice, accounts.bob});
+    move_ten(session);
+    both.exit();
+    session.synchronized({accounts.alice, accounts.bob}, [&] { move_ten(session); });
+    MUST((seen(session) == Balances{60, -60}));
     session.durable();
     heap.close();
     MUST(thrown([&] { heap.close(); }) == ZELAMIKU_CLOSED || thrown([&] { heap.close(); }) == ZELAMIKU_NOTHING);
     zelamiku_report report;
     Heap again(PATH, accounts, &report);
     MUST(report.is_made == 0 && report.told.found.dropped == 0);
-    MUST((seen(again) == Balances{80, -80}));
+    MUST((seen(again) == Balances{60, -60}));
     MUST(thrown([] { const Heap other(std::string(PATH) + '\0', accounts); }) == ZELAMIKU_DEVICE);
 }
 
-/* By what a section may be left: the work of a nested synchronized, a guard, a guard in a function below. */
+/* By what a section may be left: the work of a nested synchronized, a guard, a guard in a function below, a guard of all, its good end. */
 static void fail_in_work(Session &session) {
     session.synchronized(accounts.alice, [&] {
         session.store(accounts.from, 1);
@@ -135,6 +148,22 @@ static void fail_in_vector(Session &session) {
     throw Refused();
 }
 
+static void fail_in_all(Session &session) {
+    const Guard both = session.enter({accounts.alice, accounts.bob});
+    session.store(accounts.from, 1);
+    session.store(accounts.to, 2);
+    throw Refused();
+}
+
+static void forget_exit(Session &session) {
+    {
+        const Guard both = session.enter({accounts.alice, accounts.bob});
+        session.store(accounts.from, 1);
+        session.store(accounts.to, 2);
+    }
+    throw Refused();
+}
+
 static void fail_below(Session &session) {
     const Guard alice = session.enter(accounts.alice);
     session.store(accounts.from, 1);
@@ -144,7 +173,7 @@ static void fail_below(Session &session) {
 static void taken_back() {
     Heap heap = open_anew();
     Session session(heap), other(heap);
-    for (const auto fail : {fail_in_work, fail_in_guards, fail_in_vector, fail_below}) {
+    for (const auto fail : {fail_in_work, fail_in_guards, fail_in_vector, fail_in_all, forget_exit, fail_below}) {
         bool is_refused = false;
         try {
             fail(session);
@@ -176,26 +205,33 @@ static void taken_back() {
     MUST((seen(other) == Balances{7, -100}));
 }
 
-/* A section that a destructor makes while an exception is underway is none that it leaves. */
+/* A section that a destructor makes while an exception is underway is as any other, also where a second exception comes in it. */
 struct AtEnd {
     Session &session;
+    bool fails = false;
     ~AtEnd() {
-        const Guard alice = session.enter(accounts.alice);
-        session.store(accounts.from, session.load(accounts.from) + 1);
+        try {
+            Guard alice = session.enter(accounts.alice);
+            session.store(accounts.from, session.load(accounts.from) + 1);
+            if (fails) throw Refused();
+            alice.exit();
+        } catch (const Refused &) {
+        }
     }
 };
 
 static void in_destructors() {
     Heap heap = open_anew();
     Session session(heap);
-    try {
-        const AtEnd end{session};
-        throw Refused();
-    } catch (const Refused &) {
-        /* In a handler no exception is underway. */
-        const AtEnd end{session};
+    for (const bool fails : {true, false}) {
+        try {
+            const AtEnd end{session, fails};
+            throw Refused();
+        } catch (const Refused &) {
+            const AtEnd end{session, fails};
+        }
+        MUST((seen(session) == Balances{fails ? 100 : 102, -100}));
     }
-    MUST((seen(session) == Balances{102, -100}));
 }
 
 static void caught_inside() {
@@ -263,6 +299,43 @@ static void not_taken_back() {
     plain.reverts = 0;
     must_stop(plain, fail_in_guards);
     must_stop(plain, fail_in_work);
+    must_stop(plain, forget_exit);
+    /* One that has only loaded has nothing to take back. */
+    MUST(unlink(PATH) == 0 || errno == ENOENT);
+    const Heap heap(PATH, plain);
+    Session session(heap);
+    for (int i = 0; i < 2; i++) {
+        const Guard alice = session.enter(accounts.alice);
+        MUST(session.load(accounts.from) == 100);
+    }
+}
+
+/* Guards hand over: what was only read under a monitor that is free again may be taken back. */
+static void hand_over_hand() {
+    const Heap heap = open_anew();
+    Session session(heap), other(heap);
+    for (const bool is_kept : {false, true}) {
+        Guard alice = session.enter(accounts.alice);
+        const std::int64_t from = session.load(accounts.from);
+        Guard bob = session.enter(accounts.bob);
+        alice.exit();
+        MUST(other.try_enter(accounts.alice).has_value());
+        session.store(accounts.to, from);
+        if (is_kept) bob.exit();
+    }
+    MUST((seen(session) == Balances{100, 100}));
+    /* Several are taken in one order, and all or none of them. */
+    MUST(thrown([&] { (void)session.enter({}); }) == ZELAMIKU_EMPTY);
+    const std::vector<Object> one{accounts.bob, Object{2}, accounts.alice};
+    MUST(thrown([&] { (void)session.enter({one.begin(), one.end()}); }) == ZELAMIKU_UNKNOWN_OBJECT);
+    std::vector<Object> many;
+    for (std::uint32_t i = 0; i < 17; i++) many.push_back({16 - i});
+    MUST(thrown([&] { (void)session.enter({many.begin(), many.end()}); }) == ZELAMIKU_TOO_MANY);
+    {
+        const Guard bob = other.enter(accounts.bob);
+        MUST(!session.try_enter({accounts.bob, accounts.alice}).has_value() && other.try_enter(accounts.alice).has_value());
+    }
+    MUST(other.try_enter({accounts.alice, accounts.bob}).has_value());
 }
 
 /* Of a guard that is never destroyed the session's end tells, and of a section that is open the heap's. */
@@ -424,9 +497,10 @@ static void waits() {
     const Heap heap = open_anew();
     std::thread waiter([&] {
         Session session(heap);
-        const Guard alice = session.enter(accounts.alice);
+        Guard alice = session.enter(accounts.alice);
         while (session.load(accounts.from) < 1000) session.wait(accounts.alice);
         session.store(accounts.from, 0);
+        alice.exit();
     });
     Session session(heap);
     for (int i = 0; i < 90; i++)
@@ -440,7 +514,7 @@ static void waits() {
     MUST(thrown([&] { session.wait(accounts.alice); }) == ZELAMIKU_NOT_HELD);
 }
 
-/* Each thread moves money, and each third time fails between the two stores; no one ever sees a sum but 0. */
+/* Each thread moves money, and leaves it between the two stores by an exception or without; no one ever sees a sum but 0. */
 static void at_once() {
     constexpr int THREADS = 4, TIMES = 3000;
     const Heap heap = open_anew();
@@ -452,11 +526,13 @@ static void at_once() {
             std::minstd_rand chance(i + 1);
             for (int n = 0; n < TIMES; n++) {
                 try {
-                    const Guard alice = session.enter(accounts.alice), bob = session.enter(accounts.bob);
+                    Guard both = i % 2 == 0 ? session.enter({accounts.alice, accounts.bob}) : session.enter({accounts.bob, accounts.alice});
                     MUST(session.load(accounts.from) + session.load(accounts.to) == 0);
                     session.store(accounts.from, session.load(accounts.from) - 1);
                     if (chance() % 3 == 0) throw Refused();
+                    if (chance() % 3 == 0) continue;
                     session.store(accounts.to, session.load(accounts.to) + 1);
+                    both.exit();
                     moves++;
                 } catch (const Refused &) {
                 }
@@ -468,12 +544,13 @@ static void at_once() {
     MUST(moves > 0 && moves < THREADS * TIMES);
 }
 
-/* A thread that ends within a work, by no exception. */
+/* A thread that ends within a work or a guard's block, by no exception. */
 static void ends_inside() {
     const Heap heap = open_anew();
     std::thread([&] {
         Session session(heap);
         session.synchronized(accounts.alice, [&] {
+            const Guard bob = session.enter(accounts.bob);
             session.store(accounts.from, 1);
             pthread_exit(nullptr);
         });
@@ -507,6 +584,7 @@ int main(int argc, char **argv) {
     in_destructors();
     caught_inside();
     not_taken_back();
+    hand_over_hand();
     never_ended();
     moved();
     fields();
