@@ -384,7 +384,8 @@ uint64_t zelamiku_now(void);
  *           repeated. A system's fdatasync has not: its failure is LOST
  *   size    tells how many bytes there are, from 0 on. They don't get fewer while the heap is open
  * Between two syncs each range that is written may hold any bytes after a crash, and every other byte stays: docs/FORMAT.md, "What the
- * device keeps", says which devices promise that.
+ * device keeps", says which devices promise that. Each opening also writes three single bytes, at 8, 64 and 1,112, with the value that it
+ * has read there: a crash must keep a byte that is written with the value which the device has durably.
  *
  * What an error leaves. While a heap is opened: no heap, and zelamiku_heap_open_on answers DEVICE with the cause. Later DEVICE is no end:
  * the call that failed is made again, by the next thread that waits for a round and by the helper each second, and after it the others,

@@ -419,13 +419,19 @@ static zelamiku_status lock_file(door *at) {
     return refuse(at, status, 0);
 }
 
-/* Writes the header and both slots of the control back with the bytes that they read, and syncs. Where a write or a sync of a process before this
- * one has failed, the system may give what the device hasn't, and no later sync brings it there; that it drops its pages is a request alone.
- * What these bytes count was synced before they were written. A byte that is written with its own value isn't lost (docs/FORMAT.md). */
-static zelamiku_status write_head_back(const zelamiku_device *on) {
-    uint8_t head[ZELAMIKU_HEAD_BYTES];
-    zelamiku_status status = read_device(on, 0, head, sizeof head);
-    if (status == ZELAMIKU_OK) status = write_device(on, 0, head, sizeof head);
+/* Writes the gates of the header and of the control's slots back with what they read, and syncs. Where a sync of an earlier opening has failed, reads
+ * may return cached bytes that never reached the device, and no later sync writes them; POSIX_FADV_DONTNEED is only advice. Each gate is written
+ * alone between two syncs, so at most one differs on the device, and either value of that one is right. What a gate makes count was synced before it,
+ * and recovery writes each field again that it has to put back. A gate that the device has is written with its own value, which a crash must keep
+ * (docs/FORMAT.md, "What the device keeps"). */
+static zelamiku_status write_gates_back(const zelamiku_device *on) {
+    static const uint64_t GATES[] = {8, 64, 1112};
+    zelamiku_status status = ZELAMIKU_OK;
+    for (size_t i = 0; i < sizeof GATES / sizeof *GATES && status == ZELAMIKU_OK; i++) {
+        uint8_t gate;
+        status = read_device(on, GATES[i], &gate, 1);
+        if (status == ZELAMIKU_OK) status = write_device(on, GATES[i], &gate, 1);
+    }
     return status == ZELAMIKU_OK ? sync_device(on) : status;
 }
 
@@ -451,7 +457,7 @@ static zelamiku_status recover_or_make(door *at) {
         return status == ZELAMIKU_OK ? make_at_path(at) : status;
     }
     if (status != ZELAMIKU_OK) return status;
-    status = write_head_back(on);
+    status = write_gates_back(on);
     if (status == ZELAMIKU_OK && is_file && !keep_name(at)) return no_device(at, "its folder can't be synced");
     if (status == ZELAMIKU_OK) status = make_calls_on(&at->handle, on, &calls, &at->of->syncs_made);
     if (status == ZELAMIKU_OK) return ZELAMIKU_OK;
