@@ -390,8 +390,10 @@ fn files_that_are_no_such_heap_are_left_as_they_are() {
     assert_eq!(std::fs::read(&scratch).unwrap(), before);
     // More lanes than were asked for are there to be used.
     assert_eq!(counters(1).open(&scratch).unwrap().lanes(), 2);
-    // One whose making was cut off is made anew.
+    // One that was cut short is no free file; one whose making was cut off is.
     std::fs::write(&scratch, [b"MONIHEAP", &[0u8; 100][..]].concat()).unwrap();
+    assert_eq!(counters(2).open(&scratch).unwrap_err().kind(), ErrorKind::NotAHeap);
+    std::fs::write(&scratch, [b"MONIHEAP", &[0u8; 10_000][..]].concat()).unwrap();
     counters(2).open(&scratch).unwrap().close().unwrap();
     std::fs::write(&scratch, [0; 5_000]).unwrap();
     counters(2).open(&scratch).unwrap().close().unwrap();
