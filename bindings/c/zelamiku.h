@@ -530,7 +530,8 @@ ZELAMIKU_MUST_USE zelamiku_status zelamiku_thread_give(zelamiku_thread thread, u
 
 /* Tells the thread's event: a descriptor that is readable once a round has made some of those sections durable that were asked for, once a
  * lane may have room of which zelamiku_thread_try_enter has answered BEHIND, once a write has failed while one of these is waited for, and at
- * the heap's end; zelamiku_thread_ask makes it unreadable. It is made by the first call, and is the library's: only wait for it, by level or
+ * the heap's end; zelamiku_thread_ask makes it unreadable. But the first ask after it has told of room leaves it readable, until a section of
+ * the thread has ended: so the loop may ask before it waits, and tries again after that. It is made by the first call, and is the library's: only wait for it, by level or
  * by edge. zelamiku_thread_end closes it, also at the heap's end: take it out of the loop before. So does a fork in the child. Where the
  * program has closed it by mistake, the file that has its number by then isn't touched, and the next call makes another one.
  * NO_MEMORY: the system has no descriptor. NOTHING, FORKED: `descriptor` is -1. */

@@ -54,9 +54,10 @@ typedef struct {
     zelamiku_handle session;
     zelamiku_signals *signals;
     uint32_t records;
-    uint32_t has_stored;  /* 1: the section that is open has */
+    uint32_t has_stored;  /* 1: the section that is open has, to a persistent field */
     uint64_t last_stored; /* the last section that has and has ended, by how many had ended with it */
-    uint32_t is_plain;    /* 1: nothing is kept of what a section changes. Else the library's own functions store, and take further monitors */
+    uint32_t is_plain;    /* 1: nothing is kept of what a section changes, and no field is transient. Else the library's own functions store,
+                             and take further monitors */
 } ZELAMIKU_SHARED zelamiku_own;
 
 /* The table of all lanes. Every number, also one that is no handle, names a place in it. The number in its name is that of the layout of the

@@ -266,7 +266,7 @@ typedef struct {
 typedef struct {
     const char *name;
     uint32_t threads, linger, processors, first;
-    small_deed deeds[16];
+    small_deed deeds[20];
 } small_program;
 
 #define SECTION(thread, object) {thread, ENTER, object, 0}, {thread, STORE, object, 0}, {thread, EXIT, object, 0}
@@ -287,6 +287,11 @@ static const small_program SMALL[SMALL_PROGRAMS] = {
      {SECTION(0, 0), {0, AWAIT, 0, 0}, SECTION(1, 1), {1, AWAIT_UNTIL, 0, 900000}}},
     {"one waits for what it has looked at, and another stores", 2, 5000, 2, 0, {LOOKED_AT(0, 0), {0, AWAIT, 0, 0}, SECTION(1, 1)}},
     {"a stop, while one waits for its section", 2, 5000, 2, 0, {SECTION(0, 0), {0, AWAIT, 0, 0}, {1, STOP, 0, 0}}},
+    /* Its room depends on the other's section, and it has asked for all the rounds that it may. */
+    {"an event loop finds no room, and another's round makes some", 2, 5000, 2, 15,
+     {{0, ENTER, 0, 0}, SECTION(0, 1), {1, EVENT, 0, 0}, {1, ENTER, 1, 0}, {1, FILL, 1, 985}, {1, EXIT, 1, 0}, {1, ENTER, 1, 0}, {1, FILL, 1, 985},
+      {1, EXIT, 1, 0}, {1, TRY, 1, 0}, {1, TRY, 1, 0}, {1, TRY, 1, 0}, {1, NAP, 0, 1000}, {1, TRY, 1, 0}, {1, ASK_ALL, 0, 0}, {1, LISTEN, 0, 0},
+      {0, EXIT, 0, 0}, {0, AWAIT, 0, 0}}},
 };
 
 const char *program_name(uint64_t seed) {

@@ -4,7 +4,7 @@
 #include <stdlib.h>
 #include <string.h>
 
-void judge_begin(judge *it, uint32_t lanes, bool reverts) {
+void judge_begin(judge *it, uint32_t lanes, bool reverts, bool has_transient) {
     judged_store *stores = it->stores;
     size_t room = it->room;
     memset(it, 0, sizeof *it);
@@ -12,6 +12,7 @@ void judge_begin(judge *it, uint32_t lanes, bool reverts) {
     it->room = room;
     it->lanes = lanes;
     it->reverts = reverts;
+    it->has_transient = has_transient;
     for (uint32_t object = 0; object < OBJECTS; object++) it->owner[object] = ZELAMIKU_NOBODY;
     for (uint32_t field = 0; field < POOL; field++) it->values[field] = FIRST_VALUE;
     for (uint32_t field = POOL; field < FIELDS; field++) it->values[field] = 0;
@@ -98,12 +99,13 @@ static bool is_over(judge *it, uint32_t lane, zelamiku_status status) {
     return false;
 }
 
-/* Another thread has the lane now. Of the one before it has nothing, also where a sync has failed and what that one held stays held. */
+/* Another thread has the lane now. Of the one before it has nothing. */
 void judge_lent(judge *it, uint32_t lane) {
     judged_lane *own = &it->of[lane];
     memset(own->locks, 0, sizeof own->locks);
     own->call = NO_CALL;
-    own->slips_through = own->must_end = own->has_stored = own->is_past = own->has_asked = own->is_short = false;
+    own->slips_through = own->must_end = own->has_stored = own->is_lasting = own->is_past = own->has_asked = false;
+    own->is_short = 0;
 }
 
 /* ---- monitors ---- */
@@ -127,8 +129,8 @@ static void end_section(judge *it, uint32_t lane, uint32_t object) {
     }
     own->is_past = false;
     own->ended++;
-    if (own->has_stored) own->stored = own->ended;
-    own->has_stored = false;
+    if (own->is_lasting) own->stored = own->ended;
+    own->has_stored = own->is_lasting = false;
 }
 
 /* The exit or the wait that the lane is in has taken effect. */
@@ -259,12 +261,17 @@ void judge_loaded(judge *it, uint32_t lane, uint32_t field, zelamiku_status stat
                 (unsigned long long)it->values[field]);
 }
 
+static bool is_lasting(const judge *it, uint32_t field) {
+    return field != PASSING || !it->has_transient;
+}
+
 static void note_store(judge *it, uint32_t lane, uint32_t field, uint64_t value) {
     if (it->count == it->room) it->stores = realloc(it->stores, (it->room = 2 * it->room + 256) * sizeof *it->stores);
     it->stores[it->count++] = (judged_store){lane, field, it->of[lane].ended + 1, value, it->values[field], false};
     it->values[field] = value;
     it->of[lane].has_stored = true;
-    it->of[lane].records++;
+    it->of[lane].is_lasting |= is_lasting(it, field);
+    it->of[lane].records += is_lasting(it, field);
 }
 
 void judge_stored(judge *it, uint32_t lane, uint32_t field, zelamiku_status status, uint64_t value) {
@@ -349,7 +356,7 @@ void judge_asked(judge *it, uint32_t lane, zelamiku_status status, uint64_t earl
     if (status == ZELAMIKU_OK && durable == all) own->must_end = false;
     if (durable > 0 && own->durable < earlier + durable) own->durable = earlier + durable;
     own->has_asked = durable < all;
-    own->is_short = false;
+    own->is_short -= own->is_short > 0;
     if (durable > 0 && durable == all && judge_held(it, lane) == 0) own->records = 0;
     if (is_over(it, lane, status)) return;
     if (status != ZELAMIKU_OK && !is_trouble) search_fail("lane %u: ask answers %u", lane, status);
@@ -364,7 +371,7 @@ void judge_listens(judge *it, uint32_t lane, uint64_t deadline) {
 void judge_listened(judge *it, uint32_t lane, bool is_readable) {
     judged_lane *own = &it->of[lane];
     own->call = NO_CALL;
-    if (is_readable) own->is_short = false;
+    if (is_readable) own->is_short = 0;
     if (!is_readable && search_time() < own->deadline) search_fail("lane %u: its event isn't readable", lane);
 }
 
@@ -461,7 +468,7 @@ static void fold_stores(const judge *it, const zelamiku_told *told, uint64_t *va
     for (uint32_t field = 0; field < FIELDS; field++) values[field] = field < POOL ? FIRST_VALUE : 0;
     for (size_t i = 0; i < it->count; i++) {
         const judged_store *store = &it->stores[i];
-        if (store->field != PASSING && store->section <= told->kept[store->lane]) values[store->field] = store->value;
+        if (is_lasting(it, store->field) && store->section <= told->kept[store->lane]) values[store->field] = store->value;
     }
 }
 

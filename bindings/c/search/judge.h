@@ -11,7 +11,7 @@ enum {
     SLOTS = 3, /* of the pool, which object 2 has */
     VALUE_OF = 0, /* fields: one for each object, */
     FILLER_OF = OBJECTS, /* one more for each, */
-    PASSING = 2 * OBJECTS, /* a transient one of object 0, */
+    PASSING = 2 * OBJECTS, /* one of object 0, transient or not, */
     POOL = PASSING + 1, /* and the pool */
     FIELDS = POOL + 1 + SLOTS,
     FIRST_VALUE = 7
@@ -30,12 +30,13 @@ typedef struct {
     bool slips_through; /* an enter or a wait was underway at the heap's end: its section goes on until its last exit */
     uint32_t locks[OBJECTS], put_down; /* `put_down`: the locks with which it waits */
     uint64_t ended;     /* sections of the lane */
-    uint64_t stored;    /* the last of them that has stored */
+    uint64_t stored;    /* the last of them that has stored to a persistent field */
     uint64_t durable;   /* told, */
     uint64_t known;     /* and before the ask that it is in */
     uint32_t records;   /* about how many it has sent since all were durable */
-    bool has_asked, is_short; /* its event will be readable: of sections that it has asked for, or since it has found no room */
-    bool has_stored;    /* the section that is open has, */
+    bool has_asked;     /* its event will be readable: of sections that it has asked for; */
+    uint32_t is_short;  /* or since it has found no room, for so many asks */
+    bool has_stored, is_lasting; /* the section that is open has; to a persistent field, */
     bool is_past;       /* and has freed a monitor under which it had */
 } judged_lane;
 
@@ -53,7 +54,7 @@ typedef struct {
 
 typedef struct {
     uint32_t lanes;
-    bool reverts;
+    bool reverts, has_transient;
     zelamiku_heap heap;
     uint32_t owner[OBJECTS];
     uint64_t set[OBJECTS], notified[OBJECTS]; /* a bit for each lane */
@@ -63,13 +64,13 @@ typedef struct {
     judged_lane of[MOST_LANES];
     uint32_t ends;        /* a bit for each status that a thread may be told as the heap's end */
     uint32_t closers;     /* calls that end the heap by CLOSED */
-    bool has_ended;       /* a call that ends it has come back: a thread must be told so, and the device and the log hook aren't called any more */
+    bool has_ended;       /* a call that ends it has come back: a thread must be told so */
     bool has_trouble;     /* writes fail */
     judged_store *stores;
     size_t count, room;
 } judge;
 
-void judge_begin(judge *it, uint32_t lanes, bool reverts);
+void judge_begin(judge *it, uint32_t lanes, bool reverts, bool has_transient);
 void judge_ends(judge *it, zelamiku_status status); /* from now on a thread may be told so */
 void judge_ended(judge *it, zelamiku_status status, bool is_refused); /* that call has come back; is_refused: the heap goes on */
 void judge_lent(judge *it, uint32_t lane);

@@ -26,6 +26,7 @@ static worker workers[MOST_THREADS];
 static uint64_t next_value;
 static uint32_t left; /* threads that have yet to come back */
 static bool is_stopping, is_forking;
+static bool was_lost[HEAPS]; /* a thread was told so: no lane is lent any more, and none is given back as if nothing were */
 static zelamiku_field fields[FIELDS];
 static zelamiku_plan plan;
 static uint32_t copying[COPIES_OF], copies_begun[COPIES_OF], opening, opens_begun;
@@ -66,10 +67,10 @@ static void look_at_crash(uint32_t heap, bool is_all) {
 
 /* The log hook, which lasts. */
 static void note_line(void *of, uint32_t level, const char *text) {
-    const judge *it = of;
+    const device *it = of;
     (void)level;
     search_step();
-    if (it->has_ended) search_fail("the log hook is called after the heap's end: %s", text);
+    if (it->is_over) search_fail("the log hook is called after the heap's end: %s", text);
 }
 
 static void end_heap(uint32_t heap, deed_kind kind) {
@@ -97,6 +98,7 @@ static void end_heap(uint32_t heap, deed_kind kind) {
 static bool is_over(worker *own, uint32_t heap, zelamiku_status status) {
     if (!judge_is_end(&judges[heap], status)) return false;
     own->is_out[heap] = true;
+    was_lost[heap] |= status == ZELAMIKU_LOST;
     return true;
 }
 
@@ -109,7 +111,8 @@ static void enter(worker *own, uint32_t heap, uint32_t object, deed_kind kind, u
                              : current->is_whole ? zelamiku_whole_enter(own->own[heap], object)
                                                  : zelamiku_thread_enter(own->own[heap], object);
     judge_entered(it, own->lane[heap], status);
-    it->of[own->lane[heap]].is_short |= kind == TRY && status == ZELAMIKU_BEHIND && own->event[heap] >= 0;
+    if (status == ZELAMIKU_OK) it->of[own->lane[heap]].is_short = 0;
+    if (kind == TRY && status == ZELAMIKU_BEHIND && own->event[heap] >= 0) it->of[own->lane[heap]].is_short = 2;
     (void)is_over(own, heap, status);
 }
 
@@ -245,7 +248,7 @@ static void listen_for(worker *own, uint32_t heap, uint64_t time) {
     judged_lane *lane = &it->of[own->lane[heap]];
     uint64_t deadline = time > 0 ? search_time() + time : NEVER;
     if (own->event[heap] < 0 || judge_held(it, own->lane[heap]) > 0) return;
-    for (int rings = 0; (lane->has_asked || lane->is_short) && !own->is_out[heap] && search_time() < deadline; rings++) {
+    for (int rings = 0; (lane->has_asked || lane->is_short > 0) && !own->is_out[heap] && search_time() < deadline; rings++) {
         if (rings > 1000) search_fail("an event is readable again and again");
         judge_listens(it, own->lane[heap], deadline);
         bool is_readable = search_watch(own->event[heap], deadline);
@@ -372,7 +375,7 @@ static void fork_once(const worker *own) {
 
 static void begin_lane(worker *own, uint32_t heap) {
     judge *it = &judges[heap];
-    bool must_end = it->has_ended;
+    bool must_end = it->has_ended || was_lost[heap];
     zelamiku_status status = zelamiku_thread_begin(&own->own[heap], it->heap);
     own->has_lane[heap] = status == ZELAMIKU_OK;
     if (is_over(own, heap, status)) return;
@@ -387,12 +390,12 @@ static void end_lane(worker *own, uint32_t heap) {
     judge *it = &judges[heap];
     if (!own->has_lane[heap]) return;
     uint32_t lane = own->lane[heap], held = judge_held(it, lane);
-    bool must_end = it->has_ended, was_told = own->is_out[heap]; /* a sync has failed, and who leads has yet to say so */
+    bool must_end = it->has_ended || was_lost[heap];
     own->old[heap] = own->own[heap];
     own->event[heap] = -1;
     zelamiku_status status = zelamiku_thread_end(own->own[heap]);
     own->has_lane[heap] = false;
-    if (is_over(own, heap, status) || (was_told && status == ZELAMIKU_OK)) return;
+    if (is_over(own, heap, status)) return;
     if (status != ZELAMIKU_OK || held > 0 || must_end) search_fail("end answers %u, with %u locks held", status, held);
 }
 
@@ -506,9 +509,14 @@ static void time_goes_on(uint64_t nanoseconds) {
     }
 }
 
+/* Where no field is, and nothing is kept, stores are written out too. */
+static bool has_transient(void) {
+    return current->seed % 2 == 0;
+}
+
 static void make_plan(void) {
     for (uint32_t field = 0; field < POOL; field++)
-        fields[field] = (zelamiku_field){field % OBJECTS, field % OBJECTS, FIRST_VALUE, field == PASSING};
+        fields[field] = (zelamiku_field){field % OBJECTS, field % OBJECTS, FIRST_VALUE, field == PASSING && has_transient()};
     fields[PASSING].owner = fields[PASSING].guard = 0;
     MUST(zelamiku_pool_fields(2, fields + POOL, FIELDS - POOL) == ZELAMIKU_OK, "no pool");
     plan = (zelamiku_plan){.fields = fields, .count = FIELDS, .objects = OBJECTS, .lanes = current->lanes, .capacity = current->capacity,
@@ -523,10 +531,11 @@ static void make_file(judge *it) {
 
 static void make_heap(uint32_t heap) {
     judge *it = &judges[heap];
-    judge_begin(it, current->lanes, current->reverts);
+    judge_begin(it, current->lanes, current->reverts, has_transient());
     devices[heap].in_call = 0;
     devices[heap].is_over = false;
-    plan.log_of = it;
+    plan.log_of = &devices[heap];
+    was_lost[heap] = false;
     if (is_in_file(heap)) return make_file(it);
     device *on = &devices[heap];
     on->fault = NEVER_FAILS;

@@ -48,6 +48,7 @@ static void tell_loops(heap *of, bool is_trouble, bool is_end) {
         uint64_t durable = other->acknowledged;
         bool is_due = other->lacks_room || (other->asked != 0 && (is_trouble || durable != other->loop_knows));
         other->loop_knows = durable;
+        other->may_have_room |= other->lacks_room;
         other->lacks_room = false;
         if (durable >= other->asked || is_end) other->asked = 0;
         count_loop(of, other);
@@ -90,6 +91,7 @@ static void note_no_room(heap *of, seat *own) {
         if (own->lacked_at != own->ended + 1) own->demands = 0;
         own->lacked_at = own->ended + 1;
         own->lacks_room = true;
+        own->may_have_room = false;
         count_loop(of, own);
         if (own->demands < DEMANDS && !of->is_troubled) {
             own->demands++;
@@ -119,7 +121,7 @@ static void close_events(heap *of) {
 static void drop_event(heap *of, seat *own) {
     pthread_mutex_lock(&of->mutex);
     own->asked = own->lacked_at = 0;
-    own->lacks_room = own->is_rung = false;
+    own->lacks_room = own->may_have_room = own->is_rung = false;
     count_loop(of, own);
     pthread_mutex_lock(&registry);
     close_event(of, own);
@@ -198,9 +200,17 @@ zelamiku_status zelamiku_thread_event(zelamiku_thread thread, int *descriptor) {
     return status;
 }
 
+/* Under the mutex: makes the event unreadable; but once leaves it so for a loop that was told of room and has ended no section since: it may ask
+ * before it waits for the event, and try again after that. */
+static void quieten_for_ask(seat *own) {
+    bool is_for_room = own->may_have_room && own->lacked_at == own->ended + 1;
+    own->may_have_room = false;
+    if (!is_for_room) quieten_event(own);
+}
+
 /* Under the mutex: the thread is told how many sections are durable, and asks for the others. What comes after this rings. */
 static zelamiku_status ask_for_all(heap *of, seat *own, uint64_t *durable) {
-    quieten_event(own);
+    quieten_for_ask(own);
     /* Before the sections are looked at, since what a last round acknowledges comes before it says so. */
     zelamiku_status end_status = of->is_settled ? (zelamiku_status)of->end_status : ZELAMIKU_OK;
     uint64_t ended = own->ended, acknowledged = own->acknowledged, before = own->earlier;

@@ -98,6 +98,8 @@ static void free_changes(heap *of) {
         free(seat_at(of, lane)->changes);
         seat_at(of, lane)->changes = NULL;
     }
+    free(of->transient);
+    of->transient = NULL;
 }
 
 static void free_place(heap *of) {

@@ -111,7 +111,8 @@ typedef struct {
     int event;                           /* its descriptor, plus one; 0: none. Changed under the mutex and the registry's */
     _Atomic uint32_t has_event;          /* the same, for who leads */
     uint32_t demands;                    /* mutex: rounds that the loop has asked for since it found no room */
-    bool lacks_room;                     /* mutex: the loop has found no room */
+    bool lacks_room;                     /* mutex: the loop has found no room, */
+    bool may_have_room;                  /* mutex: or has been told since then that it may have some, and no ask has come */
     bool counts_as_waiting;              /* mutex: the loop counts among `awaiting` */
     bool is_rung;                        /* mutex: its event is readable, or is to be once there is one */
     _Alignas(128) _Atomic uint64_t number; /* the handle that it is lent by; 0: calls look at `lent_number` and the heap */
@@ -122,14 +123,15 @@ typedef struct {
     zelamiku_handle session;             /* own; freed by who ends the heap where the thread isn't busy */
     zelamiku_signals *signals;           /* the heap's */
     uint32_t records;                    /* own: about how many it has sent since the section `counted` */
-    uint32_t has_stored;                 /* own: the section that is open has */
+    uint32_t has_stored;                 /* own: the section that is open has, to a persistent field */
     _Atomic uint64_t last_stored;        /* the last section that has and has ended, by how many had ended with it */
-    uint32_t is_plain;                   /* 1: nothing is kept of what its sections change */
+    uint32_t is_plain;                   /* 1: nothing is kept of what its sections change, and no field is transient */
     uint32_t lane;
     _Atomic uint64_t lent_number;        /* the handle, also after the heap's end */
     heap *of;
     uint64_t counted;                    /* own: how many sections had ended when it began to count the records */
-    changes *changes;                    /* own; NULL: it is plain */
+    changes *changes;                    /* own; NULL: nothing is kept */
+    uint64_t passed;                     /* own: the last section that has stored to a transient field, where nothing is kept */
 } seat;
 
 struct heap {
@@ -149,6 +151,7 @@ struct heap {
     uint32_t lanes, objects, fields, processors;
     bool keeps_slice;        /* of the plan */
     bool reverts;            /* each lane keeps what its section changes */
+    bool *transient;         /* which fields are; NULL: none is */
     zelamiku_device device;
     zelamiku_log *log;
     void *log_of;

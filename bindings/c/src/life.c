@@ -16,12 +16,12 @@ static void clear_seat(heap *of, uint32_t lane) {
     own->bell = own->is_behind = own->session_use = own->was_cut_off = own->is_busy = 0;
     own->wanted = own->locks = own->records = own->has_stored = 0;
     own->is_lent = own->frees_session = own->is_logged = false;
-    own->turn = own->counted = 0;
+    own->turn = own->counted = own->passed = 0;
     own->begun = 0;
     own->asked = own->loop_knows = own->troubles = own->lacked_at = 0;
     own->demands = 0;
-    own->lacks_room = own->counts_as_waiting = own->is_rung = false;
-    own->is_plain = !of->reverts;
+    own->lacks_room = own->may_have_room = own->counts_as_waiting = own->is_rung = false;
+    own->is_plain = !of->reverts && of->transient == NULL;
     own->lane = lane;
     own->of = of;
     own->signals = (zelamiku_signals *)(void *)of->waiting;
@@ -71,6 +71,7 @@ static void clear_place(heap *of, const zelamiku_plan *plan) {
     of->log = plan->log;
     of->log_of = plan->log_of;
     of->reverts = plan->reverts != 0;
+    assert(of->transient == NULL);
     of->spin_time = 0;
     of->last_calls = of->affordable = of->syncs_made = of->syncs_before = of->turns = 0;
     of->urgent = of->waiting_to_lead = of->sessions_out = of->sleepers = of->loops = of->expected_sections = 0;
@@ -312,8 +313,8 @@ static zelamiku_status close_heap(heap *of) {
         return tell_end(of, status, of->error, "close");
     }
     end(of, ZELAMIKU_CLOSED);
-    of->is_settled = 1;
     bool is_clean = status == ZELAMIKU_OK;
+    if (is_clean) of->is_settled = 1; /* else who leads may have yet to tell the cause */
     end_helper(of);
     int error = of->error;
     if (is_clean) {

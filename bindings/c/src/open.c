@@ -483,6 +483,17 @@ static zelamiku_status open_device(door *at, const zelamiku_device *device) {
     return status == ZELAMIKU_OK ? recover_or_make(at) : status;
 }
 
+/* Notes which fields of the plan are transient, if one is. False: there is no memory. */
+static bool note_transient(heap *of, const zelamiku_plan *plan) {
+    for (uint32_t i = 0; i < plan->count; i++) {
+        if (plan->fields[i].is_transient == 0) continue;
+        if (of->transient == NULL) of->transient = (bool *)calloc(plan->count + 1, sizeof *of->transient); /* one more for a fingerprint */
+        if (of->transient == NULL) return false;
+        of->transient[i] = true;
+    }
+    return true;
+}
+
 /* Opens the heap of the device, or where it is NULL that of the file at the path. */
 static zelamiku_status open_door(door *at, const zelamiku_device *device, zelamiku_heap *opened) {
     heap *of = at->of;
@@ -495,7 +506,7 @@ static zelamiku_status open_door(door *at, const zelamiku_device *device, zelami
         set_room(of, at->ring, found->capacity);
         if (of->inode != 0) of->where = path_from_root(at->path);
         of->path_checked = zelamiku_now();
-        status = occupy(of, &at->handle, opened);
+        status = note_transient(of, at->plan) ? occupy(of, &at->handle, opened) : refuse(at, ZELAMIKU_NO_MEMORY, 0);
     }
     if (status == ZELAMIKU_OK) return ZELAMIKU_OK;
     zelamiku_free(&at->handle);

@@ -84,8 +84,8 @@ static __attribute__((noinline)) zelamiku_status store_keeping(seat *own, uint32
     if (SELDOM(status != ZELAMIKU_OK)) return refused(own, status, "store", "field", field);
     status = zelamiku_store(&own->session, field, value);
     if (SELDOM(status != ZELAMIKU_OK)) return refused(own, status, "store", "field", field);
-    own->records++;
-    own->has_stored = 1;
+    own->records += kept->records;
+    own->has_stored |= kept->records;
     all->used += (uint32_t)kept->records << is_first;
     if (is_first) keep(all, kept, field, before);
     return ZELAMIKU_OK;
@@ -205,7 +205,7 @@ static void put_back(seat *own, changes *all) {
 static zelamiku_status not_reverted(heap *of, seat *own, zelamiku_thread thread, bool was_open) {
     zelamiku_status status = why_not_of(of, own, thread, "revert");
     if (status != ZELAMIKU_OK) return status;
-    if (!of->reverts && was_open && own->has_stored == 0) return ZELAMIKU_OK; /* there is nothing to put back */
+    if (!of->reverts && was_open && own->has_stored == 0 && own->passed != own->ended + 1) return ZELAMIKU_OK; /* there is nothing to put back */
     if (!of->reverts)
         return fail(of->path, ZELAMIKU_WRONG_KIND, 0, "the heap's plan doesn't keep what a section changes", "open it with reverts = 1", "revert");
     if (!was_open) return fail(of->path, ZELAMIKU_NOT_HELD, 0, "no section is open", "enter an object before", "revert");

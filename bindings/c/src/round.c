@@ -238,7 +238,7 @@ static void finish(heap *of, zelamiku_status status, int error, const zelamiku_s
     assert(of->sleepers <= of->awaiting);
     of->awaiting -= of->sleepers;
     of->sleepers = 0;
-    tell_loops(of, is_trouble, false);
+    tell_loops(of, is_trouble, is_end);
     if (has_news) begin_hook(of);
     lead_no_more(of, is_helper);
     pthread_mutex_unlock(&of->mutex);

@@ -77,13 +77,23 @@ COLD zelamiku_status not_open(seat *own, zelamiku_thread thread, const char *cal
     return status;
 }
 
+/* The library has stopped, since a sync has failed: the heap is at its end, also before who leads has told so, and with which errno. So no
+ * lane is lent any more whose session still waits or holds what the end has cut off. */
+static zelamiku_status note_stop(heap *of) {
+    pthread_mutex_lock(&of->mutex);
+    if (of->end_status == 0) of->error = EIO;
+    end(of, ZELAMIKU_LOST);
+    pthread_mutex_unlock(&of->mutex);
+    return ZELAMIKU_LOST;
+}
+
 /* The same as refused, in a call that is counted. */
 static zelamiku_status refused_of(heap *of, seat *own, zelamiku_status status, const char *call, const char *what, uint32_t number) {
     if (status == ZELAMIKU_NOTHING) return nothing(call, NULL);
-    if (status == ZELAMIKU_STOPPED) status = ZELAMIKU_LOST;
+    if (status == ZELAMIKU_STOPPED) status = note_stop(of);
     if (status == (zelamiku_status)of->end_status || status == ZELAMIKU_LOST) {
         leave(of, own);
-        return tell_end(of, status, of->end_status != 0 ? of->error : EIO, call);
+        return tell_end(of, status, of->error, call);
     }
     const char *cause = status == ZELAMIKU_DEVICE ? "a write has failed" : NULL;
     if (status == ZELAMIKU_SECTION_FULL && own->changes != NULL)
@@ -158,7 +168,10 @@ COLD zelamiku_status enter_slowly(seat *own, uint32_t object, zelamiku_status st
     if (of == NULL) return nothing(call, NULL);
     bool may_sleep = deadline > 0;
     for (unsigned tries = 1; may_sleep && status == ZELAMIKU_HELD && tries < TRIES; tries++) status = zelamiku_try_enter(&own->session, object);
-    if (!may_sleep && status == ZELAMIKU_BEHIND) note_no_room(of, own);
+    if (!may_sleep && status == ZELAMIKU_BEHIND) {
+        note_no_room(of, own);
+        status = zelamiku_try_enter(&own->session, object); /* a round may have made room before it was noted, and rung nobody */
+    }
     if (may_sleep && (status == ZELAMIKU_HELD || status == ZELAMIKU_BEHIND)) status = enter_asleep(of, own, object, deadline);
     if (status == ZELAMIKU_OK) return ZELAMIKU_OK;
     count_call(of); /* before it isn't busy */
@@ -231,14 +244,22 @@ zelamiku_status zelamiku_thread_load(zelamiku_thread thread, uint32_t field, uin
     return SELDOM(status != ZELAMIKU_OK) ? refused(own, status, "load", "field", field) : ZELAMIKU_OK;
 }
 
+/* The library has taken so many records of stores to persistent fields: a round comes for the section, once it has ended. */
+static inline void note_stores_of(seat *own, uint32_t records) {
+    own->records += records;
+    own->has_stored = 1;
+}
+
 zelamiku_status zelamiku_thread_store(zelamiku_thread thread, uint32_t field, uint64_t value) {
     seat *own = seat_of(thread);
     if (SELDOM(!is_open(own, thread))) return not_open(own, thread, "store", true, field);
     if (own->changes != NULL) return store_keeping(own, field, value);
     zelamiku_status status = zelamiku_store(&own->session, field, value);
     if (SELDOM(status != ZELAMIKU_OK)) return refused(own, status, "store", "field", field);
-    own->records++;
-    own->has_stored = 1;
+    if (own->is_plain != 0 || own->of->transient == NULL || !own->of->transient[field])
+        note_stores_of(own, 1);
+    else
+        own->passed = own->ended + 1;
     return ZELAMIKU_OK;
 }
 
@@ -247,9 +268,8 @@ zelamiku_status zelamiku_thread_take(zelamiku_thread thread, uint32_t head, uint
     if (slot == NULL) return nothing("take", "give a slot");
     *slot = ZELAMIKU_NO_SLOT;
     if (!is_open(own, thread)) return not_open(own, thread, "take of the pool at", true, head);
-    own->records += 2;
     zelamiku_status status = own->changes != NULL ? take_keeping(own, head, slots, slot) : zelamiku_pool_take(&own->session, head, slots, slot);
-    own->has_stored |= status == ZELAMIKU_OK;
+    if (status == ZELAMIKU_OK) note_stores_of(own, 2);
     bool is_answer = status == ZELAMIKU_OK || status == ZELAMIKU_POOL_EMPTY;
     return is_answer ? status : refused(own, status, "take", "of the pool at field", head);
 }
@@ -257,10 +277,10 @@ zelamiku_status zelamiku_thread_take(zelamiku_thread thread, uint32_t head, uint
 zelamiku_status zelamiku_thread_give(zelamiku_thread thread, uint32_t head, uint32_t slots, uint32_t slot) {
     seat *own = seat_of(thread);
     if (!is_open(own, thread)) return not_open(own, thread, "give to the pool at", true, head);
-    own->records += 2;
     zelamiku_status status = own->changes != NULL ? give_keeping(own, head, slots, slot) : zelamiku_pool_give(&own->session, head, slots, slot);
-    own->has_stored |= status == ZELAMIKU_OK;
-    return status == ZELAMIKU_OK ? status : refused(own, status, "give back", "slot", slot);
+    if (status != ZELAMIKU_OK) return refused(own, status, "give back", "slot", slot);
+    note_stores_of(own, 2);
+    return ZELAMIKU_OK;
 }
 
 /* Joins the monitor's wait set, unless there is no room for it. What holds the monitor may be what the room waits for. */
@@ -439,10 +459,9 @@ static zelamiku_status await_sections(heap *of, seat *own, uint64_t sections, ui
 }
 
 /* Whether all sections of the handle can be awaited. One that is open can't: it ends after this call. One that the heap's end has cut off
- * never ends, also where its thread has yet to learn of that end, and so is busy; or has learned of it before who leads has told why. */
+ * never ends, also where its thread has yet to learn of that end, and so is busy. */
 static zelamiku_status can_await_all(heap *of, const seat *own, zelamiku_thread thread) {
     zelamiku_status over = (zelamiku_status)of->end_status;
-    if (own->was_cut_off && over == ZELAMIKU_OK) return tell_end(of, ZELAMIKU_LOST, EIO, "await");
     if (own->was_cut_off || (own->is_busy && over != ZELAMIKU_OK)) return tell_end(of, over, of->error, "await");
     bool is_open = own->open == thread.number && over == ZELAMIKU_OK;
     return is_open ? fail(of->path, ZELAMIKU_UNFINISHED, 0, NULL, NULL, "await") : ZELAMIKU_OK;

@@ -78,6 +78,16 @@ static zelamiku_status lasting_round(zelamiku_handle *heap, uint64_t most, uint6
     return status;
 }
 
+static int failures_last;   /* once the library was told that a sync has failed, who leads goes on when this is 0 */
+static unsigned failures;
+
+static zelamiku_status lasting_failure(zelamiku_handle *handle) {
+    zelamiku_status status = zelamiku_call_failed(handle);
+    __atomic_add_fetch(&failures, 1, __ATOMIC_SEQ_CST);
+    while (__atomic_load_n(&failures_last, __ATOMIC_SEQ_CST)) usleep(100);
+    return status;
+}
+
 /* How often a thread that slept on a word has gone on. */
 static unsigned gone_on;
 
@@ -178,9 +188,11 @@ static long own_SYS_sched_setattr(int process, void *of, unsigned flags) {
 #define fdatasync flaky_fdatasync
 #define syscall(number, ...) own_##number(__VA_ARGS__)
 #define zelamiku_round lasting_round
+#define zelamiku_call_failed lasting_failure
 #define sched_yield() counted_yield()
 #include "../zelamiku_threads.c"
 #undef sched_yield
+#undef zelamiku_call_failed
 #undef zelamiku_round
 #undef syscall
 #undef prctl
@@ -906,6 +918,41 @@ static void looks_make_no_rounds(void) {
     MUST(zelamiku_thread_durable(own) > 10000 && zelamiku_heap_close(all) == ZELAMIKU_OK);
 }
 
+/* Nor does what stores nothing durable: to a transient field, by a store, a take or a give that is refused. */
+static void still_sections(uint32_t reverts) {
+    enum { VALUE, PASSING, HEAD, SLOTS = 2, ALL = HEAD + 1 + SLOTS, EACH_KIND = 5 };
+    zelamiku_field fields[ALL] = {{0, 0, 10, 0}, {0, 0, 5, 1}};
+    zelamiku_plan plan = {.fields = fields, .count = ALL, .objects = 1, .lanes = 1, .linger = 1000, .reverts = reverts};
+    uint32_t slot;
+    MUST(zelamiku_pool_fields(0, &fields[HEAD], 1 + SLOTS) == ZELAMIKU_OK && (unlink("still.heap") == 0 || errno == ENOENT));
+    MUST(zelamiku_heap_open(&all, "still.heap", &plan, NULL) == ZELAMIKU_OK);
+    zelamiku_thread own = begin_thread();
+    MUST(zelamiku_thread_enter(own, 0) == ZELAMIKU_OK);
+    for (unsigned i = 0; i < SLOTS; i++) MUST(zelamiku_thread_take(own, HEAD, SLOTS, &slot) == ZELAMIKU_OK);
+    MUST(zelamiku_thread_exit(own, 0) == ZELAMIKU_OK);
+    UNTIL(zelamiku_thread_durable(own) == 1);
+    uint64_t rounds = rounds_at_rest();
+    unsigned synced = __atomic_load_n(&syncs, __ATOMIC_SEQ_CST);
+    for (unsigned i = 0; i < 4 * EACH_KIND; i++) {
+        MUST(zelamiku_thread_enter(own, 0) == ZELAMIKU_OK);
+        switch (i / EACH_KIND) {
+        case 0: MUST(zelamiku_thread_store(own, PASSING, i) == ZELAMIKU_OK); break;
+        case 1: MUST(zelamiku_thread_store(own, ALL, i) == ZELAMIKU_UNKNOWN_FIELD); break;
+        case 2: MUST(zelamiku_thread_take(own, HEAD, SLOTS, &slot) == ZELAMIKU_POOL_EMPTY); break;
+        default: MUST(zelamiku_thread_give(own, HEAD, SLOTS, SLOTS) == ZELAMIKU_NOT_TAKEN);
+        }
+        MUST(zelamiku_thread_exit(own, 0) == ZELAMIKU_OK);
+        usleep(3000);
+    }
+    MUST(rounds_at_rest() == rounds && __atomic_load_n(&syncs, __ATOMIC_SEQ_CST) == synced && zelamiku_thread_durable(own) == 1);
+    MUST(zelamiku_thread_enter(own, 0) == ZELAMIKU_OK && zelamiku_thread_give(own, HEAD, SLOTS, 0) == ZELAMIKU_OK);
+    MUST(zelamiku_thread_exit(own, 0) == ZELAMIKU_OK);
+    UNTIL(zelamiku_thread_durable(own) == zelamiku_thread_sections(own));
+    add(own, 0, VALUE, 1);
+    UNTIL(zelamiku_thread_durable(own) == zelamiku_thread_sections(own));
+    MUST(zelamiku_heap_close(all) == ZELAMIKU_OK && unlink("still.heap") == 0);
+}
+
 /* A section that has looked at what another one has stored is durable only with that one. */
 static void looks_depend_on_stores(void) {
     (void)begin_by(4000, 0, UINT32_MAX);
@@ -1125,6 +1172,37 @@ static void *await_held_back(void *data) {
     is_held_back = true;
     (void)data;
     return (void *)(uintptr_t)zelamiku_thread_await(awaited);
+}
+
+static void *wait_and_begin_anew(void *data) {
+    zelamiku_thread own = begin_thread(), other;
+    (void)data;
+    is_held_back = true;
+    MUST(zelamiku_thread_enter(own, TOTAL) == ZELAMIKU_OK && zelamiku_thread_store(own, 0, 1) == ZELAMIKU_OK);
+    MUST(zelamiku_thread_wait(own, TOTAL) == ZELAMIKU_LOST && zelamiku_thread_end(own) == ZELAMIKU_LOST);
+    return (void *)(uintptr_t)zelamiku_thread_begin(&other, all);
+}
+
+/* A sync has failed, and who leads has yet to tell so. A thread learns of it from the library, and gives its lane back, whose session still waits:
+ * no thread gets that one. */
+static void lost_lanes(void) {
+    uint32_t woken = ZELAMIKU_NOBODY;
+    begin_anew();
+    zelamiku_thread own = begin_thread();
+    pthread_t waiter = hold_back(wait_and_begin_anew);
+    MUST(zelamiku_thread_enter(own, TOTAL) == ZELAMIKU_OK && zelamiku_thread_notify(own, TOTAL, &woken) == ZELAMIKU_OK && woken == 1);
+    MUST(zelamiku_thread_exit(own, TOTAL) == ZELAMIKU_OK);
+    (void)rounds_at_rest();
+    unsigned before = __atomic_load_n(&failures, __ATOMIC_SEQ_CST);
+    __atomic_store_n(&failures_last, 1, __ATOMIC_SEQ_CST);
+    __atomic_store_n(&syncs_fail, 1, __ATOMIC_SEQ_CST);
+    add(own, LIST, COUNT, 1);
+    UNTIL(__atomic_load_n(&failures, __ATOMIC_SEQ_CST) != before);
+    MUST(let_go_on(waiter) == ZELAMIKU_LOST);
+    __atomic_store_n(&failures_last, 0, __ATOMIC_SEQ_CST);
+    MUST(zelamiku_thread_await(own) == ZELAMIKU_LOST && zelamiku_thread_end(own) == ZELAMIKU_LOST);
+    MUST(zelamiku_heap_close(all) == ZELAMIKU_LOST && zelamiku_heap_error() == EIO);
+    __atomic_store_n(&syncs_fail, 0, __ATOMIC_SEQ_CST);
 }
 
 /* Opens heaps and closes them, more than there are places. */
@@ -1510,6 +1588,8 @@ int main(int argc, char **argv) {
     awaits_in_sections();
     deadlines();
     looks_make_no_rounds();
+    still_sections(0);
+    still_sections(1);
     looks_depend_on_stores();
     waits_end_what_is_stored();
     ends_beside_failing_syncs();
@@ -1518,6 +1598,7 @@ int main(int argc, char **argv) {
     closes_at_once();
     stops_in_full_run();
     told_of_a_close();
+    lost_lanes();
     calls_keep_their_place();
     places_with_fewer_lanes();
     circles(2);
