@@ -1,6 +1,7 @@
 //! Futures of durability on a device that fails or hangs, and the thread that wakes them.
 use patience::until;
 use scratch::Scratch;
+use std::error::Error as _;
 use std::ffi::c_void;
 use std::future::Future;
 use std::pin::Pin;
@@ -205,6 +206,32 @@ fn a_write_that_failed_is_made_again_though_nobody_asks() {
     assert_eq!(block_on(session.durable_async()).unwrap_err().kind(), ErrorKind::Write);
     WRITES_FAIL.store(false, SeqCst);
     until("the write is made again", || session.is_durable(1));
+}
+
+#[test]
+fn a_stop_that_cant_write_says_what_is_lost() {
+    let _alone = ALONE.lock().unwrap_or_else(PoisonError::into_inner);
+    for (end, kind) in [(Heap::stop as fn(&Heap) -> _, ErrorKind::Closed), (Heap::abandon, ErrorKind::Abandoned)] {
+        let scratch = Scratch::new("async-stop");
+        let heap = options().open(&scratch).unwrap();
+        let mut session = heap.session().unwrap();
+        store(&mut session, 6);
+        session.durable().unwrap();
+        WRITES_FAIL.store(true, SeqCst);
+        store(&mut session, 7);
+        let mut durable = session.durable_async();
+        let error = end(&heap).unwrap_err();
+        WRITES_FAIL.store(false, SeqCst);
+        assert!(error.kind() == ErrorKind::Lost && error.kind().is_final(), "{error:?}");
+        let cause = error.source().and_then(|cause| cause.downcast_ref::<std::io::Error>());
+        assert_eq!(cause.map(std::io::Error::kind), Some(std::io::ErrorKind::StorageFull));
+        let later = [end(&heap), heap.close(), session.durable(), durable.wait(), block_on(&mut durable), session.enter(Object(0)).map(|_| ())];
+        assert!(later.iter().all(|answer| answer.as_ref().is_err_and(|error| error.kind() == kind)), "{later:?}");
+        assert!(session.is_durable(1) && !session.is_durable(2));
+        drop((durable, session, heap));
+        let heap = options().open(&scratch).unwrap();
+        assert_eq!(heap.session().unwrap().synchronized(Object(0), |s| s.load(Field(0))).unwrap(), 6);
+    }
 }
 
 fn threads_that_wake() -> usize {

@@ -613,8 +613,8 @@ impl Heap {
     /// does from then on. What has ended is made durable first, but for what depends on a section that hasn't. For a program that ends
     /// while threads wait, or because one of them has failed; [`close`](Heap::close) is refused then.
     ///
-    /// [`ErrorKind::Lost`]: what had ended couldn't be made durable, and may be lost; the heap has ended all the same, and each call returns
-    /// that from then on. Any other final kind: so it had ended before.
+    /// [`ErrorKind::Lost`]: what had ended couldn't be made durable, as on a full disk, and may be lost; the heap has ended all the same. Any
+    /// other final kind: so it had ended before.
     ///
     /// ```
     /// # use zelamiku::{ErrorKind, Field, Heap, Object};
