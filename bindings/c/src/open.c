@@ -419,7 +419,7 @@ static zelamiku_status lock_file(door *at) {
     return refuse(at, status, 0);
 }
 
-/* Writes the gates of the header and of the control's slots back with what they read, and syncs. Where a sync of an earlier opening has failed, reads
+/* Writes the gates of the header and of the control's slots back with what they read; recovery begins with a sync. Where a sync of an earlier opening has failed, reads
  * may return cached bytes that never reached the device, and no later sync writes them; POSIX_FADV_DONTNEED is only advice. Each gate is written
  * alone between two syncs, so at most one differs on the device, and either value of that one is right. What a gate makes count was synced before it,
  * and recovery writes each field again that it has to put back. A gate that the device has is written with its own value, which a crash must keep
@@ -432,7 +432,7 @@ static zelamiku_status write_gates_back(const zelamiku_device *on) {
         status = read_device(on, GATES[i], &gate, 1);
         if (status == ZELAMIKU_OK) status = write_device(on, GATES[i], &gate, 1);
     }
-    return status == ZELAMIKU_OK ? sync_device(on) : status;
+    return status;
 }
 
 /* Whoever renamed the file to its path may have been killed before the folder was synced, and an overlay has just made the name: what becomes
