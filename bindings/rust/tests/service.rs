@@ -4,8 +4,8 @@ use scratch::Scratch;
 use std::sync::atomic::{AtomicU64, Ordering};
 use std::sync::Arc;
 use std::time::Duration;
-use zelamiku::service::{Error, ErrorKind, Heap, Options, Session};
-use zelamiku::{Field, Object};
+use zelamiku::service::{Error, ErrorKind, Heap, Held, Options, Session};
+use zelamiku::{Field, Object, Pool};
 
 mod patience;
 mod scratch;
@@ -84,6 +84,38 @@ fn a_section_that_nobody_awaits_is_durable_in_time() {
     let mut session = heap.session().unwrap();
     count(&mut session, 0);
     until("the section is durable", || session.is_durable(1));
+}
+
+#[test]
+fn a_section_that_stores_nothing_durable_asks_for_no_round() {
+    const SEAT: Pool = Pool::new(Field(1), 1);
+    const PASSING: Field = Field(3);
+    let works: [fn(&mut Held<'_>); 4] = [
+        |s| assert!(s.load(Field(0)).is_ok()),
+        |s| s.store(PASSING, 1).unwrap(),
+        |s| assert!(s.store(Field(9), 1).is_err()),
+        |s| assert_eq!(s.take(SEAT).unwrap(), None),
+    ];
+    for reverts in [false, true] {
+        let scratch = Scratch::new("quiet");
+        let options = Heap::options().objects(1).field(Field(0), Object(0), 0).pool(SEAT, Object(0)).transient(PASSING, Object(0), 0);
+        let heap = options.reverts(reverts).linger(Duration::from_micros(100)).open(&scratch).unwrap();
+        let mut session = heap.session().unwrap();
+        assert_eq!(session.synchronized(Object(0), |s| s.take(SEAT)).unwrap(), Some(0));
+        session.durable().unwrap();
+        let rounds = heap.stats().unwrap().rounds;
+        for work in works {
+            for _ in 0..5 {
+                let mut guard = session.enter(Object(0)).unwrap();
+                work(&mut guard);
+                guard.exit().unwrap();
+                std::thread::sleep(Duration::from_millis(1));
+            }
+        }
+        assert_eq!(heap.stats().unwrap().rounds, rounds);
+        count(&mut session, 0);
+        until("the last section is durable", || session.is_durable(session.sections()));
+    }
 }
 
 #[test]

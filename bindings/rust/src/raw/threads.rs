@@ -285,7 +285,7 @@ impl ThreadNumber {
     pub fn enter(&mut self, object: u32) -> u32 {
         let own = self.own();
         unsafe {
-            // The library's own functions keep what a section changes, where the heap reverts.
+            // Else the library's own functions keep what a section changes, or look whether a field is transient.
             let may = if self.is_open() { (*own).is_plain == 1 } else { self.begins() };
             if !may || super::zelamiku_try_enter(&mut (*own).session, object) != OK {
                 return zelamiku_thread_enter(*self, object);
