@@ -51,7 +51,8 @@ class Zelamiku:
     """The work on a heap."""
 
     def __init__(self, folder: Path) -> None:
-        self.heap = zelamiku.open(folder / "accounts.heap", accounts=[Account] * 2, lanes=32, capacity=65_536)
+        # With 32 lanes for threads none would be the helper's, and rounds would take four syncs.
+        self.heap = zelamiku.open(folder / "accounts.heap", accounts=[Account] * 2, lanes=31, capacity=65_536)
 
     def add(self) -> None:
         first = self.heap.accounts[0]

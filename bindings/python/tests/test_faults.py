@@ -37,6 +37,13 @@ print(heap.durable(), heap.stats().troubles > 0)
 heap.close()
 """
 
+STOPS = """
+fault["write"].touch()
+pay(10)
+print(caught(getattr(heap, sys.argv[2])), caught(heap.durable), caught(lambda: pay(1)), heap.close())
+fault["write"].unlink()
+"""
+
 SYNCS = """
 fault["sync"].touch()
 pay(10)
@@ -65,9 +72,9 @@ class Faults(OnFile):
         source = str(Path(__file__).with_name("faults.c"))
         subprocess.run(["cc", "-Wall", "-Wextra", "-shared", "-fPIC", source, "-o", cls.faults, "-ldl"], check=True)
 
-    def told(self, case: str) -> str:
+    def told(self, case: str, *words: str) -> str:
         how = {**os.environ, "LD_PRELOAD": self.faults, "FAULTS": str(self.folder / "fault")}
-        told = in_process(CASE + case, self.path, env=how)
+        told = in_process(CASE + case, self.path, *words, env=how)
         self.assertEqual((told.returncode, told.stderr), (0, ""))
         return told.stdout
 
@@ -76,6 +83,14 @@ class Faults(OnFile):
         self.assertEqual(self.told(WRITES), f"{failed} {failed} {failed} {failed}\nTrue True\n")
         with self.open() as heap:
             self.assertEqual(self.values(heap), [111, 100])
+
+    def test_a_stop_whose_write_fails_is_the_end(self):
+        failed = ("SyncFailed", "ENOSPC")
+        for end, later in (("stop", ("Closed", None)), ("abandon", ("Abandoned", None))):
+            self.assertEqual(self.told(STOPS, end), f"{failed} {later} {later} None\n")
+            with self.open() as heap:
+                self.assertEqual(self.values(heap), [101, 100])
+            os.remove(self.path)
 
     def test_a_sync_that_fails_is_the_end(self):
         failed = ("SyncFailed", "EIO")

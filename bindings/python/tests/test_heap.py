@@ -2,11 +2,14 @@
 import contextlib
 import errno
 import gc
+import logging
 import os
+import sys
 import threading
 import time
 import unittest
 import warnings
+from unittest import mock
 
 import zelamiku
 from support import Account, LONG, OnFile, Queue, held_elsewhere, in_process, in_thread
@@ -118,13 +121,13 @@ class Openings(OnFile):
 
     def test_another_opening_is_busy(self):
         with self.open():
-            with self.assertRaises(zelamiku.Busy):
+            with self.assertRaisesRegex(zelamiku.Busy, "a.heap: this process has its heap open already; "):
                 self.open()
             os.link(self.path, self.path + ".link")
             with self.assertRaises(zelamiku.Busy):
                 zelamiku.open(self.path + ".link", alice=Account, bob=Account)
             told = in_process(OPENS, self.path)
-            self.assertIn("Busy", told.stdout, told.stderr)
+            self.assertIn(f"Busy {self.path}: another process has the heap; ", told.stdout, told.stderr)
         self.assertIn("opened", in_process(OPENS, self.path).stdout)
 
     def test_another_heap_is_told_by_name(self):
@@ -145,7 +148,7 @@ class Openings(OnFile):
         with open(self.path, "rb") as file:
             before = file.read()
         cases = [
-            (dict(alice=Account, bob=Account, lanes=6), r"it has 5 lanes, and 6 are asked for; .*heapctl"),
+            (dict(alice=Account, bob=Account, lanes=6), r"it has 5 lanes, and 6 are asked for; ask for 4, since the last one is the helper's"),
             (dict(alice=Account, lanes=2), r"it has 2 objects, and declared are 1: alice;"),
             (dict(alice=Account, bob=Two, lanes=4), r"bob\.other \(field 2\): it has it in .*, or it is the fingerprint of a heap of 2 fields;"),
             (dict(alice=Two, bob=Two, lanes=4), r"it has 3 fields \(a fingerprint counts as one\), and declared are 4: 2 of alice, 2 of bob;"),
@@ -259,8 +262,9 @@ class Openings(OnFile):
         with self.assertRaises(zelamiku.NotAHeap):
             self.open()
         self.assertEqual(os.path.getsize(self.path), 5000)
-        for path in (str(self.folder / "none" / "a.heap"), str(self.folder)):
-            with self.assertRaises(zelamiku.FileError) as caught:
+        cases = ((str(self.folder / "none" / "a.heap"), "No such file"), (str(self.folder), "Is a directory"), ("/dev/null", "no regular file"))
+        for path, text in cases:
+            with self.assertRaisesRegex(zelamiku.FileError, text) as caught:
                 zelamiku.open(path, alice=Account)
             self.assertIsInstance(caught.exception.__cause__, OSError)
             self.assertEqual(caught.exception.path, path)
@@ -528,6 +532,32 @@ class Living(OnFile):
                 if os.path.exists(path):
                     os.remove(path)
 
+    def test_the_log_is_told_by_whichever_thread(self):
+        told = []
+
+        def log(level, line):
+            told.append((level, line))
+            if "closed" in line:
+                raise ValueError("the log's own")
+
+        unraised = []
+        with mock.patch.object(sys, "unraisablehook", lambda each: unraised.append(str(each.exc_value))):
+            with self.open(alice=Account, bob=Account, lanes=4, log=log) as heap:
+                os.remove(self.path)
+                begun = time.monotonic()
+                # The helper finds it, as nobody waits for a round.
+                while told[-1][0] != logging.WARNING:
+                    self.assertLess(time.monotonic() - begun, LONG)
+                    with heap.synchronized(heap.alice):
+                        heap.alice.balance += 1
+                    time.sleep(0.01)
+        self.assertEqual([level for level, _ in told], [logging.INFO, logging.WARNING, logging.INFO])
+        self.assertTrue(all(line.startswith(f"{self.path}: ") for _, line in told))
+        self.assertEqual(unraised, ["the log's own"])
+        with self.assertLogs("bank") as logged, self.open(alice=Account, bob=Account, log=logging.getLogger("bank").log):
+            pass
+        self.assertIn("closed", logged.output[-1])
+
     def test_a_copy_of_a_heap_that_runs_has_what_was_durable(self):
         copy = self.folder / "copy.heap"
         with self.open() as heap:
@@ -561,8 +591,9 @@ class Living(OnFile):
         with self.open() as heap:
             kept = self.folder / "kept"
             kept.mkdir()
-            for path in (self.folder / "none" / "copy", kept, self.path):
-                with self.subTest(path=path), self.assertRaises(zelamiku.CopyFailed):
+            cases = ((self.folder / "none" / "copy", "No such file"), (kept, "Is a directory"), (self.path, "a heap of that path is open"))
+            for path, text in cases:
+                with self.subTest(path=path), self.assertRaisesRegex(zelamiku.CopyFailed, text):
                     heap.copy_to(path)
             with self.assertRaisesRegex(ValueError, "null byte"):
                 heap.copy_to("a\0b")

@@ -37,6 +37,8 @@ class Wrong(unittest.TestCase):
     def test_another_library_is_refused(self):
         with self.assertRaisesRegex(zelamiku.NoLibrary, "has no zelamiku_version"):
             library.Library(ctypes.util.find_library("c"))
+        with mock.patch.object(library, "VERSION", 1), self.assertRaisesRegex(zelamiku.NoLibrary, "version is [0-9]{3,}, and this package's 1;"):
+            library.Library(library.library().path)
 
 
 class Sizes(unittest.TestCase):

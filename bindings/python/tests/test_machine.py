@@ -8,6 +8,7 @@ depends on the machine. Where hypothesis is installed it chooses lives too, and 
 """
 from __future__ import annotations
 
+import faulthandler
 import json
 import os
 import random
@@ -20,7 +21,7 @@ from pathlib import Path
 from typing import Any
 
 import zelamiku
-from support import OnFile
+from support import LONG, OnFile
 
 try:
     import hypothesis
@@ -330,8 +331,9 @@ class Choices(random.Random):
 
 
 def life_of(path: str, chance: random.Random, writer: int) -> None:
-    """A forked child's whole life."""
-    signal.alarm(60)
+    """A forked child's whole life. One that hangs tells where, and ends by that signal."""
+    faulthandler.register(signal.SIGALRM, chain=True)
+    signal.alarm(int(LONG))
 
     def tell(*words: Any) -> None:
         os.write(writer, json.dumps(words).encode() + b"\n")
@@ -387,7 +389,8 @@ class Machine(OnFile):
                 if life >= LIVES and truth.counts["kept"] > LIVES:
                     break
                 self.be_patient()
-                seconds = random.Random(f"{SEED} {life} of the parent").expovariate(1 / 0.3)
+                # One in four isn't killed, so that a hang isn't taken for a kill.
+                seconds = 2 * LONG if life % 4 == 3 else random.Random(f"{SEED} {life} of the parent").expovariate(1 / 0.3)
                 is_cut = self.life(truth, random.Random(f"{SEED} {life}"), seconds, is_cut)
         except Wrong as wrong:
             self.fail(f"seed {SEED}, life {life}: {wrong}")
@@ -425,7 +428,9 @@ class Machine(OnFile):
             lines = told.readlines()
         killer.cancel()
         killer.join()
-        os.waitpid(child, 0)
+        ended = os.waitstatus_to_exitcode(os.waitpid(child, 0)[1])
+        if ended not in (0, -signal.SIGKILL):
+            raise Wrong(f"a life has ended with status {ended}")
         is_open = False
         for line in lines:
             if line.endswith(b"\n"):

@@ -153,6 +153,8 @@ class Differences(unittest.TestCase):
         for told, text in cases:
             with self.subTest(text):
                 self.assertEqual(plan.difference(*told), text)
+        for has, asked in ((5, "ask for 4, since the last one is the helper's; "), (1, "ask for 1; ")):
+            self.assertTrue(plan.cure(LANES, has).startswith(asked))
 
     def test_names_the_other_way_round_are_found(self):
         class Swapped(zelamiku.Object):

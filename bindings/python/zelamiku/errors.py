@@ -159,8 +159,8 @@ class Closed(Stopped):
 
 
 class SyncFailed(Stopped):
-    """A sync of the file failed, or the program has closed it: ``__cause__`` says why. What wasn't durable may be lost, though the file still
-    reads as it was written."""
+    """What wasn't durable may be lost, though the file still reads as it was written: a sync of the file failed, the program has closed the
+    file, or a write failed with which :meth:`Heap.stop` or :meth:`Heap.abandon` ended the heap. ``__cause__`` says why."""
 
 
 class Abandoned(Stopped):
@@ -213,7 +213,11 @@ KINDS = {
     30: Kind(BrokenFile, "the heap has a record that can't be read", _BACKUP),
     31: Kind(BrokenFile, "no threads can have left the heap's log", _BACKUP),
     32: Kind(WriteFailed, "a write to the file failed, and will be made again", "make room on the disk"),
-    33: Kind(SyncFailed, "a sync of the file failed, or something closed it", "close the heap, mount the file system again, and open the heap again"),
+    33: Kind(
+        SyncFailed,
+        "a sync of the file failed, something closed it, or the heap was stopped while it couldn't be written: what wasn't durable may be lost",
+        "close the heap, make room where its disk is full, and open it again; if that fails with EIO, mount the file system again first",
+    ),
     34: Kind(Busy, "another process has the heap or makes one there, or this one has it open", "end that one, or share the heap that is open"),
     35: Kind(Stopped, "the heap has stopped", _REOPEN),
     37: Kind(NotTaken, "the slot isn't taken", "give back what take() answered, and once"),
@@ -261,8 +265,12 @@ def for_status(path: str, status: int, system: int = 0, *, doing: str = "", also
     """
     kind = (also or {}).get(status) or KINDS.get(status) or Kind(Refused, f"the library answered status {status}", _MISTAKE)
     cause = f"{doing}: {kind.cause}" if doing else kind.cause
-    if not system:
-        return kind.error(path, cause, kind.cure)
-    error = kind.error(path, f"{cause}: {os.strerror(system)}", kind.cure)
-    error.__cause__ = OSError(system, os.strerror(system), path)
+    error = kind.error(path, f"{cause}: {os.strerror(system)}" if system else cause, kind.cure)
+    return caused(error, system)
+
+
+def caused(error: Error, system: int) -> Error:
+    """The error, with the system's number of its cause, if that isn't 0."""
+    if system:
+        error.__cause__ = OSError(system, os.strerror(system), error.path)
     return error

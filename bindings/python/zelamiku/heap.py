@@ -6,16 +6,16 @@ import operator
 import os
 import warnings
 import weakref
-from collections.abc import Iterator, Sequence
-from ctypes import byref, c_size_t, c_uint64
+from collections.abc import Callable, Iterator, Sequence
+from ctypes import byref, c_size_t, c_uint64, c_void_p, cast
 from types import TracebackType
 from typing import Any, Literal
 
 from .declare import MOST, Object, bind
-from .errors import COPY_KINDS, EXISTING_KINDS, OPENING_KINDS
-from .errors import Abandoned, BadPlan, Error, InSection, NotAHeap, OtherHeap, Running, Stopped, WriteFailed, for_status
+from .errors import COPY_KINDS, EXISTING_KINDS, KINDS, OPENING_KINDS
+from .errors import Abandoned, BadPlan, Error, InSection, Kind, NotAHeap, OtherHeap, Running, Stopped, WriteFailed, caused, for_status
 from .library import BAD_RECORD, BUSY, DEVICE, ILLEGAL_LOG, MOST_LANES, NOBODY, NOT_FORMATTED, OK, OTHER_HEAP, RUNNING
-from .library import DroppedRow, FieldRow, Library, PlanRow, ReportRow, StatsRow, WaitRow, library
+from .library import LOG_HOOK, DroppedRow, FieldRow, Library, PlanRow, ReportRow, StatsRow, WaitRow, library
 from .link import Link
 from .plan import Declared, Plan
 from .report import Cause, Dropped, Report, Stats, Wait, Why
@@ -35,6 +35,7 @@ def open(
     create: bool = True,
     reverts: bool = True,
     fingerprint: int | Literal["names"] | None = "names",
+    log: Callable[[int, str], object] | None = None,
     **objects: Declared,
 ) -> Heap:
     """Opens the heap of the file at this path, and recovers it; or makes one where there is no file, an empty one, or one of zeros.
@@ -56,6 +57,10 @@ def open(
     records a lane's ring holds, 4,096 to 65,536, of 24 bytes of memory each: a thread goes on until its ring or its log is full, while a
     round's calls are made. ``linger`` is how many seconds a section that nobody waits for may lie before a round makes it durable; less makes
     more syncs. ``upgrade`` opens a heap of an older version too, and makes it one of this version in place.
+
+    ``log`` is called with a level of :mod:`logging` (20, 30, 40) and a line, for each opening, failing write, end, end of trouble, and circle of
+    threads that wait for each other: ``logging.getLogger("bank").log`` is such a function. A thread of the library calls it, or one that
+    opens, closes, copies or waits. It calls nothing of the heap. An exception that leaves it goes to :func:`sys.unraisablehook`.
 
     The file is locked for this opening, and syncing and reading it may take seconds. Close the heap, or use it as a context manager.
 
@@ -80,8 +85,10 @@ def open(
         fingerprint=_fingerprint(text, plan, fingerprint),
     )
     calls = library()
+    hook = LOG_HOOK(lambda _, level, line: log(20 + 10 * level, line.decode(errors="replace"))) if log else None
+    wanted.log = cast(hook, c_void_p) if hook else None
     handle, row = _opened(calls, text, plan, wanted)
-    return Heap(Link(calls, handle, text, plan, reverts), plan, _report(calls, handle, row))
+    return Heap(Link(calls, handle, text, plan, reverts, hook), plan, _report(calls, handle, row))
 
 
 class Heap:
@@ -232,7 +239,7 @@ class Heap:
         calls = self._link.calls
         status = calls.heap_copy(self._link.handle, _encoded(text))
         if status in (BUSY, DEVICE):
-            raise for_status(text, status, calls.heap_error(), also=COPY_KINDS)
+            raise _told(calls, text, "copy", COPY_KINDS[status])
         if status != OK:
             raise self._link.error(status)
 
@@ -315,19 +322,19 @@ def _opened(calls: Library, path: str, plan: Plan, wanted: PlanRow) -> tuple[int
         return handle.value, row
     if status == OTHER_HEAP:
         raise OtherHeap(path, plan.difference(row.difference, row.field, row.has, row.planned), plan.cure(row.difference, row.has))
-    if status == NOT_FORMATTED:
-        raise _no_heap(calls, path)
+    if status in (BUSY, DEVICE, NOT_FORMATTED):
+        raise _told(calls, path, "open", OPENING_KINDS.get(status) or KINDS[status])
     has_record = status in (BAD_RECORD, ILLEGAL_LOG)
     record = f"lane {row.told.bad_lane}, place {row.told.bad_place}" if has_record else ""
     raise for_status(path, status, calls.heap_error(), doing=record, also=OPENING_KINDS)
 
 
-def _no_heap(calls: Library, path: str) -> Error:
-    """Why a file has no heap, as the library tells it: there is none, or there is something else, or its first bytes are damaged."""
-    cause, _, cure = calls.heap_message().decode(errors="replace").rpartition(": open: ")[2].partition("; ")
-    if cause.startswith("there is no heap"):
+def _told(calls: Library, path: str, call: str, kind: Kind) -> Error:
+    """Why a call has failed, in the library's words: "PATH: CALL: CAUSE; CURE"."""
+    cause, _, cure = calls.heap_message().decode(errors="replace").rpartition(f": {call}: ")[2].partition("; ")
+    if kind.error is NotAHeap and cause.startswith("there is no heap"):
         return for_status(path, NOT_FORMATTED, calls.heap_error(), also=EXISTING_KINDS)
-    return NotAHeap(path, cause, cure)
+    return caused(kind.error(path, cause or kind.cause, cure or kind.cure), calls.heap_error())
 
 
 def _fingerprint(path: str, plan: Plan, chosen: int | str | None) -> int:

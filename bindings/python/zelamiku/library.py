@@ -86,6 +86,10 @@ class DroppedRow(ctypes.Structure):
     ]
 
 
+LOG_HOOK = ctypes.CFUNCTYPE(None, c_void_p, c_uint32, c_char_p)
+"""zelamiku_log"""
+
+
 class PlanRow(ctypes.Structure):
     """zelamiku_plan"""
 

@@ -14,12 +14,14 @@ from .plan import Plan
 class Link:
     """What threads share of an open heap."""
 
-    def __init__(self, calls: Library, handle: int, path: str, plan: Plan, reverts: bool) -> None:
+    def __init__(self, calls: Library, handle: int, path: str, plan: Plan, reverts: bool, hook: object) -> None:
         self.calls = calls
         self.handle = handle
         self.path = path
         self.reverts = reverts
         """Whether what a section has stored can be put back."""
+        self._hook = hook
+        """What the library calls for the log, until the heap has ended."""
         self._plan = plan
         self._reason = ""
         self._awaiting_lanes = 0

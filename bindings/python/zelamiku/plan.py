@@ -119,7 +119,8 @@ class Plan:
     def cure(self, what: int, has: int) -> str:
         """What to do about a difference."""
         if what == _LANES:
-            return "ask for as many, or make a heap of more (`heapctl dump`, then `format --lanes` with one more, for the helper)"
+            asked = f"ask for {has - 1}, since the last one is the helper's" if has > 1 else "ask for 1"
+            return f"{asked}; or make a heap of more: python -m zelamiku migrate FILE MODULE --lanes N"
         if what == _FINGERPRINT:
             return f"declare the same names in the same order; if you have only renamed some, open it with fingerprint={has:#x}"
         return "declare what the file has, or choose another path"
