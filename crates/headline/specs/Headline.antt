@@ -1,5 +1,5 @@
 -- What recovery gives of what a crash left while threads ran: the headline, in one place (this project's own).
-use Rattle.std.specs.Prelude.{ℕ, ◌≡◌, ◌<◌, ◌≤◌, List, Result, MatchResult}
+use Rattle.std.specs.Prelude.{ℕ, ◌≡◌, ◌<◌, ◌≤◌, ◌⊎◌, List, MatchResult}
 use Rattle.heap_model.specs.declared.event.Event.{Event}
 use Rattle.heap_model.specs.Cuts.{IsClosed, IsWhole, counts_of}
 use Rattle.heap_model.specs.History.{IsLegalHistory, log_of}
@@ -7,15 +7,16 @@ use Rattle.heap_model.specs.Sections.{actions}
 use Rattle.heap_model.specs.Setting.{Setting}
 use Rattle.block_disk.specs.Device.{Device}
 use Rattle.image_parts.specs.declared.layout.Layout.{Layout}
+use Rattle.recover.specs.declared.report.Report.{Report}
 use Rattle.monitor.specs.Seats.{Home}
 use Rattle.thread_steps.specs.Views.{plan}
 use Rattle.store_image.specs.KeptHeap.{kept_heap}
 use Rattle.heap_model.specs.Past.{Past}
-use Rattle.heap_model.specs.declared.store_error.StoreError.{StoreError}
+use Rattle.law_survival.specs.Again.{AreCutOff, Attempt, HasEnded}
 use Rattle.law_survival.specs.Promise.{Answer}
-use Rattle.law_survival.specs.WholeRun.{CannotRecover, MayBeLeft}
-use Rattle.trim_helper.specs.Parts.{IsServing, Parts}
-use Rattle.law_running.specs.Running.{GoesOnLegally, HasMadeRound, Rests}
+use Rattle.law_survival.specs.WholeRun.{CannotRecover}
+use Rattle.law_running.specs.Running.{GoesOnLegally}
+use Rattle.headline.specs.Life.{Life}
 
 -- Recovery gave this heap, and reported so many sections of each lane as kept. They are one set of sections: of each lane the first so many. The past
 -- says what was acknowledged before, and `seen` is what the helper has seen of the threads' history.
@@ -38,13 +39,20 @@ pub record Headline (l : Layout) (s : Setting) (p : Past) (seen : List (ℕ × E
 abbrev pub Gives : {E : Type 0} → Layout → Setting → Past → (seen : List (ℕ × Event)) → (image : List ℕ) → Answer E → Type 0
 Gives l s p seen image answer = MatchResult answer (λ r. Headline l s p seen r.0.heap (counts_of r.1.kept)) (λ back. CannotRecover image back.1)
 
-module _ {D : Type 0} (device : D → Device) where
-  -- A crash came at any moment of a round, whatever the round answered: so it gives, with all that was acknowledged before the round.
-  abbrev pub GivesRound : {E : Type 0} → (image : List ℕ) → Answer E → Type 0
-  GivesRound image told = (h : Home) (p : Past) (x y : Parts D) (answer : Result ℕ StoreError) → IsServing device x (plan h) p → HasMadeRound device h p x y answer
-      → MayBeLeft (device x.store.disk) (device y.store.disk) image → Gives y.store.known.layout (plan h) p y.seat.view.history image told
+-- Recovery gave such a heap, and reported these sections as kept; or it reported that an earlier recovery had ended, and then none.
+pub record HeadlineAgain (l : Layout) (s : Setting) (p : Past) (seen : List (ℕ × Event)) (heap : List ℕ) (report : Report) : Type 0 where
+  pub kept : ℕ → ℕ
+  pub first : Headline l s p seen heap kept
+  pub reported : ((lane : ℕ) → lane < l.lanes → counts_of report.kept lane ≡ kept lane) ⊎ HasEnded report
 
-  -- A crash came between two rounds: so it gives, with all that was acknowledged by then.
-  abbrev pub GivesNow : {E : Type 0} → (image : List ℕ) → Answer E → Type 0
-  GivesNow image told = (h : Home) (p : Past) (x : Parts D) (seen : List (ℕ × Event)) → Rests device h p x seen
-      → MayBeLeft (device x.store.disk) (device x.store.disk) image → Gives x.store.known.layout (plan h) p seen image told
+module _ {D : Type 0} (device : D → Device) where
+  -- A heap lived until a crash left this image. Recovery gives such a heap, with all that was acknowledged before the call in which the crash came.
+  abbrev pub GivesLife : {E : Type 0} → (image : List ℕ) → Answer E → Type 0
+  GivesLife image told = (h : Home) (l : Layout) (p : Past) (seen : List (ℕ × Event)) → Life device h image l p seen → Gives l (plan h) p seen image told
+
+  -- A heap lived until a crash. Then it was opened any number of times, and each time a crash or a fault cut its recovery off. The last of these
+  -- left this image. Recovery gives the same heap.
+  abbrev pub GivesAgain : {E : Type 0} → (image : List ℕ) → Answer E → Type 0
+  GivesAgain image told = (h : Home) (l : Layout) (p : Past) (seen : List (ℕ × Event)) (first : List ℕ) (attempts : List Attempt)
+      → Life device h first l p seen → AreCutOff attempts first image
+      → MatchResult told (λ r. HeadlineAgain l (plan h) p seen r.0.heap r.1) (λ back. CannotRecover image back.1)

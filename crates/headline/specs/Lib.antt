@@ -1,3 +1,6 @@
 -- The promise: what recovery gives of what a crash left while threads ran.
 pub mod Headline
+pub mod Life
 pub mod Hosts
+-- The calls by which a heap lives.
+pub mod Living

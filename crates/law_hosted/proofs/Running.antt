@@ -1,5 +1,5 @@
 -- What a crash of the host's device keeps while threads run.
-use Rattle.std.proofs.Common.{suc, List, ℕ, sym, ◌∙◌, arith}
+use Rattle.std.proofs.Common.{suc, List, ℕ, sym, subst, ◌∙◌, arith}
 use Rattle.block_disk.specs.Device.{Device}
 use Rattle.block_disk.specs.Images.{Continues}
 use Rattle.disk_deferred.specs.Deferred.{Deferred, onto}
@@ -9,8 +9,7 @@ use Rattle.disk_deferred.proofs.Moments.{left_since_then}
 use Rattle.image_parts.specs.declared.layout.Layout.{Layout}
 use Rattle.store_rounds.specs.Runs.{HasRun}
 use Rattle.store_rounds.proofs.Running.{run_on}
-use Rattle.thread_heap.specs.Life.{ClosedLifeLaw}
-use Rattle.law_running.specs.Crashes.{CrashLaw}
+use Rattle.law_running.specs.Crashes.{CrashInClosingLaw}
 use Rattle.law_running.specs.Running.{CrashInRunLaw}
 use Rattle.thread_steps.specs.Views.{plan}
 use Rattle.law_survival.specs.WholeRun.{MayBeLeft}
@@ -50,8 +49,11 @@ round_keeps keeps seen_of x y answer p old c image ran makes heard since =
       seen_of = seen_of x.home (plan x.home) round.now y.helper seen round.serves;
     }) since
 
-pub closing_keeps : CrashLaw hosted_device → ClosedLifeLaw hosted_device → HostClosingLaw
-closing_keeps keeps lives h opened x p d c image lived closing since =
-    let from = closing.from p lived.serving in
-    let life = lives h opened (hosted_device d) x p closing.ended lived from in
-    keeps h opened (hosted_device d) x p closing.ended lived from image (left_since opened d c image life.ran.shown.grows since)
+pub closing_keeps : CrashInClosingLaw hosted_device → HostClosingLaw
+closing_keeps keeps h x p old d c image lanes run serves closing since =
+    let from = closing.from run.now serves in
+    let l : Layout = x.store.known.layout in
+    let there : Device = hosted_device x.store.disk in
+    let before : HasRun l h.plan.lanes (plan h) p old run.now there = subst (λ (t : ℕ). HasRun l t (plan h) p old run.now there) (sym lanes) run.ran in
+    let ran = run_on l h.plan.lanes (plan h) p run.now from.closed.now old there (hosted_device d) before from.ran in
+    keeps h p old x (hosted_device d) closing.ended image lanes run from (left_since old d c image ran.shown.grows since)

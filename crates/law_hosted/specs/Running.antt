@@ -5,13 +5,11 @@ use Rattle.block_disk.specs.Device.{Device}
 use Rattle.disk_deferred.specs.Deferred.{Deferred}
 use Rattle.disk_deferred.specs.Host.{Host}
 use Rattle.monitor.specs.Seats.{Home}
-use Rattle.thread_heap.specs.Life.{HasLived}
 use Rattle.law_running.specs.Running.{KeepsRunning, RunsOn}
 use Rattle.law_running.specs.Runs.{RunsSince}
 use Rattle.thread_steps.specs.Views.{plan}
-use Rattle.heap_model.specs.Past.{Past, no_past}
+use Rattle.heap_model.specs.Past.{Past}
 use Rattle.heap_model.specs.declared.store_error.StoreError.{StoreError}
-use Rattle.law_survival.specs.Running.{KeepsOfHistory}
 use Rattle.trim_helper.specs.Parts.{IsServing, Parts}
 use Rattle.host_heap.specs.Hosting.{Hosting, IsClosedWith, hosted_device}
 use Rattle.host_heap.specs.Rounds.{HearsThreads, MakesRound}
@@ -35,8 +33,10 @@ HostRoundLaw = (x y : Hosting) (answer : Result ℕ StoreError) (p : Past) (old 
     → HasRunOn x p old → MakesRound x y answer → HearsThreads x y → LeavesSince old y.helper.store.disk c image
     → KeepsRunning y.helper.store.known.layout (plan x.home) p y.helper.seat.view.history image
 
--- So it is of a heap that was closed, at whatever moment the host comes on with the calls that are left: of the history that the closing tells of.
+-- So it is of a run that ends with a closing, at whatever moment the host comes on with the calls that are left: of the closing's history.
 abbrev pub HostClosingLaw : Type 0
-HostClosingLaw = (h : Home) (opened : Device) (x : Parts Deferred) (p : Past) (d : Deferred) (c : Host) (image : List ℕ)
-    → (lived : HasLived hosted_device h opened x p) → (closing : IsClosedWith h x d) → LeavesSince opened d c image
-    → KeepsOfHistory x.store.known.layout (plan h) no_past (closing.from p lived.serving).closed.history image
+HostClosingLaw = (h : Home) (x : Parts Deferred) (p : Past) (old : Device) (d : Deferred) (c : Host) (image : List ℕ)
+    → h.plan.lanes ≡ x.store.known.threads
+    → (run : RunsSince x.store.known.layout x.store.known.threads (plan h) p old (hosted_device x.store.disk))
+    → (serves : IsServing hosted_device x (plan h) run.now) → (closing : IsClosedWith h x d) → LeavesSince old d c image
+    → KeepsRunning x.store.known.layout (plan h) p (closing.from run.now serves).closed.history image

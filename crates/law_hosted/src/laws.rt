@@ -7,8 +7,7 @@ ghost use Rattle.law_hosted.specs.Told.{AcknowledgedToldLaw, HostReadLaw};
 
 use disk_deferred::DeferredDisk;
 use law_rounds::round_run_law;
-use law_running::{crash_law, round_law, stable_law};
-use thread_heap::life_law;
+use law_running::{round_law, stable_law};
 use trim_helper::seen_law;
 
 /// Recovery accepts whatever a crash left at any moment of a store's run, and keeps every section that was acknowledged when the run
@@ -81,8 +80,8 @@ pub fn running_law()
     // After a round of the heap, whatever a crash of the host's device leaves keeps whole sections of the history that
     // the helper has seen by then, and of each that goes on from it.
     ensures round { HostRoundLaw }
-    // At whatever moment of the calls that are left after a closing, what a crash of the host's device leaves keeps
-    // whole sections of the closing's history.
+    // At whatever moment of the calls of a closing, what a crash of the host's device leaves keeps whole sections of the
+    // closing's history, with all that was acknowledged when the host had made the calls handed over by then.
     ensures closing { HostClosingLaw }
     // What recovery keeps of a copy, while threads run, are whole sections of their history, as after a crash right
     // then.
@@ -90,8 +89,6 @@ pub fn running_law()
     ensures still { StillRoundLaw }
     ensures still_closing { StillClosingLaw }
 {
-    crash_law::<DeferredDisk>();
-    life_law::<DeferredDisk>();
     round_law::<DeferredDisk>();
     seen_law::<DeferredDisk>();
 }

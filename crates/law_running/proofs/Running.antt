@@ -20,8 +20,9 @@ use Rattle.heap_model.specs.Past.{Past, applied, no_past}
 use Rattle.law_survival.specs.History.{KeepsHistory}
 use Rattle.law_survival.specs.Running.{KeepsIn}
 use Rattle.trim_helper.specs.Heard.{SeenLaw}
+use Rattle.law_running.specs.Crashes.{CrashInClosingLaw}
 use Rattle.law_running.specs.Running.{CrashBetweenLaw, CrashInRoundLaw, CrashInRunLaw, CrashNowLaw, CrashSinceLaw, GoesOnLegally, KeepsRunning, SeesMoreLaw, ToldLaw}
-use Rattle.law_running.proofs.Seen.{seen_first}
+use Rattle.law_running.proofs.Seen.{logged_first, seen_first}
 use Rattle.law_running.proofs.Shown.{run_shows}
 
 -- what goes on from more goes on from less
@@ -131,3 +132,16 @@ module _ (log_legal : LogLaw) (released : ReleasedLaw) (older : OlderLaw) (gives
           legal = rests.legal;
           seen_of = rests.seen_of;
         }) left
+
+    -- of a run that ends with a closing, by the history that the closing tells of
+    pub closing_kept : CrashInClosingLaw device
+    closing_kept h p old x d ended image lanes run from left =
+        let closed = from.closed in
+        let l : Layout = x.store.known.layout in
+        let before : HasRun l h.plan.lanes (plan h) p old run.now (device x.store.disk) =
+        subst (λ (t : ℕ). HasRun l t (plan h) p old run.now (device x.store.disk)) (sym lanes) run.ran in
+        let ran = run_on l h.plan.lanes (plan h) p run.now closed.now old (device x.store.disk) d before from.ran in
+        kept_of l h.plan.lanes (plan h) p (applied closed.now) closed.history image
+        (run_shows l h.plan.lanes (plan h) p old d image
+        (record { store = run.store; layout = run.layout; threads = run.threads ∙ sym lanes; has = run.has; now = closed.now; ran = ran }) left) closed.legal
+        (λ later goes. logged_first sent own h (applied closed.now) closed.history later closed.logs goes)

@@ -15,6 +15,7 @@ use Rattle.thread_rings.specs.Following.{from_release, to_release}
 use Rattle.monitor.specs.Seats.{Home}
 use Rattle.monitor.specs.Views.{GoesOn}
 use Rattle.law_running.specs.Released.{IsReleasedPrefix}
+use Rattle.law_running.proofs.ReleaseLemmas.{parts}
 use Rattle.thread_steps.specs.Views.{plan}
 use Rattle.heap_model.specs.Past.{Past, applied}
 use Rattle.trim_helper.specs.Heard.{IsSeenOf}
@@ -63,3 +64,18 @@ seen_first device sent own h p x seen later serving is_seen goes l = elim (cases
     sym (append-nil (lane l (log_of (plan h) later))) ∙ ap (λ (xs : List Record). lane l (log_of (plan h) later) ++ from_release xs) (sym (lane_past device (plan h) p x l serving past)),
   )
 ]
+
+-- a lane that the seen history has logged just so, up to its last release
+logged_lane : OwnLogLaw → (h : Home) (log : List (ℕ × Record)) (seen : List (ℕ × Event)) (l : ℕ) → lane l log ≡ lane l (log_of (plan h) seen) → BeginsLog h.plan l seen (to_release (stream l log))
+logged_lane own h log seen l same =
+    let xs : List Record = lane l log in
+    let behind = parts xs in (
+      reverse behind.0,
+      ap (λ (r : List Record). reverse r) (sym (own (plan h) seen l) ∙ sym same ∙ behind.1) ∙ reverse-append behind.0 (from_release xs)
+          ∙ ap (λ (r : List Record). reverse (from_release r) ++ reverse behind.0) (sym (reverse-reverse xs)),
+    )
+
+-- each history that goes on from one that has logged all has of each lane what was applied up to its last release
+pub logged_first : SentLaw → OwnLogLaw → (h : Home) (log : List (ℕ × Record)) (seen later : List (ℕ × Event)) → ((l : ℕ) → lane l log ≡ lane l (log_of (plan h) seen)) →
+    GoesOn later seen → IsReleasedPrefix log (log_of (plan h) later)
+logged_first sent own h log seen later logs goes l = lane_seen sent own h seen later goes l log (logged_lane own h log seen l (logs l))

@@ -1,5 +1,5 @@
 //! Laws of a heap's life, each the contract of a function that does nothing.
-ghost use Rattle.law_running.specs.Crashes.{CrashLaw};
+ghost use Rattle.law_running.specs.Crashes.{CrashInClosingLaw, CrashLaw};
 ghost use Rattle.law_running.specs.Faults.{CrashInFailedCloseLaw, RunsOnFailedLaw};
 ghost use Rattle.law_running.specs.Halves.{ReadWhilePublishingLaw, ReadWhileSettlingLaw};
 ghost use Rattle.law_running.specs.Running.{CrashBetweenLaw, CrashInRoundLaw, CrashInRunLaw, CrashNowLaw, CrashSinceLaw, SeesMoreLaw, ToldLaw};
@@ -18,7 +18,8 @@ use trim_helper::seen_law;
 /// - `round`: of a round, whatever the round answers, with all that was acknowledged before the round;
 /// - `opened`: from the opening to the end of a round;
 /// - `between`: from the opening to now, while the helper rests between two rounds;
-/// - `now`: right now, while the helper rests, with all that is acknowledged by now.
+/// - `now`: right now, while the helper rests, with all that is acknowledged by now;
+/// - `closing`: of a run that ends with a closing, with all that was acknowledged when the run began.
 ///
 /// What is kept stays so as the helper sees more of the history (`more`). After the closing it is kept of the history in which each
 /// session's part is what the session was told (`told`).
@@ -46,6 +47,9 @@ pub fn round_law<D: Disk>()
     ensures between { CrashBetweenLaw D.device }
     // What a crash leaves between two rounds keeps all that is acknowledged by then.
     ensures now { CrashNowLaw D.device }
+    // What a crash leaves at any moment of a closing keeps whole sections of the closing's history, and all that was
+    // acknowledged before the closing.
+    ensures closing { CrashInClosingLaw D.device }
     // What a crash keeps stays so in each legal history that goes on from what was seen.
     ensures more { SeesMoreLaw }
     // Once the heap is closed, what a crash kept is of the one history in which each session's part is what it was

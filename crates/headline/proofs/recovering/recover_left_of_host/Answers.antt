@@ -10,3 +10,8 @@ pub returns-clause-round : goal.returns-clause-round
 returns-clause-round g c x y answer p old host ran made hears left =
     gives_kept g.E.Disk.device (g.E.Disk.device c.args.left) c.recover.result c.one_study_law.ensures c.recover.ensures.ok c.recover.ensures.refused
     y.helper.store.known.layout _ p y.helper.seat.view.history (c.running_law.ensures.round x y answer p old host _ ran made hears left)
+
+pub returns-clause-closing : goal.returns-clause-closing
+returns-clause-closing g c h x p old d host lanes run serves closing left =
+    gives_kept g.E.Disk.device (g.E.Disk.device c.args.left) c.recover.result c.one_study_law.ensures c.recover.ensures.ok c.recover.ensures.refused
+    x.store.known.layout _ p (closing.from run.now serves).closed.history (c.running_law.ensures.closing h x p old d host _ lanes run serves closing left)

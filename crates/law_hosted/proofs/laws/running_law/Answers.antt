@@ -10,7 +10,7 @@ pub returns-clause-round : goal.returns-clause-round
 returns-clause-round c = round_keeps c.round_law.ensures.run c.seen_law.ensures
 
 pub returns-clause-closing : goal.returns-clause-closing
-returns-clause-closing c = closing_keeps c.crash_law.ensures c.life_law.ensures.closed
+returns-clause-closing c = closing_keeps c.round_law.ensures.closing
 
 pub returns-clause-copy : goal.returns-clause-copy
 returns-clause-copy c = copy_keeps c.round_law.ensures.now
