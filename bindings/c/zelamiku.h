@@ -305,6 +305,9 @@ int zelamiku_heap_error(void);
  * folder is synced. A process that dies meanwhile leaves the path as it was, and the file beside, which the next making there takes up.
  * Each opening syncs the folder of the real path, or its whole file system where the folder can't be read. So no crash loses the name of a file
  * in which something is durable, also where the file was renamed to the path just before.
+ * The path may be that of a block device: a disk, a partition, a logical volume, or one that lies on another machine (RBD, DRBD, iSCSI, the
+ * kernel's NBD). It is opened for this open alone (O_EXCL), so it isn't mounted meanwhile. A heap is made in place, as by
+ * zelamiku_heap_open_on: where the device has zeros, or what a making that was cut off has left. TOO_SMALL: it has too few bytes.
  * A heap that is made has a lane for each of the plan's threads, and one more for the helper, by which rounds take two syncs. With 32 threads it
  * has 32 lanes, and none for the helper: rounds take four. A heap that is there may have more lanes than the plan has threads: the last one is
  * the helper's then, and all others are threads'. One with just as many lanes is opened too, as threads' lanes, and rounds take four.

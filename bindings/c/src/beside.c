@@ -12,7 +12,7 @@ static bool open_listed(int *descriptor, const char *path, int flags, mode_t mod
     *descriptor = above_streams(file);
     int error = errno;
     opens_underway--;
-    if (SELDOM(file >= 0 && *descriptor < 0 && (flags & O_EXCL) != 0)) (void)unlink(path);
+    if (SELDOM(file >= 0 && *descriptor < 0 && (flags & O_CREAT) != 0)) (void)unlink(path);
     errno = error;
     return *descriptor >= 0;
 }

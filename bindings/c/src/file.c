@@ -112,7 +112,8 @@ static zelamiku_status size_of_file(void *context, uint64_t *size) {
     struct stat info;
     if (fstat(descriptor_of(context), &info) != 0) return ZELAMIKU_DEVICE;
     *size = (uint64_t)info.st_size;
-    return ZELAMIKU_OK;
+    bool is_known = !S_ISBLK(info.st_mode) || ioctl(descriptor_of(context), BLKGETSIZE64, size) == 0;
+    return is_known ? ZELAMIKU_OK : ZELAMIKU_DEVICE;
 }
 
 static zelamiku_device device_of_file(int file) {

@@ -458,7 +458,7 @@ static zelamiku_status take_bytes(heap *of, uint8_t *bytes, mode_t *mode) {
     }
     pthread_mutex_unlock(&of->mutex);
     tell_all(of);
-    *mode = info.st_mode & 0777;
+    *mode = S_ISBLK(info.st_mode) ? 0600 : info.st_mode & 0777;
     return status;
 }
 

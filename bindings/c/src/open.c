@@ -14,6 +14,8 @@ typedef struct {
     uint32_t threads, capacity, ring; /* of the plan, which tells its threads as lanes */
     uint32_t lanes;                   /* of the image */
     zelamiku_shape shape;             /* what the file begins with */
+    bool is_volume;                   /* the path leads to a block device, */
+    bool is_claimed;                  /* which was opened for this open alone */
     char cause[160], cure[160];
 } door;
 
@@ -396,14 +398,26 @@ static zelamiku_status make_in_place(door *at, uint64_t has) {
     return status;
 }
 
+/* Locks a block device as lock_alone does. The system's udevd locks one for a moment after a program has closed it. */
+static zelamiku_status lock_volume(int file) {
+    zelamiku_status status = lock_alone(file);
+    for (int tries = 0; status == ZELAMIKU_BUSY && tries < 100; tries++) {
+        nap(SECOND / 100);
+        status = lock_alone(file);
+    }
+    return status;
+}
+
 /* Locks the file for this open alone, and sees that the path still leads to it: heapctl may have replaced it meanwhile, and what went there
  * would be lost. */
 static zelamiku_status lock_file(door *at) {
     struct stat own;
     heap *of = at->of;
     if (fstat(of->file, &own) != 0) return no_device(at, "it can't be used");
-    if (!S_ISREG(own.st_mode)) return errno = EINVAL, no_device(at, "it is no regular file");
-    zelamiku_status status = lock_alone(of->file);
+    at->is_volume = S_ISBLK(own.st_mode);
+    bool is_right = at->is_volume ? at->is_claimed : S_ISREG(own.st_mode);
+    if (!is_right) return errno = EINVAL, no_device(at, "it is neither a regular file nor a block device");
+    zelamiku_status status = at->is_volume ? lock_volume(of->file) : lock_alone(of->file);
     if (status == ZELAMIKU_OK) status = claim(of, of->file);
     if (status == ZELAMIKU_DEVICE) return no_device(at, "it can't be locked");
     if (status == ZELAMIKU_BUSY && is_open_here(&own)) {
@@ -445,11 +459,11 @@ static bool keep_name(const door *at) {
 /* The heap of the device, which nobody else writes: recovered, or made. Its first calls are made here. */
 static zelamiku_status recover_or_make(door *at) {
     const zelamiku_device *on = &at->of->device;
-    bool is_file = at->of->file >= 0;
+    bool is_file = at->of->file >= 0 && !at->is_volume;
     uint64_t calls = 0, size = 0;
     /* What a process before this one wrote may be in a cache alone: it is made durable, and then read from the device. */
     if (sync_device(on) != ZELAMIKU_OK || tell_size(on, &size) != ZELAMIKU_OK) return no_device(at, "it can't be synced");
-    if (is_file) (void)posix_fadvise(at->of->file, 0, 0, POSIX_FADV_DONTNEED);
+    if (at->of->file >= 0) (void)posix_fadvise(at->of->file, 0, 0, POSIX_FADV_DONTNEED);
     zelamiku_status status = open_image(at, size);
     if (status == ZELAMIKU_NOT_FORMATTED) {
         if (!is_file) return make_in_place(at, size);
@@ -465,11 +479,24 @@ static zelamiku_status recover_or_make(door *at) {
     return no_device(at, "a write or a sync of it has failed");
 }
 
+/* Opens what is at the path; whether there is something. A block device is opened for this open alone (O_EXCL), as mkfs opens one: so it is neither
+ * mounted, nor another's. */
+static zelamiku_status open_at_path(door *at, bool *is_there) {
+    struct stat its;
+    at->is_claimed = stat(at->path, &its) == 0 && S_ISBLK(its.st_mode);
+    *is_there = open_listed(&at->of->file, at->path, at->is_claimed ? O_RDWR | O_EXCL : O_RDWR, 0);
+    if (*is_there || errno == ENOENT) return ZELAMIKU_OK;
+    if (!at->is_claimed || errno != EBUSY) return no_device(at, "it can't be opened");
+    (void)snprintf(at->cause, sizeof at->cause, "the device is in use");
+    (void)snprintf(at->cure, sizeof at->cure, "unmount it, or end the program that has it");
+    return refuse(at, ZELAMIKU_BUSY, 0);
+}
+
 /* Where there is no file none is made for a plan that is no good. */
 static zelamiku_status open_path(door *at) {
-    bool is_there = open_listed(&at->of->file, at->path, O_RDWR, 0);
-    if (!is_there && errno != ENOENT) return no_device(at, "it can't be opened");
-    zelamiku_status status = check_plan(at);
+    bool is_there = false;
+    zelamiku_status status = open_at_path(at, &is_there);
+    if (status == ZELAMIKU_OK) status = check_plan(at);
     if (status != ZELAMIKU_OK) return status;
     if (!is_there) return make_at_path(at);
     at->of->device = device_of_file(at->of->file);

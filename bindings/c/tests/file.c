@@ -12,7 +12,9 @@
 #include <stdio.h>
 #include <stdlib.h>
 #include <string.h>
+#include <linux/loop.h>
 #include <sys/file.h>
+#include <sys/ioctl.h>
 #include <sys/prctl.h>
 #include <sys/stat.h>
 #include <sys/types.h>
@@ -860,6 +862,57 @@ static void closed_by_the_program(int at, const char *reused_for) {
     MUST(value == 8 || (at > 0 && value == 100));
 }
 
+/* ---- block devices ---- */
+
+/* A loop device over a file of so many zeros; -1: there is none. Closing the last descriptor of it lets the file go. */
+static int make_volume(char *path, size_t size, off_t bytes) {
+    const struct loop_info64 info = {.lo_flags = LO_FLAGS_AUTOCLEAR};
+    int control = open("/dev/loop-control", O_RDWR | O_CLOEXEC), volume = -1;
+    int file = open("volume", O_RDWR | O_CREAT | O_TRUNC | O_CLOEXEC, 0600);
+    MUST(file >= 0 && ftruncate(file, bytes) == 0);
+    for (int tries = 0; tries < 20 && control >= 0 && volume < 0; tries++) {
+        (void)snprintf(path, size, "/dev/loop%d", ioctl(control, LOOP_CTL_GET_FREE));
+        volume = open(path, O_RDWR | O_CLOEXEC);
+        if (volume < 0 || (ioctl(volume, LOOP_SET_FD, file) == 0 && ioctl(volume, LOOP_SET_STATUS64, &info) == 0)) continue;
+        (void)close(volume); /* another one has just taken it */
+        volume = -1;
+    }
+    if (control >= 0) (void)close(control);
+    MUST(close(file) == 0);
+    return volume;
+}
+
+/* A heap on a block device: made in place where that has zeros, had by one open alone, and found again. What isn't free is left as it is. */
+static void volumes(void) {
+    enum { BYTES = 1 << 20 };
+    char path[32];
+    uint8_t before[4096], after[4096];
+    zelamiku_heap heap, other;
+    zelamiku_plan usual = plan;
+    int volume = make_volume(path, sizeof path, BYTES);
+    if (volume < 0) {
+        printf("LEFT OUT: no loop device: a heap on a block device\n");
+        return;
+    }
+    plan.must_exist = 1;
+    MUST(zelamiku_heap_open(&heap, path, &plan, NULL) == ZELAMIKU_NOT_FORMATTED && strstr(zelamiku_heap_message(), "there is no heap") != NULL);
+    plan = usual;
+    plan.capacity = 65536;
+    MUST(zelamiku_heap_open(&heap, path, &plan, NULL) == ZELAMIKU_TOO_SMALL && strstr(zelamiku_heap_message(), "the device has 1048576 bytes") != NULL);
+    plan = usual;
+    MUST(zelamiku_heap_open(&heap, path, &plan, &report) == ZELAMIKU_OK && report.is_made == 1 && add(heap, 2) == 7);
+    MUST(zelamiku_heap_open(&other, path, &plan, NULL) == ZELAMIKU_BUSY && strstr(zelamiku_heap_message(), "the device is in use") != NULL);
+    MUST(open(path, O_RDWR | O_EXCL | O_CLOEXEC) == -1 && errno == EBUSY);
+    MUST(zelamiku_heap_copy(heap, "copy of a volume") == ZELAMIKU_OK && mode_of("copy of a volume") == 0600);
+    MUST(zelamiku_heap_copy(heap, path) == ZELAMIKU_DEVICE && zelamiku_heap_abandon(heap) == ZELAMIKU_OK);
+    MUST(zelamiku_heap_open(&heap, path, &plan, &report) == ZELAMIKU_OK && report.is_made == 0 && add(heap, 1) == 8);
+    MUST(zelamiku_heap_close(heap) == ZELAMIKU_OK && pwrite(volume, "x", 1, 0) == 1 && pread(volume, before, sizeof before, 0) == sizeof before);
+    MUST(zelamiku_heap_open(&heap, path, &plan, NULL) == ZELAMIKU_NOT_FORMATTED);
+    MUST(pread(volume, after, sizeof after, 0) == sizeof after && memcmp(before, after, sizeof before) == 0 && close(volume) == 0);
+    MUST(zelamiku_heap_open(&heap, "copy of a volume", &plan, NULL) == ZELAMIKU_OK && add(heap, 0) == 7 && zelamiku_heap_close(heap) == ZELAMIKU_OK);
+    MUST(unlink("copy of a volume") == 0 && unlink("volume") == 0);
+}
+
 int main(int argc, char **argv) {
     unsigned inherited, before = descriptors(&inherited);
     MUST(argc == 2 && chdir(argv[1]) == 0);
@@ -877,6 +930,7 @@ int main(int argc, char **argv) {
     at_once();
     links();
     astray();
+    volumes();
     closed_by_the_program(0, NULL);
     closed_by_the_program(0, "notes");
     closed_by_the_program(0, "heap");
@@ -887,7 +941,7 @@ int main(int argc, char **argv) {
     life();
     old();
     MUST(copies() > copy_calls && descriptors(&inherited) == before);
-    printf("file: lives, an old image, other opens, large files, rings, the helper's lane, links, a file that goes, one that the program closes, a fault at each of %d calls of a making, %d of a round and %d of a copy, "
+    printf("file: lives, an old image, other opens, a block device, large files, rings, the helper's lane, links, a file that goes, one that the program closes, a fault at each of %d calls of a making, %d of a round and %d of a copy, "
            "%d crashes of a making, %d of one in place, %d kills (%d before the heap was there), and calls that are short and interrupted\n",
            makings, calls, copy_calls, crashes, old_crashes, 2 * makings + TIMED_KILLS, killed);
     return 0;
