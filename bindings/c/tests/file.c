@@ -6,8 +6,10 @@
 #define _GNU_SOURCE
 #include <errno.h>
 #include <fcntl.h>
+#include <pthread.h>
 #include <signal.h>
 #include <stdarg.h>
+#include <stdbool.h>
 #include <stdint.h>
 #include <stdio.h>
 #include <stdlib.h>
@@ -19,6 +21,7 @@
 #include <sys/stat.h>
 #include <sys/types.h>
 #include <sys/wait.h>
+#include <time.h>
 #include <unistd.h>
 
 static int fails_in;       /* which write, sync or rename from now on fails; 0: none */
@@ -111,6 +114,26 @@ static int flaky_rename(const char *from, const char *to) {
     return rename(from, to);
 }
 
+/* The open of "slow" doesn't return before it may, or a minute has passed: before the file is open, or after. */
+enum { AT_ONCE, OPENS_LATE, RETURNS_LATE };
+static int slowness;
+static _Atomic bool is_slow, may_return;
+
+static void be_slow(const char *path, int when) {
+    if (slowness != when || strcmp(path, "slow") != 0) return;
+    is_slow = true;
+    for (int tries = 0; !may_return && tries < 60000; tries++) (void)usleep(1000);
+    is_slow = false;
+}
+
+static int releasing_nanosleep(const struct timespec *time, struct timespec *left);
+
+static int fstat_error; /* what fstat fails with */
+
+static int flaky_fstat(int file, struct stat *info) {
+    return fstat_error != 0 ? (errno = fstat_error, -1) : fstat(file, info);
+}
+
 static mode_t mode_made; /* that of the last file which was made, before any umask */
 
 static int flaky_open(const char *path, int flags, ...) {
@@ -120,7 +143,10 @@ static int flaky_open(const char *path, int flags, ...) {
     va_end(more);
     if ((flags & O_CREAT) != 0) mode_made = mode;
     if ((flags & O_DIRECTORY) != 0 && folder_error == EACCES) return errno = EACCES, -1;
-    return is_interrupted() ? -1 : open(path, flags, mode);
+    be_slow(path, OPENS_LATE);
+    int file = is_interrupted() ? -1 : open(path, flags, mode);
+    if (file >= 0) be_slow(path, RETURNS_LATE);
+    return file;
 }
 
 static int replacing_flock(int file, int how) {
@@ -145,6 +171,8 @@ static void *watched_malloc(size_t size) {
 #define open flaky_open
 #define flock(file, how) replacing_flock(file, how)
 #define malloc watched_malloc
+#define fstat flaky_fstat
+#define nanosleep releasing_nanosleep
 #include "../zelamiku_threads.c"
 #undef pwrite
 #undef pread
@@ -152,6 +180,8 @@ static void *watched_malloc(size_t size) {
 #undef open
 #undef flock
 #undef malloc
+#undef fstat
+#undef nanosleep
 
 #include "must.h"
 
@@ -464,6 +494,16 @@ static int failing_makings(void) {
     }
 }
 
+/* The system doesn't say which file was made beside: nothing is left there. */
+static void unknown_drafts(void) {
+    zelamiku_heap heap;
+    remove_file();
+    fstat_error = EIO;
+    MUST(open_heap(&heap) == ZELAMIKU_DEVICE && zelamiku_heap_error() == EIO && is_missing("heap") && is_missing(BESIDE_IT));
+    fstat_error = 0;
+    MUST(found() == 5);
+}
+
 /* Each write and sync of one round fails in turn, by the bare calls: a write is made again, and a sync lets the heap go. What was acknowledged
  * before stays. Answers how many calls there were. */
 static int failing_rounds(void) {
@@ -663,6 +703,55 @@ static void at_once(void) {
         }
         MUST(counts[2] == 1 && counts[1] == 0 && counts[3] == 0 && is_missing(BESIDE_IT));
     }
+}
+
+static void *open_slowly(void *data) {
+    zelamiku_heap heap;
+    MUST(zelamiku_heap_open(&heap, "slow", &plan, NULL) == ZELAMIKU_OK && zelamiku_heap_close(heap) == ZELAMIKU_OK);
+    return data;
+}
+
+/* Who forks waits: the open goes on, and its file is listed. */
+static int releasing_nanosleep(const struct timespec *time, struct timespec *left) {
+    if (slowness != RETURNS_LATE) return nanosleep(time, left);
+    may_return = true;
+    while (opens_underway > 0) (void)usleep(1000);
+    return 0;
+}
+
+/* Whether a child that is forked now has the file at the path. */
+static bool child_has(const char *path) {
+    struct stat named, its;
+    int status = 0;
+    MUST(stat(path, &named) == 0);
+    pid_t child = fork();
+    MUST(child >= 0);
+    if (child == 0) {
+        for (int file = 0; file < 100; file++)
+            if (fstat(file, &its) == 0 && its.st_ino == named.st_ino && its.st_dev == named.st_dev) _exit(1);
+        _exit(0);
+    }
+    MUST(waitpid(child, &status, 0) == child && WIFEXITED(status));
+    return WEXITSTATUS(status) != 0;
+}
+
+/* An open that hangs, as on a server that doesn't answer, keeps no other heap of the process waiting, and no fork. One that has just opened its file
+ * when another thread forks is waited for: the child would keep the file's lock, of which it knows nothing. */
+static void slow_opens(void) {
+    make_file_of("slow", "", 0, 0600);
+    for (int when = OPENS_LATE; when <= RETURNS_LATE; when++) {
+        pthread_t opener;
+        is_slow = may_return = false;
+        slowness = when;
+        MUST(pthread_create(&opener, NULL, open_slowly, NULL) == 0);
+        UNTIL(is_slow);
+        if (when == OPENS_LATE) life();
+        MUST(!child_has("slow") && (when == RETURNS_LATE || is_slow));
+        may_return = true;
+        MUST(pthread_join(opener, NULL) == 0);
+    }
+    slowness = AT_ONCE;
+    MUST(unlink("slow") == 0);
 }
 
 /* ---- names ---- */
@@ -927,7 +1016,9 @@ int main(int argc, char **argv) {
     int makings = failing_makings(), calls = failing_rounds(), crashes = cut_off_makings(), old_crashes = old_makings();
     int killed = killed_makings(makings), copy_calls = copies();
     MUST(makings > 5 && calls > 4 && copy_calls > 3 && killed >= 2);
+    unknown_drafts();
     at_once();
+    slow_opens();
     links();
     astray();
     volumes();

@@ -673,6 +673,20 @@ static void shapes(void) {
     MUST(zelamiku_format(&handle, OBJECTS, fields, FIELDS, 3, 2000, 3, ZELAMIKU_MOST_RING + 1, &size) == ZELAMIKU_RING && !handle.is_open);
 }
 
+/* A thread of a heap that had the place before was kept from running since it has looked at its handle, and writes that it is busy into a lane of
+ * this heap, which nobody has. */
+static void stale(void) {
+    zelamiku_heap heap;
+    zelamiku_thread own;
+    zelamiku_plan small = {.fields = fields, .count = 1, .objects = 1, .lanes = 1, .capacity = 2000};
+    MUST(zelamiku_heap_open(&heap, "stale", &small, NULL) == ZELAMIKU_OK);
+    for (int i = 0; i < 2; i++) {
+        MUST(zelamiku_thread_begin(&own, heap) == ZELAMIKU_OK && zelamiku_thread_end(own) == ZELAMIKU_OK);
+        __atomic_store_n(&ZELAMIKU_OWN_OF(own)->is_busy, 1, __ATOMIC_SEQ_CST);
+    }
+    MUST(zelamiku_heap_close(heap) == ZELAMIKU_OK);
+}
+
 /* As many heaps as there may be are open, and then one too many. Each is asked what it dropped, and leaves its place when it is closed. */
 static void open_all(const zelamiku_plan *small) {
     zelamiku_heap heaps[ZELAMIKU_MOST_HEAPS];
@@ -734,6 +748,7 @@ int main(int argc, char **argv) {
     abandoned();
     forks();
     no_streams();
+    stale();
     full();
     printf("wrong calls: %u, of which %u were answered wrongly\n", calls, wrong);
     return wrong == 0 ? 0 : 1;

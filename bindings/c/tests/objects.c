@@ -1,0 +1,115 @@
+/* Tests of the library's built objects: a second copy of the library in a process, one that is unloaded while its heap is open, and a fork beside the
+ * program's own fork handlers.
+ *
+ *     objects FOLDER COPY      COPY is a shared object of the library, which this program isn't linked with */
+#include <dlfcn.h>
+#include <pthread.h>
+#include <stdatomic.h>
+#include <string.h>
+#include <sys/wait.h>
+#include "must.h"
+
+enum { FORKS = 300 };
+static const zelamiku_field FIELD = {0, 0, 0, 0};
+static const zelamiku_plan PLAN = {.fields = &FIELD, .count = 1, .objects = 1, .lanes = 2, .capacity = 2000, .ring = 4096};
+
+/* The calls of the copy. */
+static void *copy;
+static zelamiku_status (*copy_open)(zelamiku_heap *, const char *, const zelamiku_plan *, zelamiku_report *);
+static zelamiku_status (*copy_close)(zelamiku_heap);
+static const char *(*copy_message)(void);
+
+static void *symbol(const char *name) {
+    void *found = dlsym(copy, name);
+    MUST(found != NULL);
+    return found;
+}
+
+static void load_copy(const char *path) {
+    copy = dlopen(path, RTLD_NOW | RTLD_LOCAL);
+    if (copy == NULL) fprintf(stderr, "%s\n", dlerror());
+    MUST(copy != NULL);
+    *(void **)&copy_open = symbol("zelamiku_heap_open");
+    *(void **)&copy_close = symbol("zelamiku_heap_close");
+    *(void **)&copy_message = symbol("zelamiku_heap_message");
+    MUST(copy_open != zelamiku_heap_open);
+}
+
+static void add(zelamiku_heap heap) {
+    zelamiku_thread own;
+    OK(zelamiku_thread_begin(&own, heap));
+    OK(zelamiku_thread_enter(own, 0));
+    OK(zelamiku_thread_store(own, 0, 7));
+    OK(zelamiku_thread_exit(own, 0));
+    OK(zelamiku_thread_await(own));
+    OK(zelamiku_thread_end(own));
+}
+
+static bool says_why(const char *message) {
+    return strstr(message, "another copy of the library has the lanes of this process; load one copy alone") != NULL;
+}
+
+/* The copy opens its heap first: the program's own library opens none. The copy is unloaded meanwhile, and its heap goes on. */
+static int copy_is_first(void) {
+    zelamiku_heap heap, other;
+    MUST(copy_open(&heap, "copy.heap", &PLAN, NULL) == ZELAMIKU_OK);
+    MUST(zelamiku_heap_open(&other, "own.heap", &PLAN, NULL) == ZELAMIKU_NONE_LEFT && says_why(zelamiku_heap_message()));
+    MUST(access("own.heap", F_OK) != 0 && dlclose(copy) == 0);
+    (void)usleep(20000); /* in which its helper looks at the heap */
+    MUST(copy_close(heap) == ZELAMIKU_OK);
+    return 0;
+}
+
+static pthread_mutex_t own_mutex = PTHREAD_MUTEX_INITIALIZER; /* the program's, held over a fork */
+static zelamiku_heap own_heap;
+static atomic_bool is_over;
+
+static void hold(void) {
+    (void)pthread_mutex_lock(&own_mutex);
+}
+
+static void let_go(void) {
+    (void)pthread_mutex_unlock(&own_mutex);
+}
+
+static void *begin_and_end(void *data) {
+    while (!is_over) {
+        zelamiku_thread own;
+        hold();
+        MUST(zelamiku_thread_begin(&own, own_heap) == ZELAMIKU_OK && zelamiku_thread_end(own) == ZELAMIKU_OK);
+        let_go();
+    }
+    return data;
+}
+
+/* Threads begin and end their use of the heap under a mutex of the program's, which its handlers hold over each fork: none waits for ever. */
+static void forks(void) {
+    pthread_t thread;
+    MUST(pthread_create(&thread, NULL, begin_and_end, NULL) == 0);
+    for (int i = 0; i < FORKS; i++) {
+        int status = 0;
+        pid_t child = fork();
+        if (child == 0) _exit(0);
+        MUST(child > 0 && waitpid(child, &status, 0) == child && status == 0);
+    }
+    is_over = true;
+    MUST(pthread_join(thread, NULL) == 0);
+}
+
+int main(int argc, char **argv) {
+    zelamiku_heap other;
+    int status = 0;
+    MUST(argc == 3 && chdir(argv[1]) == 0 && pthread_atfork(hold, let_go, let_go) == 0);
+    (void)alarm(240); /* what hangs ends */
+    load_copy(argv[2]);
+    pid_t child = fork();
+    if (child == 0) _exit(copy_is_first());
+    MUST(child > 0 && waitpid(child, &status, 0) == child && status == 0);
+    OK(zelamiku_heap_open(&own_heap, "own.heap", &PLAN, NULL));
+    MUST(copy_open(&other, "copy.heap", &PLAN, NULL) == ZELAMIKU_NONE_LEFT && says_why(copy_message()));
+    add(own_heap);
+    forks();
+    OK(zelamiku_heap_close(own_heap));
+    printf("objects: a second copy of the library before and after, one that is unloaded, and %d forks beside the program's handlers\n", FORKS);
+    return 0;
+}
