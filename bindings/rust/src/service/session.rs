@@ -286,6 +286,15 @@ impl Session {
         Ok(())
     }
 
+    // What an exit comes to that was refused, or whose section was taken back.
+    #[cold]
+    fn left(&mut self, status: u32) -> Result<(), Error> {
+        let goes_on = self.goes_on();
+        // The next section is none of that.
+        self.is_taken_back &= self.thread.is_open();
+        self.answer(status).and(goes_on)
+    }
+
     // The open section has failed: it is taken back, or the next opening drops it.
     fn take_back(&mut self) {
         let status = self.thread.revert();
@@ -823,19 +832,17 @@ impl Held<'_> {
     /// ```
     #[inline]
     pub fn exit(self) -> Result<(), Error> {
-        let mut held = ManuallyDrop::new(self);
-        let goes_on = held.session.goes_on();
-        held.leave()?;
-        goes_on
+        ManuallyDrop::new(self).leave()
     }
 
     // Frees one lock. One that a wait has lost with its heap isn't there any more, and is refused.
     #[inline]
     fn leave(&mut self) -> Result<(), Error> {
         let status = self.session.thread.exit(self.object.0);
-        // The next section is none of that.
-        self.session.is_taken_back &= self.session.thread.is_open();
-        self.session.answer(status)
+        if status == OK && !self.session.is_taken_back {
+            return Ok(());
+        }
+        self.session.left(status)
     }
 }
 
