@@ -373,7 +373,7 @@ uint64_t zelamiku_now(void);
 /* ---- a device of your own ----
  *
  * A heap needn't lie in a file. Whatever has bytes that are read, written and synced can keep one: a volume, an NBD export
- * (zelamiku_nbd.h), a region of another file. The host gives four functions, and the library calls them as SQLite calls a VFS. Each
+ * (examples/c/nbd.c), a region of another file. The host gives four functions, and the library calls them as SQLite calls a VFS. Each
  * answers
  *   OK      it is done
  *   DEVICE  it isn't, and may be tried again. What the device has kept it keeps; of the bytes of this write it has any, or none

@@ -1,4 +1,4 @@
-/* What the programs of tools/power-cuts do that count in a heap with four threads: counts.c, and counts_nbd.c.
+/* What counts.c does, which counts in a heap with four threads.
  *
  * A section of thread t adds one to its counter, to that of another object and to the total, and puts t and its count beside the total.
  * Once it is durable the thread tells `t COUNT` by the port, which outlives the power cut. `made` is told once the heap is there. A look

@@ -110,12 +110,6 @@ def is_installed(command):
     return shutil.which(command, path=PATHS) is not None
 
 
-def has_nbd():
-    """Whether a server and a client of network block devices are installed."""
-    asked = subprocess.run(["cc", "-E", "-x", "c", "-", "-o", os.devnull], input="#include <libnbd.h>\n", capture_output=True, text=True, check=False)
-    return is_installed("nbdkit") and asked.returncode == 0
-
-
 def kernels():
     """The kernels of /boot that can be read and have modules, the newest last."""
     found = sorted(glob.glob("/boot/vmlinuz-*"), key=lambda path: [int(it) if it.isdigit() else 0 for it in re.split(r"\D+", path)])
@@ -302,7 +296,7 @@ class Guest:
 
 
 class Parts:
-    """What guests are made of, in a folder. The programs of `needs` (cargo, python, nbd) are among them."""
+    """What guests are made of, in a folder. The programs of `needs` (cargo, python) are among them."""
 
     def __init__(self, folder, needs, has_kvm):
         is_built = os.path.exists(PROGRAM) and os.path.exists(f"{LIBRARY}/libzelamiku.a")
@@ -318,11 +312,6 @@ class Parts:
         programs += [self.rust_program()] if "cargo" in needs else []
         programs += [BANK] if "bank" in needs else []
         files = self.python_files() if "python" in needs else []
-        if "nbd" in needs:
-            sources = f"{HERE}/counts_nbd.c", f"{TOP}/bindings/c/zelamiku_nbd.c"
-            must_run("cc", *flags, *sources, *linked, "-lnbd", "-o", f"{folder}/counts_nbd")
-            programs += [shutil.which("nbdkit", path=PATHS)]
-            files += [re.search(r"plugindir=(.*)", must_run("nbdkit", "--dump-config"))[1] + "/nbdkit-file-plugin.so"]
         self.make_machine(programs, files)
 
     def make_machine(self, programs, files):
@@ -336,9 +325,7 @@ class Parts:
         own = copy.copy(self)
         own.folder = f"{self.folder}/{number}"
         os.mkdir(own.folder)
-        for name in ("cutdisk", "counts_nbd"):
-            if os.path.exists(f"{self.folder}/{name}"):
-                os.link(f"{self.folder}/{name}", f"{own.folder}/{name}")
+        os.link(f"{self.folder}/cutdisk", f"{own.folder}/cutdisk")
         return own
 
     def name(self):

@@ -120,12 +120,8 @@ class Trial:
 
     def switched_on(self):
         if self.guest is None:
-            self.guest = self.parts.guest(self.disk, self.run.disk, self.run.system, self.work.memory, self.port())
+            self.guest = self.parts.guest(self.disk, self.run.disk, self.run.system, self.work.memory)
         return self.guest
-
-    def port(self):
-        """A port of this machine by which a new machine serves; 0: it has no network."""
-        return 0
 
     def cut(self):
         guest, self.guest = self.guest, None

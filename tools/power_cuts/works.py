@@ -29,7 +29,6 @@ class Work:
     absent: tuple = ("no heap", "not formatted", "No such file")  # what is said where there is no heap yet
     needs: str = ""
     memory: int = 400  # megabytes
-    is_served: bool = False  # to a host on this machine, which has the heap
     adds_up: object = first_is_sum  # whether the total and the parts, or all values, do
     has_history: bool = False  # each section is told, and a heap has to be that of a closed set of them
     again: str = ""  # after a failure, in the same mount: a program that prints the heap which is durable then
@@ -141,16 +140,6 @@ WORKS = {
         needs="python",
         memory=640,
     ),
-    # After these looks a host looks twice, over the network.
-    "a file, served": Work(
-        "serve /mnt/export",
-        ("try show 520 heapctl show --image /mnt/export",),
-        EMPTY.format("export"),
-        tells=True,
-        needs="nbd",
-        is_served=True,
-    ),
-    "a device, served": Work("serve /dev/data", ("try show 520 heapctl show --image /dev/data",), tells=True, needs="nbd", is_served=True),
 }
 
 
@@ -202,10 +191,6 @@ FEW_NATIVE = {
     "control": [Run("threads", without=2)],
 }
 WHOLE = {
-    "network": [
-        Run("a file, served", states=40, in_recovery=16, true=15),
-        Run("a device, served", "none", states=20, true=7),
-    ],
     "machines": [
         Run("set", "f2fs", states=40),
         Run("drive", "f2fs", states=50, in_recovery=16),
@@ -272,7 +257,7 @@ WHOLE = {
     ],
     "control": [
         *(Run(work, without=number) for number in (1, 2) for work in ("threads", "histories")),
-        *(Run(work, lies=True) for work in ("threads", "histories", "drive", "set", "a file, served")),
+        *(Run(work, lies=True) for work in ("threads", "histories", "drive", "set")),
         # (each ends once it is seen: in ten of thirteen runs within 60 failures, at the latest within some 130 where it went on)
         *(Run(work, failures=240, fails=("write", "flush"), is_unmended=True) for work in ("drive", "threads")),
         Run("two places", failures=240, fails=("write",), torn=3, is_unmended=True),
