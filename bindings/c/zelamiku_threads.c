@@ -10,7 +10,7 @@
  *
  * Two locks: the registry's mutex, one for all heaps, has the places of heaps and every descriptor that a fork has to close; a heap's
  * mutex has what its threads tell each other. Who takes both takes the heap's first. No device's call, log hook or allocation is made
- * under either, but for the opening of a file under the registry's. Members that are _Atomic are read and written in one order that all
+ * under either, and no file is opened: each may hang. Members that are _Atomic are read and written in one order that all
  * threads see, as the library's steps on a monitor are. Other members say whose they are: "mutex" of who has the heap's mutex, "leads" of
  * who leads, "own" of the thread that has the lane. */
 

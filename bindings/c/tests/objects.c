@@ -1,5 +1,5 @@
-/* Tests of the library's built objects: a second copy of the library in a process, one that is unloaded while its heap is open, and a fork beside the
- * program's own fork handlers.
+/* Tests of the library's built objects: a second copy of the library in a process, one that is unloaded while its heap is open, a fork beside the
+ * program's own fork handlers, and threads with small stacks.
  *
  *     objects FOLDER COPY      COPY is a shared object of the library, which this program isn't linked with */
 #include <dlfcn.h>
@@ -96,6 +96,43 @@ static void forks(void) {
     MUST(pthread_join(thread, NULL) == 0);
 }
 
+static void *open_small(void *data) {
+    OK(zelamiku_heap_open(&own_heap, "small.heap", &PLAN, NULL));
+    return data;
+}
+
+static void *add_small(void *data) {
+    add(own_heap);
+    return data;
+}
+
+static void *copy_small(void *data) {
+    OK(zelamiku_heap_copy(own_heap, "small.copy"));
+    return data;
+}
+
+static void *close_small(void *data) {
+    OK(zelamiku_heap_close(own_heap));
+    return data;
+}
+
+static void on_stack_of(size_t kilobytes, void *(*what)(void *)) {
+    pthread_attr_t small;
+    pthread_t thread;
+    MUST(pthread_attr_init(&small) == 0 && pthread_attr_setstacksize(&small, kilobytes * 1024) == 0);
+    MUST(pthread_create(&thread, &small, what, NULL) == 0 && pthread_join(thread, NULL) == 0 && pthread_attr_destroy(&small) == 0);
+}
+
+/* As much stack as zelamiku.h says is enough: for a heap that is made, and for one that is recovered. */
+static void small_stacks(void) {
+    for (int opened = 0; opened < 2; opened++) {
+        on_stack_of(256, open_small);
+        on_stack_of(32, add_small);
+        on_stack_of(64, copy_small);
+        on_stack_of(256, close_small);
+    }
+}
+
 int main(int argc, char **argv) {
     zelamiku_heap other;
     int status = 0;
@@ -110,6 +147,7 @@ int main(int argc, char **argv) {
     add(own_heap);
     forks();
     OK(zelamiku_heap_close(own_heap));
-    printf("objects: a second copy of the library before and after, one that is unloaded, and %d forks beside the program's handlers\n", FORKS);
+    small_stacks();
+    printf("objects: a second copy of the library before and after, one that is unloaded, %d forks beside the program's handlers, small stacks\n", FORKS);
     return 0;
 }

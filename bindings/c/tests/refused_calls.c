@@ -52,6 +52,13 @@ static int refused_open(const char *path, int flags, ...) {
     va_end(words);
     return refuses(EACCES) ? -1 : open(path, flags, mode);
 }
+static int refused_fcntl(int file, int how, ...) {
+    va_list words;
+    va_start(words, how);
+    int word = how != F_GETSIG ? va_arg(words, int) : 0;
+    va_end(words);
+    return how == F_SETSIG && refuses(ENOMEM) ? -1 : fcntl(file, how, word);
+}
 static int refused_stat(const char *path, struct stat *info) {
     return refuses(EIO) ? -1 : stat(path, info);
 }
@@ -75,6 +82,9 @@ static int refused_fsync(int file) {
 }
 static void fork_now(void);
 static bool forks; /* at the next rename */
+static int refused_syncfs(int file) {
+    return refuses(EIO) ? -1 : syncfs(file);
+}
 static int refused_rename(const char *from, const char *to) {
     if (forks) fork_now();
     return refuses(EIO) ? -1 : rename(from, to);
@@ -114,6 +124,7 @@ static long refused_syscall(long number, long answer) {
 #define aligned_alloc refused_aligned
 #define strdup refused_strdup
 #define open refused_open
+#define fcntl refused_fcntl
 #define stat(path, info) refused_stat(path, info)
 #define fstat refused_fstat
 #define flock(file, how) refused_flock(file, how)
@@ -121,6 +132,7 @@ static long refused_syscall(long number, long answer) {
 #define pwrite refused_pwrite
 #define fdatasync refused_fdatasync
 #define fsync refused_fsync
+#define syncfs refused_syncfs
 #define rename refused_rename
 #define realpath refused_realpath
 #define readlink refused_readlink
@@ -134,6 +146,7 @@ static long refused_syscall(long number, long answer) {
 #include "../zelamiku_threads.c"
 #undef stat
 #undef open
+#undef fcntl
 #undef rename
 
 #define MUST(is_so) \
@@ -160,9 +173,9 @@ static bool is_missing(const char *path) {
 
 static zelamiku_status told; /* what the first call of this life that failed returned */
 
-/* Whether the status and its cause are those of the call that was refused. BUSY: it isn't known whether the path leads to the file still. */
+/* Whether the status and its cause are those of the call that was refused. */
 static bool is_of_refusal(zelamiku_status status) {
-    if (status == ZELAMIKU_BUSY || (status == ZELAMIKU_NO_MEMORY && with == ENOMEM)) return true;
+    if (status == ZELAMIKU_NO_MEMORY && with == ENOMEM) return true;
     return (status == ZELAMIKU_NO_MEMORY || status == ZELAMIKU_DEVICE || status == ZELAMIKU_LOST) && zelamiku_heap_error() == with;
 }
 
