@@ -11,7 +11,7 @@ use Rattle.session.specs.Logs.{held_count}
 use Rattle.session.specs.Sessions.{view_of}
 use Rattle.session.specs.declared.error.SessionError.{SessionError}
 use Rattle.session.specs.declared.session.Session.{Session}
-use Rattle.ledger.specs.Orders.{spelled}
+use Rattle.ledger.specs.Orders.{IsInRange, spelled}
 use Rattle.ledger.specs.Transfers.{HasMade, HasStoredNothing, IsRefusedAMonitor, LacksAccount, monitors_of}
 use Rattle.ledger.specs.declared.answer.Answer.{Answer}
 use Rattle.ledger.specs.declared.answer.Answer.TheVariants.{Durable, NotDurable, NoTransfer, NoAccount, TooLittle, TooMuch, Stopped}
@@ -42,6 +42,10 @@ text_of Stopped = codes "not made"
 pub record AsksFor (request : Request (List ℕ)) (o : Order) : Type 0 where
   pub method : (head_of request).method ≡ codes "POST"
   pub path : uri_path (head_of request).uri ≡ spelled o
+
+-- The request asks for no order.
+abbrev pub AsksForNone : (request : Request (List ℕ)) → Type 0
+AsksForNone request = (o : Order) → IsInRange o → AsksFor request o → ⊥
 
 -- The order was made in one section, and the thread has slept until that was durable.
 pub record IsMadeDurably (h : Home) (x : Session) (o : Order) (y : Session) : Type 0 where
@@ -101,7 +105,7 @@ IsAnswer h x o y TooLittle = IsFound h x o y made.TooLittle
 IsAnswer h x o y TooMuch = IsFound h x o y made.TooMuch
 IsAnswer h x o y Stopped = IsStopped h x o y
 
--- a request that asks for no order
+-- nothing was asked for
 pub record IsUnasked (x y : Session) (answer : Answer) : Type 0 where
   -- A request for no order is answered 400.
   pub none : answer ≡ NoTransfer
@@ -112,5 +116,5 @@ pub record Answers (h : Home) (x : Session) (request : Request (List ℕ)) (resp
   pub answer : Answer
   -- A response has the status of its answer, no header, and the text that says whether the transfer was made.
   pub sent : IsResponse (status_of answer) [] (text_of answer) response
-  -- A request gets the answer of the order that it asks for.
-  pub asked : ((o : Order) × AsksFor request o × IsAnswer h x o y answer) ⊎ IsUnasked x y answer
+  -- A request gets the answer of the order that it asks for. It is taken for none only where it asks for none.
+  pub asked : ((o : Order) × AsksFor request o × IsAnswer h x o y answer) ⊎ (AsksForNone request × IsUnasked x y answer)

@@ -1,7 +1,7 @@
 //! A thread's accounts, as a service.
-ghost use Rattle.std.specs.Prelude.{◌≡◌, ◌⊎◌, IfOk, IfSome, MatchOption};
+ghost use Rattle.std.specs.Prelude.{◌≡◌, ◌⊎◌, IfOk, MatchOption};
 ghost use Rattle.thread_work.specs.Threads.{IsDurable, IsUnsettled};
-ghost use Rattle.ledger.specs.Answers.{Answers, AsksFor, IsAnswer, IsUnasked};
+ghost use Rattle.ledger.specs.Answers.{Answers, AsksFor, AsksForNone, IsAnswer, IsUnasked};
 ghost use Rattle.ledger.specs.declared.answer.Answer.TheVariants.{Durable, NotDurable};
 
 use crate::answer::Answer;
@@ -49,7 +49,8 @@ impl<'t, 'a, J: Joint, R: Wait> Service for Accounts<'t, 'a, J, R> {
 
 // The order that a request asks for.
 fn order_in(alloc: Global, request: &Request<Bytes>) -> Result<Option<Order>, AllocError>
-    ensures { IfOk result (λ found. IfSome found (AsksFor request.now)) }
+    // A request is taken for no order only where it asks for none.
+    ensures { IfOk result (λ found. MatchOption found (AsksForNone request.now) (AsksFor request.now)) }
 {
     if request.method().as_str() != "POST" {
         return Ok(None);
