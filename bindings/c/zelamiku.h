@@ -317,13 +317,16 @@ int zelamiku_heap_error(void);
  * A heap that is made by a plan with a fingerprint has one field more, the last: transient, of object 0, with the fingerprint as its first
  * value. The report doesn't count it, and a program has no use of it: a store there lasts until the heap is closed, and changes no
  * fingerprint. A heap without one, with as many fields as the plan, is opened too.
- * BUSY: another process has the heap, or makes one there, or has locked the file, as whoever may read it can; or this one has it open already (by device and inode: another name of the file is
- * the same; also where the program has closed that heap's descriptor: close that heap first), or the file was replaced meanwhile. OTHER_HEAP: the file's heap isn't that of the plan: the report has the first difference.
+ * BUSY: another process has the heap, makes one there, or has locked the file, as whoever may read it can. Or this process has it open
+ * already, by this name or another one; close that heap first, also where the program has closed its descriptor. Or the file was replaced
+ * meanwhile.
+ * OTHER_HEAP: the file's heap isn't that of the plan: the report has the first difference.
  * NOT_FORMATTED: the file has something else, also a heap whose first bytes were damaged; or there is no heap, and by the plan there must be.
- * DEVICE: it can't be opened, made, locked, read or written, or its folder can't be synced: zelamiku_heap_error has the cause. These, and what zelamiku_open and
- * zelamiku_format answer, leave a file that was there as it was, and no file where there was none; but where a new heap's folder can't be
- * synced (DEVICE) a file that was free may be one with the heap. NONE_LEFT: 255 heaps are open, or another copy of the library has the lanes of this process. NO_MEMORY: no memory, or no thread could be
- * started. */
+ * DEVICE: it can't be opened, made, locked, read or written, or its folder can't be synced: zelamiku_heap_error has the cause.
+ * These, and what zelamiku_open and zelamiku_format return, leave a file that was there as it was, and no file where there was none; but where
+ * a new heap's folder can't be synced (DEVICE) a file that was free may be one with the heap.
+ * NONE_LEFT: 255 heaps are open, or another copy of the library has the lanes of this process.
+ * NO_MEMORY: no memory, or no thread could be started. */
 ZELAMIKU_MUST_USE zelamiku_status zelamiku_heap_open(zelamiku_heap *heap, const char *path, const zelamiku_plan *plan,
                                                      zelamiku_report *report);
 

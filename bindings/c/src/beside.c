@@ -4,8 +4,8 @@
  * Else a draft is its caller's own. What keeps other processes out are locks of the system on the files (flock). */
 /* ---- locks and paths ---- */
 
-/* Opens a file whose descriptor the registry has: as soon as it is open, for a fork, which waits for `opens_underway`. No mutex is held, since an open
- * may hang. A file that was made for this is removed where it has no descriptor. */
+/* Opens a file whose descriptor the registry has: as soon as it is open, for a fork, which waits for `opens_underway`. No mutex is held,
+ * because an open may hang. A file that was made for this is removed where it has no descriptor. */
 static bool open_listed(int *descriptor, const char *path, int flags, mode_t mode) {
     opens_underway++;
     int file = AGAIN(open(path, flags | O_CLOEXEC | O_NOCTTY | O_NONBLOCK, mode));

@@ -27,7 +27,7 @@ static void forked(void) {
     (void)pthread_mutex_unlock(&registry);
 }
 
-/* A file that is being opened is waited for: until then the child wouldn't know that it has it. An open that hangs is waited for only so long. */
+/* Waits for files that are being opened: a child must know each file that it has, to close it. It waits only so long, because an open may hang. */
 static void before_fork(void) {
     pthread_mutex_lock(&registry);
     for (unsigned naps = 0; opens_underway > 0 && naps < OPENING_NAPS; naps++) nap(NAP);

@@ -162,8 +162,8 @@ static void tell_end_of_rounds(heap *of) {
     tell_all(of);
 }
 
-/* Under the mutex: whether the lane's thread is inside of a section or a call. A thread of a heap that had the place before may have been kept from
- * running since it has looked at its handle, and then write `is_busy` here. In a lane that nobody has that means nothing. */
+/* Under the mutex: whether the lane's thread is inside of a section or a call. A thread of a heap that had the place before may have been kept
+ * from running since it looked at its handle, and then write `is_busy` here. In a lane that nobody has, that means nothing. */
 static bool is_inside(const seat *own) {
     return own->is_lent && own->is_busy;
 }

@@ -90,11 +90,11 @@ static void bad_paths(void) {
     IS(zelamiku_heap_open(&heap, "", &plan, NULL), DEVICE, "No such file");
     IS(zelamiku_heap_open(&heap, "no such folder/heap", &plan, NULL), DEVICE, "no such folder/heap: open: it can't be opened: No such file");
     IS(zelamiku_heap_open(&heap, ".", &plan, NULL), DEVICE, "Is a directory");
-    IS(zelamiku_heap_open(&heap, "/dev/null", &plan, NULL), DEVICE, "it is no regular file");
-    IS(zelamiku_heap_open(&heap, "/dev/full", &plan, NULL), DEVICE, "it is no regular file");
+    IS(zelamiku_heap_open(&heap, "/dev/null", &plan, NULL), DEVICE, "it is neither a regular file nor a block device");
+    IS(zelamiku_heap_open(&heap, "/dev/full", &plan, NULL), DEVICE, "it is neither a regular file nor a block device");
     IS(zelamiku_heap_open(&heap, longest, &plan, NULL), DEVICE, "File name too long");
     MUST(mkfifo("fifo", 0600) == 0 && symlink("circle", "circle") == 0 && symlink("nowhere/at all", "dangling") == 0);
-    IS(zelamiku_heap_open(&heap, "fifo", &plan, NULL), DEVICE, "it is no regular file");
+    IS(zelamiku_heap_open(&heap, "fifo", &plan, NULL), DEVICE, "it is neither a regular file nor a block device");
     IS(zelamiku_heap_open(&heap, "circle", &plan, NULL), DEVICE, "Too many levels");
     IS(zelamiku_heap_open(&heap, "dangling", &plan, NULL), DEVICE, "No such file");
     MUST(zelamiku_heap_error() == ENOENT);

@@ -262,7 +262,7 @@ class Openings(OnFile):
         with self.assertRaises(zelamiku.NotAHeap):
             self.open()
         self.assertEqual(os.path.getsize(self.path), 5000)
-        cases = ((str(self.folder / "none" / "a.heap"), "No such file"), (str(self.folder), "Is a directory"), ("/dev/null", "no regular file"))
+        cases = ((str(self.folder / "none" / "a.heap"), "No such file"), (str(self.folder), "Is a directory"), ("/dev/null", "neither a regular file"))
         for path, text in cases:
             with self.assertRaisesRegex(zelamiku.FileError, text) as caught:
                 zelamiku.open(path, alice=Account)
