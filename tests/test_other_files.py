@@ -11,11 +11,17 @@ word is refused, names the device, and leaves every byte.
 Lost blocks: an image in one place whose file reads what its disk hasn't, as the system leaves one where a write has failed: all its blocks
 are lost beneath an ext4 of blocks of 1,024 bytes. `recover`, `upgrade` and `drive` write them back, so that the image is whole once the
 file system was mounted again.
+
+Lost names: an image whose rename no sync has made durable, as a maker leaves it that was killed before it synced the folder. `recover`,
+`upgrade` and `drive` make the name durable: what they have told is at the path after a power cut, which leaves what the disk was given.
+
+What lies on a replaced image's way to `P~`: what a kill of `format` has left there goes; whatever else it is stays, and `format` is a fault.
 """
 import contextlib
 import fcntl
 import os
 import shutil
+import socket
 import stat
 import struct
 import subprocess
@@ -167,6 +173,50 @@ class Links(InFolder):
         self.assertIsNone(self.litter())
 
 
+# What may lie at a path, and who makes it there. Of a regular file, and of another name of the image, a kill of `format` may have left it.
+PASSING = {
+    "fifo": lambda folder, path: os.mkfifo(path),
+    "folder": lambda folder, path: path.mkdir(),
+    "link": lambda folder, path: path.symlink_to("there"),
+    "link-to-nothing": lambda folder, path: path.symlink_to("nothing"),
+    "socket": lambda folder, path: socket.socket(socket.AF_UNIX).bind(str(path)),
+    "other-file": lambda folder, path: os.link(folder / "there", path),
+}
+LEFT = {"image": lambda folder, path: os.link(folder / "image", path), "file": lambda folder, path: path.write_bytes(b"an older image")}
+
+
+class Passing(InFolder):
+    KNOWN = {"schema", "image", "image~", "there"}
+
+    def made_there(self, make):
+        clear(self.folder)
+        self.schema.write_text(SCHEMA)
+        self.image.write_bytes(self.made())
+        (self.folder / "there").write_bytes(b"somebody's")
+        path = self.folder / "image.heapctl-old"
+        make(self.folder, path)
+        return path
+
+    def test_what_is_somebodys(self):
+        for name, make in PASSING.items():
+            path = self.made_there(make)
+            before = os.lstat(path)
+            ran = self.play(WORDS["format"])
+            is_left = os.path.lexists(path) and (os.lstat(path).st_mode, os.lstat(path).st_ino) == (before.st_mode, before.st_ino)
+            is_told = ran.told.startswith(f"heapctl: fault\nheapctl: {path}: ") and "it stays" in ran.told
+            is_so = ran.status == 1 and is_told and is_left and self.image.read_bytes() == self.made()
+            self.fault(None if is_so else ran, name=name)
+            self.fault(self.litter(path.name), name=name)
+            self.count(things_on_the_way_to_what_is_kept=1)
+
+    def test_what_a_kill_has_left(self):
+        for name, make in LEFT.items():
+            self.made_there(make)
+            ran = self.play(WORDS["format"])
+            self.fault(None if ran.status == 0 and (self.folder / "image~").read_bytes() == self.made() else ran, name=name)
+            self.fault(self.litter(), name=name)
+
+
 def loop_device(path):
     """A block device that has the file's bytes; None where none can be had."""
     try:
@@ -250,3 +300,35 @@ class Stale(InFolder):
                 (there,) = struct.unpack("i", fcntl.ioctl(file, FIBMAP, struct.pack("i", number)))
                 under.seek(there * BLOCK)
                 under.write(bytes(BLOCK))
+
+
+@needs_root
+@unittest.skipUnless(shutil.which("mkfs.ext4"), "no mkfs.ext4 (Debian: e2fsprogs)")
+@each({"recover": WORDS["recover"], "upgrade": WORDS["upgrade"], "drive": "drive --image {image} --rounds 3", "set": WORDS["set"]})
+class Names(InFolder):
+    def check(self, word, text):
+        if subprocess.run(["losetup", "--find"], capture_output=True, check=False).returncode != 0:
+            self.skipTest("no loop device")
+        if word == "drive":
+            self.play(text)
+        image = bytes_of(self.image) if word == "drive" else made_old(self.made()) if word == "upgrade" else self.made()
+        self.put(None)
+        disk, cut, there = self.folder / "disk", self.folder / "cut", self.folder / "there"
+        there.mkdir()
+        self.image = there / "image"
+        for number in range(tries(1)):
+            with open(disk, "wb") as file:
+                file.truncate(8 << 20)
+            subprocess.run(["mkfs.ext4", "-q", "-F", disk], check=True)
+            # (by itself the file system writes nothing for so many seconds)
+            with mounted(there, "-o", "loop,commit=300", disk):
+                (there / "made").write_bytes(image)
+                os.sync()
+                (there / "made").rename(self.image)
+                ran, told = self.play(text), heap_of(self.image)
+                shutil.copyfile(disk, cut)
+            with mounted(there, "-o", "loop", cut):
+                found = heap_of(self.image) if self.image.exists() else None
+            self.count(power_cuts_after_a_rename=1)
+            is_so = ran.status == 0 and found is not None and found == told
+            self.fault(None if is_so else f"{ran}: the heap was {told}, and is {found} after the cut", number=number)

@@ -6,6 +6,7 @@ import fcntl
 import os
 import re
 import time
+from pathlib import Path
 
 from .harness import InFolder, bytes_of, changed, made_old, run
 
@@ -155,6 +156,20 @@ class Scripts(Played):
             self.fails("run --image {image}", IN_USE, "image in use", "", "t1 enter o0\n")
         self.put(b"notes")
         self.fails("run --image {image}", FAULT, "not formatted", "it doesn't begin as an image", "t1 enter o0\n")
+
+    def test_who_has_an_image_is_told(self):
+        self.changes(FORMAT, FORMATTED)
+        with open(self.image, "rb") as other:
+            fcntl.flock(other, fcntl.LOCK_EX)
+            there = os.stat(self.image)
+            named = f"{os.major(there.st_dev):02x}:{os.minor(there.st_dev):02x}:{there.st_ino}"
+            # Some file systems are listed by another device than their metadata have.
+            is_listed = named in Path("/proc/locks").read_text().split()
+            whose = f"{self.image}: process {os.getpid()} has it; wait" if is_listed else "another process has it; wait"
+            for text in ("show --image {image}", "recover --image {image}", "run --image {image}", FORMAT):
+                self.fails(text, IN_USE, "image in use", whose)
+            self.assertIn("a heap in use is copied by the program that has it", self.play("show --image {image}").told)
+        self.count(whose_image_it_is=is_listed)
 
     def test_an_image_is_replaced_before_the_text_is_written(self):
         self.changes(FORMAT, FORMATTED)

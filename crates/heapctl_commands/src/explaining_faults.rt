@@ -4,6 +4,7 @@
 
 use crate::fault::WorkFault;
 use crate::head::{Head, read_head, tell_slots};
+use crate::holder::holder_of;
 use crate::refused::{
     tell_refused_image, tell_refused_line, tell_refused_schema, tell_stopped_script,
 };
@@ -154,8 +155,23 @@ where
     }
 }
 
-fn tell_in_use<R: Eprint>(rt: &R, image: &str) {
-    tell(rt, image, "another process has it; wait until it ends");
+// Another process has the image.
+fn tell_in_use<F, R>(rt: &R, image: &str)
+where
+    F: Read + Drop,
+    R: Files<File = F> + Eprint + AllocGlobal,
+{
+    match holder_of(rt, image) {
+        Some(process) => {
+            let _ = eprintln!(rt; "heapctl: {image}: process {process} has it; wait until it ends");
+        }
+        None => tell(rt, image, "another process has it; wait until it ends"),
+    }
+    tell(
+        rt,
+        image,
+        "a heap in use is copied by the program that has it (zelamiku_heap_copy, or copy_to in Rust and Python), and its copy can be shown",
+    );
 }
 
 // An image that is refused, or that can't be had.

@@ -12,6 +12,7 @@ mod explaining_faults;
 mod fault;
 mod forms;
 mod head;
+mod holder;
 mod kept_text;
 mod obeying;
 mod progress;

@@ -1,6 +1,6 @@
 //! Tells why a call to the system failed and what mends it, and of a path that leads to no regular file.
 
-use image_file::{BESIDE, KEPT, KEPT_IN_USE, Place};
+use image_file::{BESIDE, KEPT, KEPT_IN_USE, PASSING, Place};
 use std::fs::FileType;
 use std::io;
 use std::io::ErrorKind;
@@ -72,9 +72,10 @@ pub(crate) fn tell_cause<R: Files + Eprint>(rt: &R, path: &Path<'_>, error: &Opt
         Place::Schema => (path.schema, ""),
         Place::Beside => (path.image, BESIDE),
         Place::Kept => (path.image, KEPT),
+        Place::Passing => (path.image, PASSING),
         Place::Output => ("standard output", ""),
     };
-    if path.place != Place::Output && path.place != Place::Kept && is_wrong_path(rt, name) {
+    if is_named(path.place) && is_wrong_path(rt, name) {
         return;
     }
     match error {
@@ -88,10 +89,21 @@ pub(crate) fn tell_cause<R: Files + Eprint>(rt: &R, path: &Path<'_>, error: &Opt
     }
 }
 
+// The words name the file itself.
+fn is_named(place: Place) -> bool {
+    match place {
+        Place::Image | Place::Schema | Place::Beside => true,
+        Place::Kept | Place::Passing | Place::Output => false,
+    }
+}
+
 // What mends it, where a user can.
 fn cure_of<R: Files>(rt: &R, path: &Path<'_>, error: &io::Error) -> &'static str {
     match (error.kind(), path.place) {
         (_, Place::Kept) => kept_cure(error),
+        (ErrorKind::AlreadyExists, Place::Passing) => {
+            "; that isn't what a replacing leaves, so it stays: give it another name, or type '--force'"
+        }
         (ErrorKind::NotFound, Place::Image) => "; 'heapctl format' and 'heapctl drive' make images",
         (ErrorKind::NotFound, Place::Beside) => "; make the folder first",
         (ErrorKind::AlreadyExists, Place::Beside) => {

@@ -6,7 +6,7 @@ use Rattle.block_disk.specs.Images.{LeavesOnly}
 use Rattle.block_disk.proofs.Images.{only_now}
 use Rattle.guards.specs.Schema.{Declarations}
 use Rattle.image_parts.specs.declared.layout.Layout.{Layout}
-use Rattle.recover.specs.Recovery.{IsOnTheWay, LeavesOnTheWay}
+use Rattle.recover.specs.Recovery.{IsCutOff, IsLeftAlone, IsOnTheWay, LeavesOnTheWay}
 use Rattle.recover.specs.Study.{IsStudyOf}
 use Rattle.recover.specs.declared.studied.Study.{Study}
 use Rattle.recover_heap.specs.declared.error.RecoverError.{RecoverError}
@@ -61,19 +61,41 @@ left_way s found left image fresh of (inr leaves) there =
     let only : LeavesOnly (synced (new_device found.now.bytes)) left (IsOnTheWay s) = subst (λ (d : Device). LeavesOnly (synced d) left (IsOnTheWay s)) fresh leaves in
     late_left s found.now.bytes image of (only.each 1 image (omega arith) (inl (only.later, there)))
 
+-- a disk of which nothing was asked but a sync leaves what it had
+alone_left : (found left : Device) (image : List ℕ) → found ≡ new_device found.now.bytes → IsLeftAlone found left → Image left.now image → image ≡ found.now.bytes
+alone_left found left image fresh (inl same) there =
+    let none : left.now.pending ≡ [] = (λ i. (same.now i).pending) ∙ (λ i. (fresh i).now.pending) in
+    only_now left image none there ∙ (λ i. (same.now i).bytes)
+alone_left found left image fresh (inr same) there =
+    let none : left.now.pending ≡ [] = λ i. (same.now i).pending in
+    only_now left image none there ∙ (λ i. (same.now i).bytes)
+
+-- a recovery that was cut off asked no more of an image without a study
+pub cut_off_alone : (found left : Device) → IsCutOff found left → ((s : Study) → IsStudyOf found.now.bytes s → ⊥) → IsLeftAlone found left
+cut_off_alone found left (inl same) none = inl same
+cut_off_alone found left (inr (inl same)) none = inr same
+cut_off_alone found left (inr (inr (s, of, way))) none = absurd (none s of)
+
 -- so what is at the path is on the way
 pub on_the_way : (had has : Option (List ℕ)) (found left : Device) → found ≡ new_device found.now.bytes → IsThere found.now.bytes had
-    → ((s : Study) → IsStudyOf found.now.bytes s → LeavesOnTheWay s found left) → IsLeft left.now has → IsOnTheWayAt had has
-on_the_way None has found left fresh was leaves there = tt
-on_the_way (Some a) None found left fresh was leaves there = tt
-on_the_way (Some a) (Some b) found left fresh was leaves there = λ s of.
-    let is = subst (λ (image : List ℕ). IsStudyOf image s) was of in
-    left_way s found left b fresh is (leaves s is) there
+    → ((s : Study) → IsStudyOf found.now.bytes s → LeavesOnTheWay s found left)
+    → (((s : Study) → IsStudyOf found.now.bytes s → ⊥) → IsLeftAlone found left) → IsLeft left.now has → IsOnTheWayAt had has
+on_the_way None has found left fresh was leaves alone there = tt
+on_the_way (Some a) None found left fresh was leaves alone there = tt
+on_the_way (Some a) (Some b) found left fresh was leaves alone there = record {
+  same = λ s of.
+      let is = subst (λ (image : List ℕ). IsStudyOf image s) was of in
+      left_way s found left b fresh is (leaves s is) there;
+  stays = λ none. alone_left found left b fresh (alone (λ s of. none s (subst (λ (image : List ℕ). IsStudyOf image s) (sym was) of))) there ∙ sym was;
+}
 
 -- and so it is where nothing was done
 pub same_way : (had has : Option (List ℕ)) → has ≡ had → IsOnTheWayAt had has
 same_way None has same = tt
-same_way (Some was) has same = subst (λ (h : Option (List ℕ)). IsOnTheWayAt (Some was) h) (sym same) (λ s of. inl of)
+same_way (Some was) has same = subst (λ (h : Option (List ℕ)). IsOnTheWayAt (Some was) h) (sym same) (record {
+  same = λ s of. inl of;
+  stays = λ none. refl;
+})
 
 -- it was recovered
 pub is_recovered : (versions : Versions) (had has : Option (List ℕ)) (found left : Device) (text : List ℕ) → found ≡ new_device found.now.bytes
@@ -85,7 +107,7 @@ is_recovered versions had has found left text fresh was told durable any there =
   device = left;
   told = subst (λ (d : Device). IsToldOf versions d left text) fresh told;
   left = reads_left left has durable there;
-  way = on_the_way had has found left fresh was (λ s of. inr (any s of)) there;
+  way = on_the_way had has found left fresh was (λ s of. inr (any s of)) (λ none. absurd (none told.study told.of)) there;
 }
 
 -- it was refused

@@ -1,14 +1,24 @@
 -- What is known of an image at a path (this project's own).
-use Rattle.std.specs.Prelude.{◌≡◌, ◌++◌, List, ℕ, Option, IfSome}
+use Rattle.std.specs.Prelude.{◌≡◌, ◌≤◌, ◌⊎◌, ◌++◌, List, [], ℕ, Option, IfSome, length}
 use Rattle.block_disk.specs.Device.{Image, Moment}
+use Rattle.image_parts.specs.Header.{HasHeader}
+use Rattle.image_parts.specs.Layout.{size_of}
+use Rattle.image_parts.specs.declared.layout.Layout.{Layout}
 
 -- this image is there, where it is known which one is
 abbrev pub IsThere : List ℕ → Option (List ℕ) → Type 0
 IsThere image held = IfSome held (λ there. there ≡ image)
 
--- the image that is there begins with these bytes, where it is known which one is
+-- an image begins with these bytes, and a study of it needs no others: they are all, or they have a header, and as many as it says
+pub record BeginsWith (bytes image : List ℕ) : Type 0 where
+  pub rest : List ℕ
+  pub whole : image ≡ bytes ++ rest
+  pub head : (rest ≡ []) ⊎ (64 ≤ length bytes)
+  pub all : (l : Layout) → HasHeader image l → (rest ≡ []) ⊎ (size_of l ≤ length bytes)
+
+-- the image that is there begins so, where it is known which one is
 abbrev pub BeginsThere : List ℕ → Option (List ℕ) → Type 0
-BeginsThere bytes held = IfSome held (λ there. (rest : List ℕ) × (there ≡ bytes ++ rest))
+BeginsThere bytes held = IfSome held (BeginsWith bytes)
 
 -- what is there is what a crash may leave of a disk at this moment
 abbrev pub IsLeft : Moment → Option (List ℕ) → Type 0

@@ -17,9 +17,16 @@ pub record IsToldOf (versions : Versions) (old new : Device) (text : List ℕ) :
   pub made : IsMadeBy study old new
   pub text_is : text ≡ report_of study
 
--- what is there is the image that was there, or one on recovery's way from it: recovery gives the same heap of it
+-- an image is the one that was there, or one on recovery's way from it
+pub record IsOnTheWayFrom (was there : List ℕ) : Type 0 where
+  -- Recovery gives the same heap of it.
+  pub same : (s : Study) → IsStudyOf was s → IsOnTheWay s there
+  -- An image that recovery refuses for its bytes keeps each of them.
+  pub stays : ((s : Study) → IsStudyOf was s → ⊥) → there ≡ was
+
+-- so it is with what was at a path, and what is there
 abbrev pub IsOnTheWayAt : (had has : Option (List ℕ)) → Type 0
-IsOnTheWayAt had has = IfSome had (λ was. IfSome has (λ there. (s : Study) → IsStudyOf was s → IsOnTheWay s there))
+IsOnTheWayAt had has = IfSome had (λ was. IfSome has (IsOnTheWayFrom was))
 
 -- the image that was at a path was recovered so, and what recovery makes of it is there now
 pub record IsRecoveredAt (versions : Versions) (had has : Option (List ℕ)) (text : List ℕ) : Type 0 where

@@ -5,10 +5,12 @@ use crate::trouble::{Place, Trouble};
 use disk_file::{BackingFile, Claim};
 use disk_sector_file::label_of;
 use image::{HEADER_BYTES, is_formatted};
+use std::alloc::Global;
 use std::fs::{Metadata, OpenFile, OpenOptions};
 use std::io;
 use std::io::ErrorKind;
 use std::os::unix::fs::MetadataExt;
+use std::path::Path;
 use std::rt::Files;
 
 /// What a file has, by its length and its first bytes.
@@ -97,8 +99,13 @@ where
 }
 
 /// Opens the image file at this path for reading and writing, and claims it for this open alone. It begins as an image; no more than
-/// its header was read.
-pub(crate) fn claim_image<F, R>(rt: &R, path: &str, trouble: &Trouble) -> Result<F, FileFault>
+/// its header was read. Its name is durable.
+pub(crate) fn claim_image<F, R>(
+    rt: &R,
+    alloc: Global,
+    path: &str,
+    trouble: &Trouble,
+) -> Result<F, FileFault>
 where
     F: BackingFile + OpenFile + Drop,
     R: Files<File = F>,
@@ -108,12 +115,57 @@ where
         return Err(FileFault::Fault);
     };
     let fault = match content_of(&mut file, trouble) {
-        Ok(Content::Image) => return Ok(file),
+        Ok(Content::Image) => match keep_name(rt, alloc, path, &file) {
+            Ok(()) => return Ok(file),
+            Err(error) => {
+                trouble.note(Place::Image, &error);
+                FileFault::Fault
+            }
+        },
         Ok(Content::Nothing | Content::Other) => FileFault::NotImage,
         Err(fault) => fault,
     };
     drop(file);
     Err(fault)
+}
+
+// Makes the name of a claimed file durable. Whoever put the file there may have been killed before the folder was synced, and a sync of a file
+// whose blocks exist keeps no rename: a power cut would take the name, with all that becomes durable in the file.
+fn keep_name<F, R>(rt: &R, alloc: Global, path: &str, file: &F) -> io::Result<()>
+where
+    F: BackingFile + OpenFile + Drop,
+    R: Files<File = F>,
+{
+    let target = rt.canonicalize(alloc, path)?;
+    let synced = sync_folder_of(rt, target.as_str());
+    drop(target);
+    match synced {
+        // Where the folder can't be read: file systems with a journal keep the name of a file with all that they say of it.
+        Err(error) if error.kind() == ErrorKind::PermissionDenied => file.sync_all(),
+        synced => synced,
+    }
+}
+
+/// Syncs the folder that this path's file is in.
+pub(crate) fn sync_folder_of<F, R>(rt: &R, path: &str) -> io::Result<()>
+where
+    F: BackingFile + Drop,
+    R: Files<File = F>,
+{
+    let mut options = OpenOptions::new();
+    options.read(true);
+    let mut folder = options.open(rt, folder_of(path))?;
+    folder.settle()
+}
+
+fn folder_of(path: &str) -> &str {
+    match Path::new(path).parent() {
+        Some(folder) => {
+            let text = folder.as_str();
+            if text.is_empty() { "." } else { text }
+        }
+        None => "/",
+    }
 }
 
 /// Claims a file that was opened at this path for this open alone.

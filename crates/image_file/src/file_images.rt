@@ -1,7 +1,9 @@
 //! The images in files of the system.
 ghost use Rattle.std.specs.Prelude.{None};
 
-use crate::claiming::{Content, claim, claim_at, claim_image, content_of, is_same, no_file};
+use crate::claiming::{
+    Content, claim, claim_at, claim_image, content_of, is_same, no_file, sync_folder_of,
+};
 use crate::error::FileFault;
 use crate::images::Images;
 use crate::reading::read_there;
@@ -12,10 +14,9 @@ use disk_file::{BackingFile, Claim};
 use disk_sector_file::{ImageDisk, label_of};
 use disk_sectors::SectorSize;
 use std::alloc::Global;
-use std::fs::{OpenFile, OpenOptions};
+use std::fs::{Metadata, OpenFile, OpenOptions};
 use std::io::{ErrorKind, Read};
 use std::os::unix::fs::MetadataExt;
-use std::path::Path;
 use std::rt::Files;
 use std::{fs, io};
 
@@ -28,8 +29,11 @@ pub const KEPT: &str = "~";
 /// What is noted where another process has the image that is kept there (EBUSY).
 pub const KEPT_IN_USE: i32 = 16;
 
-// What stands at the end of the path at which it passes, on its way there.
-const PASSING: &str = ".heapctl-old";
+/// What stands at the end of the path at which it passes, on its way there.
+pub const PASSING: &str = ".heapctl-old";
+
+// What is noted where something else is there (EEXIST).
+const IS_THERE: i32 = 17;
 
 /// The images in files of the system.
 ///
@@ -114,7 +118,7 @@ where
     }
 
     fn open(&mut self, alloc: Global, path: &str) -> Result<ImageDisk<Watched<'a, F>>, FileFault> {
-        let file = match file_there(self.rt, path, &self.taken, self.trouble) {
+        let file = match file_there(self.rt, alloc, path, &self.taken, self.trouble) {
             Ok(file) => file,
             Err(fault) => return Err(fault),
         };
@@ -165,8 +169,8 @@ where
             return Err(FileFault::Fault);
         }
         if is_kept {
-            if let Err(error) = keep_old(self.rt, taken) {
-                return Err(noted(Place::Kept, &error, self.trouble));
+            if let Err((place, error)) = keep_old(self.rt, taken) {
+                return Err(noted(place, &error, self.trouble));
             }
         }
         match move_over(self.rt, taken) {
@@ -256,6 +260,7 @@ fn size_at<R: Files>(rt: &R, path: &str, trouble: &Trouble) -> Result<u64, FileF
 // The file at the path, claimed: one that was claimed for a new image is used again.
 fn file_there<F, R>(
     rt: &R,
+    alloc: Global,
     path: &str,
     taken: &Option<Taken<F>>,
     trouble: &Trouble,
@@ -265,10 +270,10 @@ where
     R: Files<File = F>,
 {
     let Some(taken) = taken else {
-        return claim_image(rt, path, trouble);
+        return claim_image(rt, alloc, path, trouble);
     };
     if taken.names.path.as_str() != path {
-        return claim_image(rt, path, trouble);
+        return claim_image(rt, alloc, path, trouble);
     }
     let again = if taken.is_there {
         taken.new.try_clone()
@@ -509,25 +514,12 @@ where
 {
     rt.rename(taken.names.beside.as_str(), taken.names.target.as_str())?;
     taken.is_there = true;
-    let mut options = OpenOptions::new();
-    options.read(true);
-    let mut folder = options.open(rt, folder_of(taken.names.target.as_str()))?;
-    folder.settle()
+    sync_folder_of(rt, taken.names.target.as_str())
 }
 
-// The folder that a path's file is in.
-fn folder_of(path: &str) -> &str {
-    match Path::new(path).parent() {
-        Some(folder) => {
-            let text = folder.as_str();
-            if text.is_empty() { "." } else { text }
-        }
-        None => "/",
-    }
-}
-
-// An image that is there stays, at the path with `~` at its end; what was there goes, unless another process has it.
-fn keep_old<F, R>(rt: &R, taken: &Taken<F>) -> io::Result<()>
+// An image that is there stays, at the path with `~` at its end; what was there goes, unless another process has it. Where that fails it is told
+// of which place.
+fn keep_old<F, R>(rt: &R, taken: &Taken<F>) -> Result<(), (Place, io::Error)>
 where
     F: BackingFile + OpenFile + Drop,
     R: Files<File = F>,
@@ -535,13 +527,60 @@ where
     let Some(old) = &taken.old else {
         return Ok(());
     };
-    if old.len()? == 0 {
+    if !has_bytes(old).map_err(of_kept)? {
         return Ok(());
     }
-    let last = last_kept(rt, taken.names.kept.as_str(), old)?;
+    clear_passing(rt, &taken.names, old).map_err(of_passing)?;
+    let last = last_kept(rt, taken.names.kept.as_str(), old).map_err(of_kept)?;
     let kept = link_over(rt, &taken.names);
     drop(last);
-    kept
+    kept.map_err(of_kept)
+}
+
+fn of_kept(error: io::Error) -> (Place, io::Error) {
+    (Place::Kept, error)
+}
+
+fn of_passing(error: io::Error) -> (Place, io::Error) {
+    (Place::Passing, error)
+}
+
+fn has_bytes<F: BackingFile>(file: &F) -> io::Result<bool> {
+    Ok(file.len()? > 0)
+}
+
+// Removes the name that a kill has left on the old image's way to `P~`. Whatever else is there is somebody's, and stays: `AlreadyExists`.
+fn clear_passing<F, R>(rt: &R, names: &Names, old: &F) -> io::Result<()>
+where
+    F: OpenFile,
+    R: Files<File = F>,
+{
+    let passing = names.passing.as_str();
+    let Ok(there) = rt.symlink_metadata(passing) else {
+        // Nothing is there, or nothing can be: then the link fails.
+        return Ok(());
+    };
+    if !there.is_file() || (there.nlink() > 1 && !is_image_or_kept(rt, names, old, &there)) {
+        return Err(io::Error::from_raw_os_error(IS_THERE));
+    }
+    rt.remove_file(passing)
+}
+
+// Whether this is the old image, or the one that is kept already.
+fn is_image_or_kept<F, R>(rt: &R, names: &Names, old: &F, there: &Metadata) -> bool
+where
+    F: OpenFile,
+    R: Files<File = F>,
+{
+    let is_image = match old.metadata() {
+        Ok(here) => is_same(there, &here),
+        Err(_) => false,
+    };
+    let is_kept = match rt.symlink_metadata(names.kept.as_str()) {
+        Ok(kept) => is_same(there, &kept),
+        Err(_) => false,
+    };
+    is_image || is_kept
 }
 
 // The file that is kept already. While it is claimed here no other process gets it for itself. `None` where there is none, where it is the old
@@ -577,11 +616,6 @@ where
 // lost only where the old image is kept in its place.
 fn link_over<R: Files>(rt: &R, names: &Names) -> io::Result<()> {
     let passing = names.passing.as_str();
-    if let Err(error) = rt.remove_file(passing) {
-        if error.kind() != ErrorKind::NotFound {
-            return Err(error);
-        }
-    }
     rt.hard_link(names.target.as_str(), passing)?;
     let moved = rt.rename(passing, names.kept.as_str());
     // It is there still where it wasn't moved, or where both names lead to one file already.

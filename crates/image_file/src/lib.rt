@@ -26,7 +26,7 @@ mod watched;
 pub use claiming::{Content, claim_at, content_of};
 pub use dumping::dump_at;
 pub use error::{FileFault, FormatError, ImageFault, NamedFault};
-pub use file_images::{BESIDE, FileImages, KEPT, KEPT_IN_USE};
+pub use file_images::{BESIDE, FileImages, KEPT, KEPT_IN_USE, PASSING};
 pub use format::{format_at, format_image, make_image};
 pub use images::{Images, look_at};
 pub use named_drawing::draw_named_at;

@@ -3,7 +3,7 @@ ghost use Rattle.std.specs.Prelude.{◌≡◌, ◌≢◌, ◌⊎◌, [], IfErr, 
 ghost use Rattle.std.specs.Io.KnownBytes.{Appends};
 ghost use Rattle.block_disk.specs.Device.{HasFailed, SameMoments, synced};
 ghost use Rattle.block_disk.specs.Images.{LeavesOnly};
-ghost use Rattle.recover.specs.Recovery.{IsOnTheWay, LeavesOnTheWay, RefusesOf};
+ghost use Rattle.recover.specs.Recovery.{IsCutOff, IsOnTheWay, LeavesOnTheWay, RefusesOf};
 ghost use Rattle.recover.specs.Study.{IsStudyOf};
 ghost use Rattle.recover_heap.specs.declared.error.RecoverError.TheVariants.{Fault};
 ghost use Rattle.recover.specs.declared.studied.Study.{Study};
@@ -62,6 +62,8 @@ pub fn recover_image<D: Disk>(
     ensures interrupted { IfErr result
         (λ back. (s : Study) → IsStudyOf (D.device disk).now.bytes s → LeavesOnTheWay s
         (D.device disk) (D.device back.0)) }
+    // After a recovery that was refused nothing was done, or a sync alone, or only images on its way were left.
+    ensures cut_off { IfErr result (λ back. IsCutOff (D.device disk) (D.device back.0)) }
     // A fault is answered only where the device has failed.
     ensures cause { IfErr result
         (λ back. back.1 ≡ Fault → HasFailed (D.device disk).failures (D.device back.0).failures) }
@@ -101,7 +103,7 @@ pub fn recover_at<D: Disk + Drop, P: Images<Medium = D>, W: Write>(
     ensures kept { IfErr result
         (λ error. error ≢ Image Fault → AtPath Stays P.holds images.old images.new path.now) }
     // After any refusal, a fault too, what is at the path is the image that was there, or one on recovery's way from it,
-    // of which recovery gives the same heap.
+    // of which recovery gives the same heap. An image that recovery refuses for its bytes keeps each of them.
     ensures way { OnErr result (AtPath IsOnTheWayAt P.holds images.old images.new path.now) }
     // A refusal other than a fault has written nothing.
     ensures silent { IfErr result

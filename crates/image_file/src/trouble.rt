@@ -15,6 +15,8 @@ pub enum Place {
     Beside,
     /// The path at which a replaced image is kept.
     Kept,
+    /// The path at which it passes, on its way there.
+    Passing,
     /// What is written.
     Output,
 }
@@ -64,6 +66,7 @@ fn noted(place: Place, code: i32) -> u64 {
         Place::Beside => 3,
         Place::Output => 4,
         Place::Kept => 5,
+        Place::Passing => 6,
     };
     number << 32 | u64::from(code.unsigned_abs())
 }
@@ -75,6 +78,7 @@ fn place_of(number: u64) -> Option<Place> {
         3 => Some(Place::Beside),
         4 => Some(Place::Output),
         5 => Some(Place::Kept),
+        6 => Some(Place::Passing),
         _ => None,
     }
 }

@@ -1,6 +1,6 @@
 use Rattle.inspect.specs.ReportText.{report_text}
 use Rattle.image_file.proofs.BesideLemmas.{leaves_then}
-use Rattle.image_file.proofs.PlaceLemmas.{is_recovered, on_the_way, refused_stays, same_way}
+use Rattle.image_file.proofs.PlaceLemmas.{cut_off_alone, is_recovered, on_the_way, refused_stays, same_way}
 use Rattle.image_file.proofs.recovering.recovered_at.Goals as goal
 
 pub returns-in-Ok-recover_image-clause-ok : goal.returns-in-Ok-recover_image-clause-ok
@@ -17,7 +17,9 @@ returns-in-Err-recover_image-clause-kept g c = λ other.
 pub returns-in-Err-recover_image-clause-way : goal.returns-in-Err-recover_image-clause-way
 returns-in-Err-recover_image-clause-way g c =
     on_the_way (g.P.Images.holds c.args.images.now c.args.path.now) (g.P.Images.holds c.close-in-Err-recover_image.new.self c.args.path.now) (g.D.Disk.device c.in-Ok.disk) (g.D.Disk.device c.in-Err-recover_image.disk)
-    c.in-Ok.ensures.fresh c.in-Ok.ensures.ok c.in-Err-recover_image.ensures.interrupted c.close-in-Err-recover_image.ensures.left
+    c.in-Ok.ensures.fresh c.in-Ok.ensures.ok c.in-Err-recover_image.ensures.interrupted
+    (cut_off_alone (g.D.Disk.device c.in-Ok.disk) (g.D.Disk.device c.in-Err-recover_image.disk) c.in-Err-recover_image.ensures.cut_off)
+    c.close-in-Err-recover_image.ensures.left
 
 pub returns-in-Err-clause-way : goal.returns-in-Err-clause-way
 returns-in-Err-clause-way g c = same_way (g.P.Images.holds c.args.images.now c.args.path.now) (g.P.Images.holds c.open.new.self c.args.path.now) c.in-Err.ensures.err
