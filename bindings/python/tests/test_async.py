@@ -213,7 +213,8 @@ class Tasks(OnFile):
         async def pay(heap):
             await (await begin(heap))
 
-        with self.open() as heap:
+        # No round comes by itself, which could make a section durable before its task waits.
+        with self.open(alice=Account, bob=Account, linger=3_600) as heap:
             for _ in range(20):
                 loop = asyncio.new_event_loop()
                 waits = loop.run_until_complete(begin(heap))

@@ -20,7 +20,8 @@ notify (:meth:`Object.wait`, :meth:`Object.notify`). An exception that leaves a 
 a lane of the heap, from its first section until it ends (:attr:`Heap.session`). Whoever needs to know that no crash loses what was done calls
 :meth:`Heap.durable`, or awaits :meth:`Heap.durable_async`.
 
-Each failure is an :class:`Error` of its kind, with the path, the cause and the cure.
+Each failure is an :class:`Error` of its kind, with the path, the cause and the cure. ``python -m zelamiku`` prints a heap by its names, and
+carries its values over to another declaration.
 """
 from .declare import Array, Bool, Field, Float, Items, Object, Pool, Ref, Signed, Slots
 from .errors import (

@@ -329,6 +329,16 @@ def _opened(calls: Library, path: str, plan: Plan, wanted: PlanRow) -> tuple[int
     raise for_status(path, status, calls.heap_error(), doing=record, also=OPENING_KINDS)
 
 
+def make(path: str, plan: Plan, lanes: int, capacity: int) -> None:
+    """Makes a heap that begins with the plan's first values."""
+    calls = library()
+    lanes = _within(path, "lanes", lanes, 1, MOST_LANES)
+    handle, _ = _opened(calls, path, plan, PlanRow(lanes=lanes, capacity=capacity, ring=4_096, fingerprint=plan.fingerprint()))
+    status = calls.heap_close(handle)
+    if status != OK:
+        raise for_status(path, status, calls.heap_error())
+
+
 def _told(calls: Library, path: str, call: str, kind: Kind) -> Error:
     """Why a call has failed, in the library's words: "PATH: CALL: CAUSE; CURE"."""
     cause, _, cure = calls.heap_message().decode(errors="replace").rpartition(f": {call}: ")[2].partition("; ")

@@ -1,7 +1,8 @@
 """What a thread has of a heap: a lane, the sections that it is in, and the calls that it makes there.
 
-A signal's handler may raise an exception in the main thread after any call that Python makes, and where a function of Python begins. So what
-may not be cut off is one call: :func:`max` or :func:`any` over a :class:`map` makes all calls of the library, with no step of Python between.
+A signal's handler may raise an exception in the main thread after any call that Python makes, and where a function begins or a loop goes on.
+So what may not be cut off is one call: :func:`any` over a :class:`map` makes calls of the library with no step of Python between. And a loop's
+first step over a map makes one call of the library, after which no handler is called.
 """
 from __future__ import annotations
 
@@ -11,7 +12,7 @@ import time
 import weakref
 from collections.abc import Generator, Sequence
 from ctypes import byref, c_bool, c_uint32, c_uint64
-from itertools import chain
+from itertools import repeat
 from types import TracebackType
 from typing import TYPE_CHECKING, Any, NoReturn
 
@@ -93,7 +94,8 @@ class Lane:
         if status != OK:
             raise link.error(status)
         self.handle = self._begun.value
-        self.revert_of = self._calls.thread_revert
+        self.reverts = map(self._calls.thread_revert, repeat(self.handle))
+        """Each step takes the section back, and is what the library has returned."""
         self.exit = functools.partial(self._calls.thread_exit, self.handle)
         # Kept, since nobody tells them at the heap's end.
         self.number: int | None = self._calls.thread_lane(self.handle)
@@ -136,9 +138,8 @@ class Lane:
         if status:
             raise self._link.object_error(status, number)
 
-    def stop_unreverted(self, error: BaseException) -> None:
+    def stop_unreverted(self, status: int, error: BaseException) -> None:
         """Stops the heap, since an exception has left a section that can't be reverted."""
-        status = self._calls.thread_revert(self.handle)
         refusal = f" and can't be reverted: {_FREED}" if status == NOT_HELD else ""
         self.failure = ""
         self.abandon(f"an exception has left a section that had stored ({_told(error)}){refusal}")
@@ -151,7 +152,7 @@ class Lane:
             raise self.reverted()
         if not self._link.reverts:
             raise NotReverted(self._link.path, "the heap was opened with reverts=False", "open it without")
-        status = self._calls.thread_revert(self.handle)
+        status = next(self.reverts)
         if status == NOT_HELD:
             raise NotReverted(self._link.path, f"nothing was put back: {_FREED}", "hold all monitors until the section's end")
         if status:
@@ -309,8 +310,6 @@ def hold(own: Own, numbers: list[int], timeout: float | None) -> Hold:
         lane.stores, lane.failure, mine = 0, "", numbers
     # The exit of a monitor that wasn't taken is refused. So it needn't be known how far the taking has come.
     exits = map(lane.exit, mine[::-1])
-    is_undone: list[bool] = []
-    undo = chain(map(lane.revert_of, (handle,)), exits, map(is_undone.append, (True,)))
     is_inside = False
     error: BaseException | None = _CUT_OFF
     told: Error | None = None
@@ -343,15 +342,16 @@ def hold(own: Own, numbers: list[int], timeout: float | None) -> Hold:
             # What was stored outside of an inner `with` is put back too, so who catches the exception there may not go on.
             lane.failure = "an exception of a signal's handler"
             del held[before:]
-            try:
-                any(undo)
-            finally:
-                if not is_undone:
-                    try:
-                        lane.stop_unreverted(error)
-                    finally:
-                        own.link.calls.heap_abandon(own.link.handle)
-                        list(exits)
+            for status in lane.reverts:
+                break
+            if not status:
+                any(exits)
+            else:
+                try:
+                    lane.stop_unreverted(status, error)
+                finally:
+                    own.link.calls.heap_abandon(own.link.handle)
+                    list(exits)
             lane.stores = 0
             if lane.failure:
                 lane.failure = _told(error)
