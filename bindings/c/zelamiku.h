@@ -96,7 +96,7 @@ typedef enum {
     ZELAMIKU_WORN = 18,           /* a number is at its end: the monitor's 2^40 - 1, the lane's 2^62, the control's 2^64 - 1 */
     ZELAMIKU_HELD = 19,           /* another session has the monitor, or had it when this one tried */
     ZELAMIKU_IN_SET = 20,         /* nobody has notified the session */
-    ZELAMIKU_FAULT = 21,          /* there was no memory for the calls of the device: nothing was opened, or the heap has stopped */
+    ZELAMIKU_FAULT = 21,          /* there was no memory for the calls of the device: no heap was made, or the heap has stopped */
     ZELAMIKU_FAILED = 22,         /* an earlier call answered ZELAMIKU_FAULT, with which the heap stopped */
     ZELAMIKU_UNFINISHED = 23,     /* a session was ended while it held a monitor */
     ZELAMIKU_EMPTY = 24,          /* there is no object, or no field */

@@ -8,3 +8,4 @@ mod Makings
 mod Orders
 mod Hosts
 mod Meetings
+mod Refused

@@ -17,6 +17,8 @@ use Rattle.image_parts.specs.declared.error.ImageError.TheVariants as images
 use Rattle.image_parts.specs.declared.guard_row.GuardRow.{GuardRow}
 use Rattle.recover.specs.Recovery.{IsOnTheWay, IsRecovery, IsTooOld, RefusesOf}
 use Rattle.recover.specs.Study.{IsStudyOf}
+use Rattle.recover_heap.specs.declared.error.RecoverError.{RecoverError}
+use Rattle.recover_heap.specs.declared.error.RecoverError.TheVariants as recover
 use Rattle.recover.specs.declared.studied.Study.{Study}
 use Rattle.recover.specs.declared.report.Report.{Report}
 use Rattle.recover.specs.declared.versions.Versions.{Versions}
@@ -105,9 +107,17 @@ RefusesMaking objects rows lanes capacity (Image images.NoMemory) = AreLimits la
 RefusesMaking objects rows lanes capacity (Image images.Fault) = AreLimits lanes capacity
 RefusesMaking objects rows lanes capacity _ = ⊥
 
+-- how an opening is refused where recovery is: the disk is in memory, and fails only for want of memory
+abbrev pub refused_as : RecoverError → HostError
+refused_as recover.Fault = NoMemory
+refused_as recover.NoMemory = NoMemory
+refused_as e = Recover e
+
 -- why no heap is opened, where these versions are accepted
 abbrev pub RefusesOpening : Versions → (bytes : List ℕ) → HostError → Type 0
 RefusesOpening versions bytes NoMemory = Unit {0}
+RefusesOpening versions bytes (Recover recover.Fault) = ⊥
+RefusesOpening versions bytes (Recover recover.NoMemory) = ⊥
 RefusesOpening versions bytes (Recover e) = RefusesOf versions bytes e
 RefusesOpening versions bytes (Schema e) = e ≡ schemas.NoMemory
 RefusesOpening versions bytes (Image e) = ⊥

@@ -1,7 +1,7 @@
 //! A hosted heap is made, or opened.
 ghost use Rattle.std.specs.Prelude.{◌≡◌, ◌≤◌, ◌+◌, [], IfOk};
 ghost use Rattle.disk_deferred.specs.Host.{IsHostOf};
-ghost use Rattle.host_heap.specs.Opening.{Formats, HasBegun, HasRings, Opens, threads_of};
+ghost use Rattle.host_heap.specs.Opening.{Formats, HasBegun, HasRings, Opens, refused_as, threads_of};
 ghost use Rattle.trim_helper.specs.Opening.{FitsSchema};
 
 use crate::beginning::seat_all;
@@ -12,7 +12,7 @@ use durable::Store;
 use guards::Schema;
 use heap_model::LAST_NUMBER;
 use image::{GuardRow, ImageError, Layout, Recovered, declare};
-use recover::{Report, Versions, recover_of};
+use recover::{RecoverError, Report, Versions, recover_of};
 use std::alloc::{AllocError, Global};
 use thread_heap::RunningHeap;
 use thread_rings::RingRecords;
@@ -71,8 +71,8 @@ pub fn format(
 /// the image doesn't say. The heap is recovered first, in memory, and so is of the current version: recovery's calls are the first that
 /// the host makes.
 ///
-/// Refusals, in this order: `NoMemory` for the bytes; `Recover`, as [`recover_of`](recover::recover_of) refuses; `Schema` and
-/// `NoMemory`, for want of memory.
+/// Refusals, in this order: `NoMemory` for the bytes; `Recover`, as [`recover_of`](recover::recover_of) refuses, but `NoMemory` in
+/// place of a fault, since the disk is in memory; `Schema` and `NoMemory`, for want of memory.
 pub fn open(
     alloc: Global,
     bytes: &[u8],
@@ -81,7 +81,7 @@ pub fn open(
     ring: RingRecords,
 ) -> Result<(HostedHeap, Report), HostError>
     // A heap is opened with what recovery finds in the bytes of the host's device, and with recovery's report. It isn't
-    // opened where recovery refuses the bytes, or memory runs out.
+    // opened where something is wrong with the bytes, and then recovery's reason is returned, or where memory runs out.
     ensures { Opens versions threads ring bytes.now result }
 {
     let Ok((disk, calls)) = DeferredDisk::from_bytes(alloc, bytes) else {
@@ -92,7 +92,7 @@ pub fn open(
         Err((disk, refusal)) => {
             drop(disk);
             drop(calls);
-            return Err(HostError::Recover(refusal));
+            return Err(refused(refusal));
         }
     };
     let schema = match declare(alloc, recovered.layout().objects, recovered.guards()) {
@@ -106,6 +106,16 @@ pub fn open(
     match begin(alloc, schema, recovered, calls, threads, ring) {
         Ok(heap) => Ok((heap, report)),
         Err(_) => Err(HostError::NoMemory),
+    }
+}
+
+// Why an opening is refused. A disk in memory fails only for want of memory.
+fn refused(refusal: RecoverError) -> HostError
+    ensures { result ≡ refused_as refusal }
+{
+    match refusal {
+        RecoverError::Fault | RecoverError::NoMemory => HostError::NoMemory,
+        other => HostError::Recover(other),
     }
 }
 

@@ -74,7 +74,7 @@ pub const HELD: u32 = 19;
 /// Nobody has notified the session that waits.
 pub const IN_SET: u32 = 20;
 
-/// A call of the disk in memory failed, which is want of memory: nothing was opened, or the heap has stopped.
+/// A call of the disk in memory failed, which is want of memory: no heap was made, or the heap has stopped.
 pub const FAULT: u32 = 21;
 
 /// An earlier call answered `FAULT`, with which the heap stopped.

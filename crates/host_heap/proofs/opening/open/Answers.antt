@@ -13,16 +13,20 @@ use Rattle.recover.specs.declared.studied.Study.{Study}
 use Rattle.std.specs.List.{slice_index_or}
 use Rattle.trim_helper.specs.Opening.{FitsSchema}
 use Rattle.host_heap.specs.Hosting.{hosted_device}
-use Rattle.host_heap.specs.Opening.{HasBegun, threads_of}
+use Rattle.host_heap.specs.Opening.{HasBegun, RefusesOpening, threads_of}
+use Rattle.host_heap.specs.declared.error.HostError.{HostError}
 use Rattle.image_parts.specs.NumberedRows.{numbered}
 use Rattle.host_heap.proofs.Fits.{fits_numbered}
 use Rattle.host_heap.proofs.Hosts.{device_is, recovery_name}
+use Rattle.host_heap.proofs.Refused.{refuses_as}
 use Rattle.image_parts.proofs.Numbered.{only_memory}
 use Rattle.host_heap.proofs.opening.open.Goals as goal
 
 pub returns-in-Err : goal.returns-in-Err
 returns-in-Err c =
-    subst (λ (m : Memory). RefusesOf c.args.versions (device_of m).now.bytes c.in-Err.refusal) c.in-Ok.ensures.disk c.in-Err.ensures.refused
+    subst (λ (e : HostError). RefusesOpening c.args.versions c.args.bytes.now e) (sym c.refused.ensures)
+    (refuses_as c.args.versions c.args.bytes.now c.in-Err.refusal
+    (subst (λ (m : Memory). RefusesOf c.args.versions (device_of m).now.bytes c.in-Err.refusal) c.in-Ok.ensures.disk c.in-Err.ensures.refused))
 
 pub returns-in-Err-declare : goal.returns-in-Err-declare
 returns-in-Err-declare c =
