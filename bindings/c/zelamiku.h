@@ -215,7 +215,8 @@ typedef struct {
     uint32_t upgrades;            /* 1: a heap of an older version is upgraded in place; 0: OLD_VERSION */
     uint32_t must_exist;          /* 1: a path without a heap is refused, and no file is made */
     uint32_t reverts;             /* 1: zelamiku_thread_revert takes back what a section has stored. 24 bytes of memory a lane and field */
-    uint32_t keeps_slice;         /* 1: threads keep the time slice that they have; 0: those that make rounds or wait for them ask for a short one */
+    uint32_t keeps_slice;         /* 1: threads keep their time slice and their timers' slack; 0: those that make rounds or wait for them ask for
+                                     a short slice and the least slack */
     uint64_t fingerprint;         /* of the names that the fields have in the program, or any number: see zelamiku_heap_open. 0: none */
     zelamiku_log *log;            /* or NULL */
     void *log_of;                 /* handed to it. It stays until the heap's close, stop or abandon has returned, or a failed open */

@@ -58,6 +58,7 @@ enum {
     MOST_SPIN = 250000,       /* nanoseconds: where a round takes less, a thread looks so long for its end before it sleeps */
     LONG_SPIN = 30000,        /* nanoseconds: a look that took longer has let another thread run, */
     UNSPUN_ROUNDS = 64,       /* so nobody looks for so many rounds */
+    USUAL_SLACK = 50000,      /* nanoseconds: the timers' slack of a thread that nobody has given another one */
     SHORT_SLICE = 100000,     /* nanoseconds that a thread which makes rounds, or waits for them, runs at once where others want to */
     NAP = 20000,              /* nanoseconds between two looks, for each thread that waits for a round, where many do */
     OPENING_NAPS = 100,       /* for which a fork waits until a file is open */

@@ -562,9 +562,11 @@ static zelamiku_status open_by(zelamiku_heap *heap_, const char *path, const zel
     status = open_door(&at, device, heap_);
     if (status != ZELAMIKU_OK) return status;
     const char *how = report->is_made != 0 ? "made" : report->is_upgraded != 0 ? "upgraded and recovered" : "recovered";
-    tell_log(at.of, ZELAMIKU_LOG_INFO, "%s: %llu bytes, %u lanes; %llu sections were dropped%s", how, (unsigned long long)at.of->size,
-             at.of->lanes, (unsigned long long)report->told.found.dropped,
-             at.lanes > at.of->lanes ? "" : "; rounds take four syncs: no lane is the helper's");
+    tell_log(at.of, ZELAMIKU_LOG_INFO, "%s: %llu bytes, %u lanes; %llu sections were dropped", how, (unsigned long long)at.of->size,
+             at.of->lanes, (unsigned long long)report->told.found.dropped);
+    if (at.lanes == at.of->lanes)
+        tell_log(at.of, ZELAMIKU_LOG_WARNING, "no lane is the helper's, so a round takes four syncs in place of two; %s",
+                 at.lanes < ZELAMIKU_MOST_LANES ? "heapctl dump, then heapctl format with one lane more" : "open it for 31 threads at most");
     return ZELAMIKU_OK;
 }
 

@@ -211,7 +211,7 @@ static void add_up(zelamiku_stats *all, const zelamiku_stats *round) {
 /* Logs what a round came to: its status and errno, whether the one before was in trouble, and whether the path has just begun to lead astray. */
 static void log_round(const heap *of, zelamiku_status status, int error, bool was_troubled, bool has_strayed) {
     bool is_trouble = status == ZELAMIKU_DEVICE, is_end = status != ZELAMIKU_OK && !is_trouble;
-    if (is_end) tell_log(of, ZELAMIKU_LOG_ERROR, "%s: %s; %s", text_of(status, 0), strerror(error), text_of(status, 1));
+    if (is_end) tell_log(of, ZELAMIKU_LOG_ERROR, "%s: %s; %s", text_of(status, 0), strerror(error), cure_of(status, error));
     if (is_trouble && !was_troubled) tell_log(of, ZELAMIKU_LOG_WARNING, "a write has failed, and is made again: %s", strerror(error));
     if (was_troubled && status == ZELAMIKU_OK) tell_log(of, ZELAMIKU_LOG_INFO, "writes go on");
     if (has_strayed) tell_log(of, ZELAMIKU_LOG_WARNING, "the path doesn't lead to the heap's file any more: it was removed or replaced");

@@ -1,4 +1,4 @@
-/* Short time slices, for threads that make rounds or wait for them. Nothing here is shared, and there is no lock. */
+/* Short time slices and short naps, for threads that make rounds or wait for them. Nothing here is shared, and there is no lock. */
 /* ---- slices ---- */
 
 /* Since Linux 6.12 a thread may say for how long it wants to run at once (sched_setattr). One that asks for a short slice runs soon after it is
@@ -34,12 +34,22 @@ static bool is_filtered(void) {
 }
 
 /* Asks for a short slice where the calling thread has the system's. Whether it has that is learned by asking for it. */
-COLD void ask_for_short_slice(void) {
+static void ask_for_short_slice(void) {
     attributes before, usual;
-    if (is_filtered()) return;
     if (!get_attributes(&before) || before.runtime == 0 || !set_slice(&before, 0)) return;
     bool is_usual = get_attributes(&usual) && usual.runtime == before.runtime;
     (void)set_slice(&before, is_usual ? SHORT_SLICE : before.runtime);
+}
+
+/* The system may end a sleep later by a thread's slack. Asks for the least where the calling thread has the usual one, which is longer than a nap. */
+static void ask_for_least_slack(void) {
+    if (prctl(PR_GET_TIMERSLACK, 0ul, 0ul, 0ul, 0ul) == USUAL_SLACK) (void)prctl(PR_SET_TIMERSLACK, 1ul, 0ul, 0ul, 0ul);
+}
+
+COLD void ask_to_run_soon(void) {
+    if (is_filtered()) return;
+    ask_for_short_slice();
+    ask_for_least_slack();
 }
 
 /* A thread is asked once, whichever heaps it uses. */
@@ -47,5 +57,5 @@ static void run_soon(const heap *of) {
     static _Thread_local bool has_asked;
     if (has_asked || of->keeps_slice) return;
     has_asked = true;
-    ask_for_short_slice();
+    ask_to_run_soon();
 }

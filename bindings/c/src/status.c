@@ -73,8 +73,26 @@ const char *zelamiku_status_text(uint32_t status) {
     return text_of(status, 0);
 }
 
-/* Sets the thread's message: the path, what was called, the status or `cause` in its place, the system's cause, and the cure, by the status
- * where it is NULL. Answers the status. */
+/* What mends a failure, where a user can: by the system's cause, or by the status. */
+static const char *cure_of(zelamiku_status status, int error) {
+    bool is_full = error == ENOSPC || error == EDQUOT;
+    if (status == ZELAMIKU_LOST && is_full) return "make room, then close the heap and open it again";
+    if (status != ZELAMIKU_DEVICE) return text_of(status, 1);
+    switch (error) {
+    case ENOSPC: case EDQUOT: return "make room";
+    case EIO: return "its disk has failed: mount the file system again";
+    case EROFS: return "mount the file system for writing";
+    case EACCES: case EPERM: return "ask its owner for the right to read and write it";
+    case ENOENT: return "make its folder first";
+    case EMFILE: case ENFILE: return "close some files, or allow more of them (ulimit -n)";
+    case ENOLCK: return "use a file system that has locks";
+    case EISDIR: return "name a file";
+    default: return text_of(status, 1);
+    }
+}
+
+/* Sets the thread's message: the path, what was called, the status or `cause` in its place, the system's cause, and the cure, by cure_of where
+ * it is NULL. Answers the status. */
 __attribute__((format(printf, 6, 7))) COLD zelamiku_status fail(const char *path, zelamiku_status status, int error, const char *cause,
                                                                const char *cure, const char *call, ...) {
     char called[160], system[96] = "";
@@ -84,7 +102,7 @@ __attribute__((format(printf, 6, 7))) COLD zelamiku_status fail(const char *path
     (void)vsnprintf(called, sizeof called, call, numbers);
     va_end(numbers);
     message_error = error;
-    const char *what = cause != NULL ? cause : text_of(status, 0), *then = cure != NULL ? cure : text_of(status, 1);
+    const char *what = cause != NULL ? cause : text_of(status, 0), *then = cure != NULL ? cure : cure_of(status, error);
     /* Of a path that is too long its end. */
     size_t length = path == NULL ? 0 : strlen(path);
     if (length > 500) path += length - 500;

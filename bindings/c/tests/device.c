@@ -391,7 +391,7 @@ static unsigned makings(unsigned what) {
 static void after_loss(zelamiku_thread own) {
     uint64_t value = 0;
     zelamiku_stats stats;
-    MUST(zelamiku_thread_await(own) == ZELAMIKU_LOST && zelamiku_heap_error() == ENOSPC);
+    MUST(zelamiku_thread_await(own) == ZELAMIKU_LOST && zelamiku_heap_error() == ENOSPC && says("; make room, then close the heap and open it again"));
     MUST(zelamiku_thread_enter(own, 0) == ZELAMIKU_LOST && zelamiku_thread_load(own, 0, &value) == ZELAMIKU_LOST && value == 0);
     MUST(zelamiku_heap_stats(heap, &stats) == ZELAMIKU_OK && stats.sections == 1);
     MUST(zelamiku_heap_close(heap) == ZELAMIKU_LOST);
@@ -401,7 +401,7 @@ static void after_loss(zelamiku_thread own) {
 
 /* DEVICE is no end: the section is there still, and durable once the call was made again. */
 static void after_refusal(zelamiku_thread own) {
-    MUST(zelamiku_heap_error() == cause() && says(strerror(cause())));
+    MUST(zelamiku_heap_error() == cause() && says(strerror(cause())) && says(cause() == EIO ? "; its disk has failed" : "; make room"));
     uint64_t crashed = value_on(held.durable);
     MUST(crashed == 7 || (crashed == 8 && fault == LATE));
     MUST(load(own, 0) == 8);
@@ -496,7 +496,7 @@ static unsigned lossy_stops(bool abandons) {
         if (is_done)
             OK(status);
         else
-            MUST(status == ZELAMIKU_LOST && zelamiku_heap_error() == ENOSPC && says("what wasn't durable is lost: No space left on device"));
+            MUST(status == ZELAMIKU_LOST && zelamiku_heap_error() == ENOSPC && says("lost: No space left on device; make room, then"));
         uint64_t found = value_on(held.now);
         MUST(found == 8 || (found == 7 && !is_done));
         lost += found == 7;

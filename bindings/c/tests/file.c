@@ -305,6 +305,7 @@ static void old(void) {
 /* One open has the file's heap at a time; and one that was replaced meanwhile has none. */
 static void others(void) {
     zelamiku_heap heap;
+    MUST(zelamiku_heap_open(&heap, "no folder/heap", &plan, NULL) == ZELAMIKU_DEVICE && strstr(zelamiku_heap_message(), "; make its folder first") != NULL);
     life();
     int file = open("heap", O_RDWR | O_CLOEXEC);
     MUST(file >= 0 && flock(file, LOCK_SH | LOCK_NB) == 0);
@@ -390,6 +391,13 @@ static void has_kept(uint32_t threads, uint64_t each) {
 }
 
 /* A heap is made with a lane more than threads, which is the helper's, but with 32 of them. Neither a close nor a crash tells of it. */
+static unsigned without_lane; /* lines that no lane is the helper's */
+
+static void note_warning(void *of, uint32_t level, const char *text) {
+    (void)of;
+    without_lane += level == ZELAMIKU_LOG_WARNING && strstr(text, "heap: no lane is the helper's, so a round takes four syncs") == text;
+}
+
 static void lanes(void) {
     static const uint32_t THREADS[] = {1, 31, 32, 4};
     zelamiku_plan usual = plan;
@@ -400,7 +408,10 @@ static void lanes(void) {
         zelamiku_shape shape;
         remove_file();
         plan.lanes = threads;
+        plan.log = note_warning;
+        without_lane = 0;
         MUST(open_heap(&heap) == ZELAMIKU_OK && report.is_made == 1 && report.told.found.lanes == threads && report.told.found.threads == threads);
+        MUST(without_lane == (threads == 32));
         use_lanes(heap, threads, there > threads ? 2 : 4);
         MUST(zelamiku_heap_abandon(heap) == ZELAMIKU_OK);
         read_head(head);
@@ -417,7 +428,8 @@ static void lanes(void) {
     use_lanes(heap, 4, 2);
     MUST(zelamiku_heap_close(heap) == ZELAMIKU_OK);
     plan.lanes = 5;
-    MUST(open_heap(&heap) == ZELAMIKU_OK && report.told.found.lanes == 5);
+    without_lane = 0;
+    MUST(open_heap(&heap) == ZELAMIKU_OK && report.told.found.lanes == 5 && without_lane == 1);
     use_lanes(heap, 5, 4);
     MUST(zelamiku_heap_close(heap) == ZELAMIKU_OK && open_heap(&heap) == ZELAMIKU_OK);
     has_kept(5, 1);

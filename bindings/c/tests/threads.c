@@ -183,7 +183,24 @@ static long own_SYS_sched_setattr(int process, void *of, unsigned flags) {
     return 0;
 }
 
-#define prctl(what) (filter)
+static _Thread_local int own_slack = 50000; /* of timers */
+
+static int own_PR_GET_SECCOMP(void) {
+    return filter;
+}
+
+static int own_PR_GET_TIMERSLACK(unsigned long a, unsigned long b, unsigned long c, unsigned long d) {
+    MUST(a == 0 && b == 0 && c == 0 && d == 0);
+    return own_slack;
+}
+
+static int own_PR_SET_TIMERSLACK(unsigned long nanoseconds, unsigned long b, unsigned long c, unsigned long d) {
+    MUST(b == 0 && c == 0 && d == 0);
+    own_slack = (int)nanoseconds;
+    return 0;
+}
+
+#define prctl(what, ...) own_##what(__VA_ARGS__)
 #define pwrite flaky_pwrite
 #define fdatasync flaky_fdatasync
 #define syscall(number, ...) own_##number(__VA_ARGS__)
@@ -1429,16 +1446,20 @@ static zelamiku_heap open_keeping(uint32_t keeps_slice) {
     return opened;
 }
 
-/* A thread that awaits, of which it is told whether its slice was its own before. */
+static int slack_after; /* of the last of these threads */
+
+/* A thread that awaits, of which it is told whether its slice and its slack were its own before. */
 static void *await_with_slice(void *data) {
     uint64_t before = (uintptr_t)data;
     inherited_slice = before;
+    if (before != 0) own_slack = (int)before;
     zelamiku_thread own = begin_thread();
     for (int i = 0; i < 2; i++) {
         add(own, TOTAL, 0, 1);
         MUST(zelamiku_thread_await(own) == ZELAMIKU_OK);
     }
     MUST(zelamiku_thread_end(own) == ZELAMIKU_OK);
+    slack_after = own_slack;
     return (void *)(uintptr_t)own_slice;
 }
 
@@ -1468,21 +1489,22 @@ static void slices(void) {
     slices_asked = 0;
     all = open_keeping(0);
     await_asked(2);
-    MUST(slice_after(0) == SHORT_SLICE && slices_asked == 4);
-    MUST(slice_after(5000000) == 5000000 && slices_asked == 6);
+    MUST(slice_after(0) == SHORT_SLICE && slices_asked == 4 && slack_after == 1);
+    MUST(slice_after(5000000) == 5000000 && slices_asked == 6 && slack_after == 5000000);
     pthread_t thread;
     void *answer;
     MUST(pthread_create(&thread, NULL, await_round_with_slice, NULL) == 0 && pthread_join(thread, &answer) == 0);
     MUST((uintptr_t)answer == SHORT_SLICE && slices_asked == 8);
     usual_slice = 0;
     MUST(slice_after(0) == 0 && slices_asked == 8);
+    MUST(slack_after == 1);
     usual_slice = 2100000;
     filter = 2;
-    MUST(slice_after(0) == 0 && slices_asked == 8);
+    MUST(slice_after(0) == 0 && slices_asked == 8 && slack_after == USUAL_SLACK);
     filter = 0;
     MUST(zelamiku_heap_close(all) == ZELAMIKU_OK);
     all = open_keeping(1);
-    MUST(slice_after(0) == 0 && zelamiku_heap_close(all) == ZELAMIKU_OK && slices_asked == 8);
+    MUST(slice_after(0) == 0 && zelamiku_heap_close(all) == ZELAMIKU_OK && slices_asked == 8 && slack_after == USUAL_SLACK);
     MUST(unlink("slices.heap") == 0);
 }
 
