@@ -580,17 +580,28 @@ static bool makes_nothing(void) {
     return is_well && access("streams", F_OK) != 0 && access("streams.heapctl-new", F_OK) != 0 && setrlimit(RLIMIT_NOFILE, &before) == 0;
 }
 
+/* How many descriptors a program would have too that this one executes. */
+static unsigned inherited(void) {
+    unsigned count = 0;
+    for (int file = 0; file < 256; file++) {
+        int flags = fcntl(file, F_GETFD);
+        count += flags >= 0 && (flags & FD_CLOEXEC) == 0;
+    }
+    return count;
+}
+
 /* What a program without standard streams prints goes nowhere, and not into the heap. */
 static bool prints_nowhere(void) {
     zelamiku_heap heap;
     zelamiku_thread own;
     int event = -1;
     for (int stream = 0; stream <= STDERR_FILENO; stream++) (void)close(stream);
+    unsigned before = inherited();
     bool is_well = makes_nothing();
     is_well &= zelamiku_heap_open(&heap, "streams", &plan, NULL) == ZELAMIKU_OK && zelamiku_thread_begin(&own, heap) == ZELAMIKU_OK;
     is_well &= zelamiku_thread_event(own, &event) == ZELAMIKU_OK && event > STDERR_FILENO;
     for (int stream = 0; stream <= STDERR_FILENO; stream++) is_well &= write(stream, "told", 4) == -1;
-    for (int file = 0; file < 256; file++) is_well &= fcntl(file, F_GETFD) < 0 || (fcntl(file, F_GETFD) & FD_CLOEXEC) != 0;
+    is_well &= inherited() == before;
     is_well &= zelamiku_heap_copy(heap, "streams' copy") == ZELAMIKU_OK && zelamiku_thread_end(own) == ZELAMIKU_OK;
     return is_well && zelamiku_heap_close(heap) == ZELAMIKU_OK;
 }
