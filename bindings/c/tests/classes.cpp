@@ -331,6 +331,8 @@ static void hand_over_hand() {
     std::vector<Object> many;
     for (std::uint32_t i = 0; i < 17; i++) many.push_back({16 - i});
     MUST(thrown([&] { (void)session.enter({many.begin(), many.end()}); }) == ZELAMIKU_TOO_MANY);
+    const std::vector<Object> same(17, accounts.alice);
+    MUST(session.try_enter({same.begin(), same.end()}).has_value());
     {
         const Guard bob = other.enter(accounts.bob);
         MUST(!session.try_enter({accounts.bob, accounts.alice}).has_value() && other.try_enter(accounts.alice).has_value());
