@@ -110,10 +110,10 @@ static int refused_eventfd(unsigned count, int how) {
 static int refused_thread(pthread_t *thread, const pthread_attr_t *how, void *(*body)(void *), void *data) {
     return refuses(EAGAIN) ? EAGAIN : pthread_create(thread, how, body, data);
 }
-static int refused_prctl(int what) {
-    return refuses(EPERM) ? -1 : prctl(what);
+/* These calls were made, and return that they weren't: of syscall those that ask for slices. */
+static int refused_prctl(int answer) {
+    return refuses(EPERM) ? -1 : answer;
 }
-/* The call was made; those that ask for slices answer that they weren't. */
 static long refused_syscall(long number, long answer) {
     bool is_of_slices = number == SYS_sched_getattr || number == SYS_sched_setattr;
     return is_of_slices && refuses(EPERM) ? -1 : answer;
@@ -141,7 +141,7 @@ static long refused_syscall(long number, long answer) {
 #define fchown refused_fchown
 #define eventfd refused_eventfd
 #define pthread_create refused_thread
-#define prctl refused_prctl
+#define prctl(...) refused_prctl(prctl(__VA_ARGS__))
 #define syscall(number, ...) refused_syscall(number, syscall(number, __VA_ARGS__))
 #include "../zelamiku_threads.c"
 #undef stat
