@@ -1,6 +1,7 @@
 //! What recovery gives of the disk of a heap that was closed or crashed.
 
 use block_disk::{Fill, MemDisk};
+use headline::recover_left;
 use heap_model::Cut;
 use recover::recover;
 use std::alloc::Global;
@@ -26,9 +27,9 @@ pub trait Expected {
     fn is_met(&self, values: &[u64], kept: &Cut) -> bool;
 }
 
-// Whether recovery gives of this disk what is expected.
+// Whether recovery gives of this disk, which a crash left, what is expected.
 fn recovers<E: Expected>(alloc: Global, disk: MemDisk, expected: &E) -> bool {
-    match recover(alloc, disk) {
+    match recover_left::<MemDisk, MemDisk>(alloc, disk) {
         Ok((recovered, report)) => {
             let is_met = expected.is_met(recovered.heap(), &report.kept);
             drop(recovered);

@@ -1,4 +1,4 @@
-//! Tests of: trim_helper, thread_heap.
+//! Tests of: trim_helper, thread_heap, headline.
 //!
 //! Heaps that run, by their public calls alone: how far a session comes ahead of its helper, what closing answers, and what a device that fails
 //! leaves.
