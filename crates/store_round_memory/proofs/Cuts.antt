@@ -22,9 +22,7 @@ use Rattle.undo_log.proofs.Back.{length_undo}
 use Rattle.heap_model.specs.Past.{has_store}
 use Rattle.store_image.proofs.Growing.{undo_append}
 use Rattle.store_image.proofs.Places.{cut_place, ended_undo, in_sections, past_sections, records_within}
-use Rattle.store_helper_sections.specs.HelperSections.{earlier, first_taken}
 use Rattle.store_round_memory.specs.Counting.{is_kept, kept_store, records_left}
-use Rattle.store_round_memory.proofs.Finding.{earlier_none}
 
 -- a record is one of the first n sections just where its place is before that behind them
 ended_up : (more older : List UndoRecord) → ended (map undo_action older) ≤ ended (map undo_action (more ++ older))
@@ -227,31 +225,3 @@ module _ (base cut : ℕ → ℕ) (more : (l : ℕ) → base l ≤ cut l) where
 pub counts_ahead : (base cut : ℕ → ℕ) (log : List (ℕ × Record)) (l start place count : ℕ) → base l ≤ cut l → start ≡ records_in (base l) (undo_logs log l) → place ≡ records_in (cut l) (undo_logs log l) → count ≡ place - start →
     count ≡ records_in (cut l - base l) (undo_logs (records_since base log) l)
 counts_ahead base cut log l start place count more starts places is = omega (arith, starts, places, is, cut_place base l cut log more)
-
--- who takes an object of what is left takes it of all
-none_of : (u v : Option ℕ) → earlier u v ≡ None → (u ≡ None) × (v ≡ None)
-none_of None v is = (refl, is)
-none_of (Some n) v is = absurd cc
-
-none_both : (u v : Option ℕ) → u ≡ None → v ≡ None → earlier u v ≡ None
-none_both u v a b = (λ i. earlier (a i) (b i))
-
-taken_one : (o l : ℕ) (r : Record) (xs : List (ℕ × Record)) → first_taken o ((l, r) ∷ xs) ≡ earlier (first_taken o xs) (first_taken o ((l, r) ∷ []))
-taken_one o l (Acq p n) xs = refl
-taken_one o l (Rel p n) xs = sym (earlier_none (first_taken o xs))
-taken_one o l (WaitRel p n) xs = sym (earlier_none (first_taken o xs))
-taken_one o l (Put f v w) xs = sym (earlier_none (first_taken o xs))
-
-pub left_untaken : (counts : List ℕ) (o : ℕ) (xs : List (ℕ × Record)) → first_taken o xs ≡ None → first_taken o (records_left counts xs) ≡ None
-left_untaken counts o [] none = refl
-left_untaken counts o ((l, r) ∷ older) none =
-    let parts = none_of (first_taken o older) (first_taken o ((l, r) ∷ [])) (sym (taken_one o l r older) ∙ none) in
-    let rest : first_taken o (records_left counts older) ≡ None = left_untaken counts o older parts.0 in
-    elim (is_kept counts l older) as (λ b. first_taken o (if b then records_left counts older else (l, r) ∷ records_left counts older) ≡ None) [
-      | true ↦ rest
-      | false ↦ taken_one o l r (records_left counts older) ∙ none_both (first_taken o (records_left counts older)) (first_taken o ((l, r) ∷ [])) rest parts.1
-    ]
-
-pub older_untaken : (o : ℕ) (newer older : List (ℕ × Record)) → first_taken o (newer ++ older) ≡ None → first_taken o older ≡ None
-older_untaken o [] older none = none
-older_untaken o ((l, r) ∷ newer) older none = older_untaken o newer older (none_of (first_taken o (newer ++ older)) (first_taken o ((l, r) ∷ [])) (sym (taken_one o l r (newer ++ older)) ∙ none)).0

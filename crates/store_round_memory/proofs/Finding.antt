@@ -1,5 +1,5 @@
 -- A survey that notes one record more.
-use Rattle.std.proofs.Common.{ℕ, zero, suc, ◌≡◌, ◌≢◌, ◌+◌, ◌<◌, ◌≤◌, if◌then◌else◌, Bool, true, false, List, [], ◌∷◌, ◌++◌, get_or, length, slice_index, slice_set, Option, Some, None, refl, sym, ap, ◌∙◌, subst, inl, inr, arith}
+use Rattle.std.proofs.Common.{ℕ, zero, suc, ◌≡◌, ◌≢◌, ◌+◌, ◌<◌, ◌≤◌, if◌then◌else◌, Bool, true, false, List, [], ◌∷◌, ◌++◌, get_or, length, slice_index, slice_set, Some, refl, sym, ap, ◌∙◌, subst, inl, inr, arith}
 use Rattle.std.specs.Prelude.{All, AllPairs, Contains, vec_capacity}
 use Rattle.std.proofs.lemmas.Bool.{cases_eq, cases_lt}
 use Rattle.std.proofs.lemmas.List.{get_or-set_other, get_or-set_same, get_or_append_left, get_or_past, get_or_push, length-set, length_push, map-append}
@@ -7,11 +7,10 @@ use Rattle.std.proofs.lemmas.List.Elements.{Contains-append_left, Contains-push,
 use Rattle.heap_model.specs.declared.ids.FieldId.{FieldId}
 use Rattle.heap_model.specs.declared.record.Record.{Record}
 use Rattle.heap_model.specs.declared.record.Record.TheVariants.{Put}
-use Rattle.store_helper_sections.specs.HelperSections.{earlier, first_taken}
 use Rattle.store_helper_sections.proofs.Padding.{if_same, if_apart}
 use Rattle.store_round_image.specs.Turning.{fields_of}
 use Rattle.store_round_image.specs.declared.cells.HomeValue.{HomeValue}
-use Rattle.store_round_memory.specs.Counting.{is_kept, kept_store, number_told, records_left}
+use Rattle.store_round_memory.specs.Counting.{first_of, is_kept, kept_store, kept_takes, takes}
 use Rattle.store_round_memory.specs.Surveys.{AreMarked, IsSurvey, NotesStore, TellsDownTo, count_set, is_marked}
 use Rattle.store_round_memory.specs.declared.survey.Survey.{Survey}
 
@@ -98,21 +97,16 @@ module _ (changed : List HomeValue) (marks : List Bool) (field : FieldId) (value
     many = omega (arith, are.many, length_push changed c, count_more marks field.0 lt none);
   }
 
--- of which number an object is first taken
-pub earlier_none : (v : Option ℕ) → earlier v None ≡ v
-earlier_none None = refl
-earlier_none (Some n) = refl
-
 module _ (counts : List ℕ) (all older : List (ℕ × Record)) (l : ℕ) (v : Survey) where
-  put_takes : (g : FieldId) (before value : ℕ) (o : ℕ) → first_taken o (records_left counts ((l, Put g before value) ∷ older)) ≡ first_taken o (records_left counts older)
-  put_takes g before value o = elim (is_kept counts l older) as (λ b. first_taken o (if b then records_left counts older else (l, Put g before value) ∷ records_left counts older) ≡ first_taken o (records_left counts older)) [ true ↦ refl | false ↦ refl ]
+  put_takes : (g : FieldId) (before value : ℕ) (o : ℕ) → kept_takes counts o ((l, Put g before value) ∷ older) ≡ kept_takes counts o older
+  put_takes g before value o = elim (is_kept counts l older) as (λ b. (if b then 0 else 0) + kept_takes counts o older ≡ kept_takes counts o older) [ true ↦ omega arith | false ↦ omega arith ]
 
   -- a store to a field that is marked already
   pub tells_again : (g : FieldId) (before value : ℕ) → is_marked v.marks.items g.0 ≡ true → TellsDownTo counts all ((l, Put g before value) ∷ older) v → TellsDownTo counts all older v
   tells_again g before value marked tells = record {
     values = tells.values;
     rest = λ f none. tells.rest f none ∙ if_apart g.0 f _ (kept_store counts f older) (λ e. let both : true ≡ false = sym marked ∙ ap (is_marked v.marks.items) e ∙ none in cc);
-    taken = λ o. tells.taken o ∙ ap (λ (w : Option ℕ). earlier w (number_told (slice_index v.first.items o))) (put_takes g before value o);
+    opened = λ o. tells.opened o ∙ ap (λ (n : ℕ). takes o all + n) (put_takes g before value o);
   }
 
   -- a kept store to one that isn't
@@ -130,8 +124,7 @@ module _ (counts : List ℕ) (all older : List (ℕ × Record)) (l : ℕ) (v : S
               | inl e ↦ absurd (let both : true ≡ false = sym (get_or-set_same v.marks.items g.0 true false low) ∙ ap (is_marked (slice_set v.marks.items g.0 true)) (sym e) ∙ still in cc)
               | inr ne ↦ tells.rest f (sym (get_or-set_other v.marks.items g.0 f true false ne) ∙ still) ∙ if_apart g.0 f _ (kept_store counts f older) (λ e. ne (sym e))
             ];
-        taken = λ o. tells.taken o ∙ ap (λ (u : Option ℕ). earlier u (number_told (slice_index v.first.items o))) (put_takes g before value o)
-            ∙ ap (λ (xs : List ℕ). earlier (first_taken o (records_left counts older)) (number_told (slice_index xs o))) (sym notes.first);
+        opened = λ o. ap (λ (ns : List ℕ). slice_index ns o + kept_takes counts o all) notes.opened ∙ tells.opened o ∙ ap (λ (n : ℕ). takes o all + n) (put_takes g before value o);
       }
     where
       all_push : (P : HomeValue → Type 0) (xs : List HomeValue) (x : HomeValue) → All P xs → P x → All P (xs ++ x ∷ [])
@@ -149,6 +142,9 @@ survey_store objects fields v w g value was low none notes =
       first = ap (λ (ns : List ℕ). length ns) notes.first ∙ was.first;
       room = omega (arith, notes.capacity, was.room);
       marked = subst (λ (cs : List HomeValue). AreMarked cs w.marks.items) (sym notes.changed) (subst (AreMarked (v.changed.items ++ record { field = g; value = value } ∷ [])) (sym notes.marks) more);
+      taken = ap (λ (ns : List ℕ). length ns) notes.taken ∙ was.taken;
+      opened = ap (λ (ns : List ℕ). length ns) notes.opened ∙ was.opened;
+      firsts = λ o. ap (λ (ns : List ℕ). slice_index ns o) notes.first ∙ was.firsts o ∙ (λ i. first_of (slice_index (sym notes.taken i) o) (slice_index (sym notes.opened i) o));
     }
 
 -- it has room for a field that isn't marked

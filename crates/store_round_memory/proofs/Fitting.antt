@@ -2,7 +2,7 @@
 use Rattle.std.proofs.Common.{ℕ, zero, suc, ◌≡◌, ◌+◌, ◌-◌, ◌*◌, ◌<◌, ◌≤◌, ◌^◌, if◌then◌else◌, true, false, List, [], ◌∷◌, ◌++◌, get_or, length, map, reverse, refl, sym, ap, ◌∙◌, subst, inl, inr, arith}
 use Rattle.std.specs.Prelude.{All}
 use Rattle.std.proofs.lemmas.Bool.Decides.{eqb_tells}
-use Rattle.std.proofs.lemmas.List.{get_or-reverse, length-reverse}
+use Rattle.std.proofs.lemmas.List.{get_or-reverse, get_or_push, length-reverse, length_push}
 use Rattle.std.proofs.Math.Nat.{suc-mul}
 use Rattle.heap_model.specs.declared.record.LaneRecord.{LaneRecord}
 use Rattle.heap_model.specs.declared.record.Record.{Record}
@@ -13,7 +13,7 @@ use Rattle.heap_model.specs.Log.{IsLegal, IsOfLanes, lane, log_from}
 use Rattle.heap_model.specs.Sections.{actions}
 use Rattle.heap_model.specs.Setting.{Setting}
 use Rattle.store_round_memory.specs.Counting.{is_kept, records_left}
-use Rattle.store_round_memory.specs.Surveys.{Fits, FitsLane}
+use Rattle.store_round_memory.specs.Surveys.{Fits, FitsLane, HasLane}
 use Rattle.store_round_memory.proofs.Lists.{lane_other, lane_own, pair}
 
 -- each record of the log fits
@@ -104,3 +104,14 @@ count_room (suc l) room log le = omega (arith, suc-mul l room, le l (omega arith
 -- where each lane has at most so many, all have at most so many times as many as there are lanes
 pub all_within : (lanes room : ℕ) (log : List (ℕ × Record)) → IsOfLanes lanes log → ((l : ℕ) → l < lanes → length (lane l log) ≤ room) → length log ≤ lanes * room
 all_within lanes room log of le = omega (arith, count_all lanes log of, count_room lanes room log le)
+
+-- what is true of each of the records is so of the newest
+pub last_one : (P : LaneRecord → Type 0) (xs : List LaneRecord) (e : LaneRecord) → All P (xs ++ e ∷ []) → P e
+last_one P xs e all = subst P (get_or_push xs e e (length xs) refl) (all (length xs) e (omega (arith, length_push xs e)))
+
+-- each record is of one of 32 lanes
+pub lane_low : (lanes objects fields : ℕ) (xs : List LaneRecord) → lanes ≤ 32 → All (FitsLane lanes objects fields) xs → All (FitsLane 32 objects fields) xs
+lane_low lanes objects fields xs le all k d lt = let one = all k d lt in (omega (arith, one.0, le), one.1)
+
+pub has_lanes : (objects fields : ℕ) (xs : List LaneRecord) → All (FitsLane 32 objects fields) xs → All HasLane xs
+has_lanes objects fields xs all k d lt = (all k d lt).0

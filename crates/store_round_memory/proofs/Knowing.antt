@@ -1,30 +1,30 @@
 -- What is kept in memory stays that of the past.
-use Rattle.std.proofs.Common.{ℕ, zero, suc, ◌≡◌, ◌+◌, ◌-◌, ◌*◌, ◌<◌, ◌≤◌, Bool, true, false, List, [], ◌++◌, get_or, length, slice_index, Option, Some, None, refl, sym, ap, ◌∙◌, subst, inl, inr, arith, length-append}
+use Rattle.std.proofs.Common.{ℕ, ◌≡◌, ◌+◌, ◌-◌, ◌*◌, ◌<◌, ◌≤◌, Bool, true, false, List, [], ◌∷◌, ◌++◌, get_or, length, slice_index, Option, Some, None, sym, ap, ◌∙◌, subst, inl, inr, arith, length-append}
 use Rattle.std.specs.Prelude.{All, Contains}
 use Rattle.std.proofs.lemmas.Bool.{cases_Bool}
 use Rattle.heap_model.specs.declared.record.LaneRecord.{LaneRecord}
 use Rattle.heap_model.specs.declared.record.Record.{Record}
 use Rattle.heap_model.specs.Base.{records_since, records_until}
-use Rattle.heap_model.specs.Log.{IsOfLanes, lane, log_from}
+use Rattle.heap_model.specs.Log.{IsLegal, IsOfLanes, lane, log_from}
 use Rattle.heap_model.specs.Setting.{Setting}
 use Rattle.law_histories.proofs.Rebase.{kept_since}
 use Rattle.undo_log.specs.Dropped.{records_in, undo_logs}
 use Rattle.undo_log.proofs.Back.{length_undo}
 use Rattle.heap_model.specs.Past.{Past, after_log, after_settle, after_trim, applied, has_store}
 use Rattle.store_image.proofs.Growing.{kept_grown, places_grown, since_grown}
-use Rattle.store_image.proofs.Places.{live_size}
-use Rattle.store_helper_sections.specs.HelperSections.{first_taken}
+use Rattle.store_image.proofs.Places.{live_size, records_within}
 use Rattle.store_helper_sections.specs.Image.{kept_by}
 use Rattle.store_round_image.specs.Turning.{fields_of}
 use Rattle.store_round_image.specs.declared.cells.HomeValue.{HomeValue}
-use Rattle.store_round_memory.specs.Counting.{kept_store, number_told, one_more, records_left}
+use Rattle.store_round_memory.specs.Counting.{Counts, kept_store, kept_takes, records_left, taken_after, takes}
 use Rattle.store_round_memory.specs.Rounds.{Changes, HasFound, KnowsRounds, MayKeep, MayLog, Rounds}
-use Rattle.store_round_memory.specs.Surveys.{FitsLane, IsOfTakers, IsSurvey, TellsDownTo, is_marked}
+use Rattle.store_round_memory.specs.Surveys.{FitsLane, IsSurvey, TellsDownTo, is_marked}
 use Rattle.store_round_memory.specs.declared.survey.Survey.{Survey}
-use Rattle.store_round_memory.proofs.Cuts.{Agree, agree, ahead, counts_ahead, is_one, left_is, left_untaken, older_untaken, or_else, since_since, since_store, store_is, stored_field, until_since, until_store, value_is}
+use Rattle.store_round_memory.proofs.Cuts.{Agree, agree, ahead, counts_ahead, is_one, left_is, or_else, since_since, since_store, store_is, stored_field, until_since, until_store, value_is}
 use Rattle.store_round_memory.proofs.Finding.{count_within}
 use Rattle.store_round_memory.proofs.Fitting.{EachFits, all_within, fits_append, from_log, legal_fits, of_lanes, since_lanes, to_log}
 use Rattle.store_round_memory.proofs.Lists.{log_append, log_long}
+use Rattle.store_round_memory.proofs.Takes.{first_is, taken_next, takes_parts}
 use Rattle.store_round_memory.proofs.Writing.{Once, field_found}
 
 -- what was applied is logged
@@ -32,14 +32,22 @@ module _ (s : Setting) (m : Rounds) (p : Past) (fresh : List LaneRecord) (may : 
   pub beyond_more : log_from (m.beyond ++ fresh) ≡ records_since p.cut (applied p)
   beyond_more = log_append m.beyond fresh ∙ (λ i. is i ++ may.knows.beyond i) ∙ sym (since_grown p.cut p.fresh p.logged may.whole)
 
-  pub knows_more : (after : Rounds) → after.kept ≡ m.kept → after.first ≡ m.first → after.lanes ≡ m.lanes → after.starts ≡ m.starts → after.beyond ≡ m.beyond ++ fresh → KnowsRounds s after (after_log p)
-  knows_more after kept first lanes starts beyond = record {
+  pub knows_more : (after : Rounds) → after.kept ≡ m.kept → length after.first ≡ length m.first → after.lanes ≡ m.lanes → after.starts ≡ m.starts → after.beyond ≡ m.beyond ++ fresh →
+      ((o : ℕ) → slice_index after.taken o ≡ takes o (applied p)) → KnowsRounds s after (after_log p)
+  knows_more after kept first lanes starts beyond taken = record {
     fields = ap (λ (xs : List ℕ). length xs) kept ∙ may.knows.fields;
-    objects = ap (λ (xs : List ℕ). length xs) first ∙ may.knows.objects;
+    objects = first ∙ may.knows.objects;
     kept = λ f lt. ap (λ (xs : List ℕ). slice_index xs f) kept ∙ may.knows.kept f lt ∙ kept_grown s p.fresh p.logged p.cut f may.legal may.whole;
     beyond = ap log_from beyond ∙ beyond_more;
     starts = λ l lt. ap (λ (xs : List ℕ). slice_index xs l) starts ∙ may.knows.starts l (subst (λ (n : ℕ). l < n) lanes lt) ∙ sym (places_grown (p.cut l) p.fresh p.logged l (may.whole l));
+    taken = taken;
   }
+
+  -- the record's number is the next one
+  pub taken_more : (e : LaneRecord) → fresh ≡ e ∷ [] → (o taken : ℕ) → taken ≡ slice_index m.taken o → taken_after o e.«record» taken ≡ takes o (applied p)
+  taken_more e one o taken was =
+      let log : applied p ≡ (e.lane.0, e.«record») ∷ p.logged = ap (λ (xs : List (ℕ × Record)). xs ++ p.logged) (sym is ∙ ap log_from one) in
+      taken_next s p.logged e.lane.0 e.«record» o taken (subst (IsLegal s) log may.legal) (was ∙ may.knows.taken o) ∙ ap (takes o) (sym log)
 
   -- each lane has at most so many beyond the cut
   lane_room : (l : ℕ) → l < m.lanes → length (lane l (records_since p.cut (applied p))) ≤ m.capacity
@@ -74,25 +82,10 @@ module _ (s : Setting) (m : Rounds) (p : Past) (fresh : List LaneRecord) (may : 
       subst (λ (n : ℕ). All (FitsLane m.lanes n (length m.kept)) (m.beyond ++ fresh)) (sym may.knows.objects)
       (subst (λ (n : ℕ). All (FitsLane m.lanes s.objects n) (m.beyond ++ fresh)) (sym may.knows.fields) (fits_more named))
 
-pub takers_more : (beyond fresh : List LaneRecord) (v : Survey) → IsOfTakers (log_from beyond) v → IsOfTakers (log_from (beyond ++ fresh)) v
-takers_more beyond fresh v takers o some none = takers o some (older_untaken o (log_from fresh) (log_from beyond) (sym (ap (first_taken o) (log_append beyond fresh)) ∙ none))
-
--- what a number tells
-told_back : (n : ℕ) (v : Option ℕ) → number_told n ≡ v → n ≡ one_more v
-told_back n None is = zero_told n is
-  where
-    zero_told : (n : ℕ) → number_told n ≡ None → n ≡ 0
-    zero_told zero is = refl
-    zero_told (suc n) is = absurd cc
-told_back n (Some k) is = some_told n is
-  where
-    some_told : (n : ℕ) → number_told n ≡ Some k → n ≡ k + 1
-    some_told zero is = absurd cc
-    some_told (suc n) is = let same : n ≡ k = cc in omega (arith, same)
-
 -- a survey of the records beyond the cut, by how many of each lane the next cut keeps
-module _ (s : Setting) (m : Rounds) (p : Past) (next : ℕ → ℕ) (places counts : List ℕ) (may : MayKeep s m p next places) (objects fields : ℕ) (low : m.lanes ≤ 32)
-    (fits : All (FitsLane m.lanes objects fields) m.beyond) (between : (l : ℕ) → l < 32 → slice_index counts l ≡ slice_index places l - slice_index m.starts l) where
+module _ (s : Setting) (m : Rounds) (p : Past) (next : ℕ → ℕ) (places raw counts many : List ℕ) (may : MayKeep s m p next places) (objects fields : ℕ) (low : m.lanes ≤ 32)
+    (fits : All (FitsLane m.lanes objects fields) m.beyond) (between : (l : ℕ) → l < 32 → slice_index raw l ≡ slice_index places l - slice_index m.starts l)
+    (counted : Counts many (log_from m.beyond)) (within : (l : ℕ) → l < 32 → slice_index raw l ≤ slice_index many l → slice_index counts l ≡ slice_index raw l) where
   abbrev xs : List (ℕ × Record)
   xs = records_since p.cut p.logged
 
@@ -100,7 +93,11 @@ module _ (s : Setting) (m : Rounds) (p : Past) (next : ℕ → ℕ) (places coun
   cut = ahead p.cut next may.more
 
   counts_are : (l : ℕ) → l < m.lanes → slice_index counts l ≡ records_in (cut l) (undo_logs xs l)
-  counts_are l lt = counts_ahead p.cut next p.logged l (slice_index m.starts l) (slice_index places l) (slice_index counts l) (may.more l) (may.knows.starts l lt) (may.behind l lt) (between l (omega (arith, lt, low)))
+  counts_are l lt =
+      let under : l < 32 = omega (arith, lt, low) in
+      let is : slice_index raw l ≡ records_in (cut l) (undo_logs xs l) = counts_ahead p.cut next p.logged l (slice_index m.starts l) (slice_index places l) (slice_index raw l) (may.more l) (may.knows.starts l lt) (may.behind l lt) (between l under) in
+      let long : length (lane l (log_from m.beyond)) ≡ length (lane l xs) = ap (λ (ys : List (ℕ × Record)). length (lane l ys)) may.knows.beyond in
+      within l under (omega (arith, is, records_within (cut l) (undo_logs xs l), length_undo (lane l xs), counted l under, long)) ∙ is
 
   agrees : Agree counts cut xs
   agrees = agree counts cut m.lanes xs counts_are (subst (IsOfLanes m.lanes) may.knows.beyond (of_lanes m.lanes objects fields (log_from m.beyond) (to_log m.lanes objects fields m.beyond fits)))
@@ -142,8 +139,17 @@ module _ (s : Setting) (m : Rounds) (p : Past) (next : ℕ → ℕ) (places coun
         let at = field_found v.changed.items f d ((survey.marked.listed f).1 is) in
         subst (λ (g : ℕ). has_store g (records_until cut xs) ≡ true) at.2 (store_is counts cut (get_or v.changed.items at.0 d).field.0 xs agrees ∙ ap is_one (over.values at.0 d at.1))
 
-    pub has_found : (after : Rounds) → fields ≡ s.fields → after.changed ≡ v.changed.items → after.marks ≡ v.marks.items → after.first ≡ v.first.items → HasFound s after p next
-    has_found after size changed marks first = record {
+    -- as many takes are open as there are beyond the next cut
+    open_is : (o : ℕ) → slice_index v.open_takes.items o ≡ takes o (records_since next p.logged)
+    open_is o =
+        let parts : kept_takes counts o (log_from m.beyond) + takes o (records_left counts (log_from m.beyond)) ≡ takes o (log_from m.beyond) = takes_parts counts o (log_from m.beyond) in
+        let some : slice_index v.open_takes.items o + kept_takes counts o (log_from m.beyond) ≡ takes o (log_from m.beyond) + 0 = tells.opened o in
+        let left : slice_index v.open_takes.items o ≡ takes o (records_left counts (log_from m.beyond)) = omega (arith, parts, some) in
+        left ∙ ap (takes o) left_beyond
+
+    pub has_found : (after : Rounds) → fields ≡ s.fields → after.changed ≡ v.changed.items → after.marks ≡ v.marks.items → after.first ≡ v.first.items → v.taken.items ≡ m.taken →
+        after.counted ≡ counts → after.beyond ≡ m.beyond → HasFound s after p next
+    has_found after size changed marks first taken counted same = record {
       once = subst Once (sym changed) survey.marked.once;
       few = omega (arith, ap (λ (cs : List HomeValue). length cs) changed, survey.marked.many, count_within v.marks.items, survey.marks, size);
       each = subst (All (Changes s p next)) (sym changed) (λ k d lt. change (get_or v.changed.items k d) (over.values k d lt));
@@ -157,13 +163,10 @@ module _ (s : Setting) (m : Rounds) (p : Past) (next : ℕ → ℕ) (places coun
       ];
       stays = λ f lt out. value_next f ∙ ap (λ (w : Option ℕ). or_else w (kept_by s p.logged p.cut f)) (none_kept f (sym (ap (λ (ms : List Bool). is_marked ms f) marks) ∙ out));
       left = λ f out is. ap (has_store f) (sym (since_since p.cut next may.more p.logged)) ∙ since_store cut f xs (none_newly f (sym (ap (λ (ms : List Bool). is_marked ms f) marks) ∙ out)) is;
-      first = λ o. ap (λ (ns : List ℕ). slice_index ns o) first ∙ told_back (slice_index v.first.items o) (first_taken o (records_since next p.logged)) (sym (tells.taken o) ∙ ap (first_taken o) left_beyond);
+      first = λ o. ap (λ (ns : List ℕ). slice_index ns o) first ∙ survey.firsts o
+          ∙ first_is s p.logged next may.legal may.whole may.closed o (slice_index v.taken.items o) (slice_index v.open_takes.items o) (ap (λ (ns : List ℕ). slice_index ns o) taken ∙ may.knows.taken o) (open_is o);
+      beyond = (λ i. records_left (counted i) (log_from (same i))) ∙ left_beyond;
     }
-
--- each number of a survey is that of an object that is taken
-pub takers_found : (counts : List ℕ) (xs : List (ℕ × Record)) (v : Survey) → TellsDownTo counts xs [] v → IsOfTakers xs v
-takers_found counts xs v tells o some none =
-    some (told_back (slice_index v.first.items o) None (sym (tells.taken o) ∙ left_untaken counts o xs none))
 
 -- the next cut is acknowledged
 module _ (s : Setting) (m : Rounds) (p : Past) (next : ℕ → ℕ) (places : List ℕ) (may : MayKeep s m p next places) (found : HasFound s m p next) (heap : List ℕ) (size : length heap ≡ length m.kept)
@@ -177,17 +180,13 @@ module _ (s : Setting) (m : Rounds) (p : Past) (next : ℕ → ℕ) (places : Li
     | inr out ↦ others f (λ has. let both : true ≡ false = sym ((found.listed f).0 has) ∙ out in absurd cc) ∙ may.knows.kept f lt ∙ sym (found.stays f lt out)
   ]
 
-  pub knows_next : (after : Rounds) → after.kept ≡ heap → after.first ≡ m.first → after.lanes ≡ m.lanes → after.starts ≡ places → log_from after.beyond ≡ records_since next p.logged →
+  pub knows_next : (after : Rounds) → after.kept ≡ heap → after.first ≡ m.first → after.lanes ≡ m.lanes → after.starts ≡ places → log_from after.beyond ≡ records_since next p.logged → after.taken ≡ m.taken →
       KnowsRounds s after (after_trim (after_settle p next))
-  knows_next after kept first lanes starts beyond = record {
+  knows_next after kept first lanes starts beyond taken = record {
     fields = ap (λ (xs : List ℕ). length xs) kept ∙ size ∙ may.knows.fields;
     objects = ap (λ (xs : List ℕ). length xs) first ∙ may.knows.objects;
     kept = λ f lt. ap (λ (xs : List ℕ). slice_index xs f) kept ∙ value_written f lt;
     beyond = beyond;
     starts = λ l lt. ap (λ (xs : List ℕ). slice_index xs l) starts ∙ may.behind l (subst (λ (n : ℕ). l < n) lanes lt);
+    taken = λ o. ap (λ (ns : List ℕ). slice_index ns o) taken ∙ may.knows.taken o;
   }
-
--- each number of a survey is that of an object that is taken beyond the next cut
-pub takers_left : (s : Setting) (m : Rounds) (p : Past) (next : ℕ → ℕ) (v : Survey) (left : List LaneRecord) → HasFound s m p next → m.first ≡ v.first.items → log_from left ≡ records_since next p.logged → IsOfTakers (log_from left) v
-takers_left s m p next v left found first is o some none =
-    some (ap (λ (ns : List ℕ). slice_index ns o) (sym first) ∙ found.first o ∙ ap one_more (ap (first_taken o) (sym is) ∙ none))

@@ -1,8 +1,12 @@
 pub mod Lists
+pub mod Takes
 pub mod Finding
 pub mod Cuts
 pub mod Leaving
 pub mod Writing
 pub mod Moving
+pub mod Opening
+pub mod Fronts
 pub mod Fitting
 pub mod Knowing
+pub mod Adding

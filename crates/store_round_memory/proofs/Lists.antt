@@ -1,11 +1,13 @@
 -- Lists of lanes' records, the oldest first, and the logs that they are.
-use Rattle.std.proofs.Common.{ℕ, zero, suc, ◌≡◌, ◌+◌, ◌-◌, ◌<◌, ◌≤◌, ◌^◌, ◌==◌, if◌then◌else◌, nat_lt, Bool, true, false, List, [], ◌∷◌, ◌++◌, get_or, length, map, replicate, reverse, take, drop, slice_index, slice_set, refl, sym, ap, ◌∙◌, inl, inr, arith}
+use Rattle.std.proofs.Common.{ℕ, zero, suc, ◌≡◌, ◌+◌, ◌-◌, ◌<◌, ◌≤◌, ◌==◌, if◌then◌else◌, nat_lt, Bool, true, false, List, [], ◌∷◌, ◌++◌, get_or, length, map, replicate, reverse, take, drop, slice_index, slice_set, refl, sym, ap, ◌∙◌, subst, inl, inr, arith}
 use Rattle.std.proofs.lemmas.Bool.Decides.{eqb_tells}
-use Rattle.std.proofs.lemmas.List.{drop-drop, get_or-drop, get_or-replicate, get_or-set_other, get_or-set_same, length-map, length-reverse, length-take-le, map-append, reverse-append, take_more}
+use Rattle.std.proofs.lemmas.List.{drop-drop, get_or-drop, get_or-reverse, get_or-set_other, get_or-set_same, get_or-take, length-map, length-reverse, length-take-le, map-append, reverse-append, take_more}
 use Rattle.heap_model.specs.declared.record.LaneRecord.{LaneRecord}
 use Rattle.heap_model.specs.declared.record.Record.{Record}
-use Rattle.heap_model.specs.Log.{lane, log_from}
-use Rattle.store_round_memory.specs.Counting.{is_kept}
+use Rattle.heap_model.specs.Log.{IsOfLanes, lane, log_from}
+use Rattle.store_round_memory.specs.Surveys.{HasLane}
+use Rattle.std.specs.Prelude.{All}
+use Rattle.store_round_memory.specs.Counting.{Counts, is_kept}
 
 abbrev pub pair : LaneRecord → ℕ × Record
 pair e = (e.lane.0, e.record)
@@ -43,10 +45,6 @@ lane_own x xs = elim (eqb_tells x.0 x.0) [
 pub lane_other : (l : ℕ) (x : ℕ × Record) (xs : List (ℕ × Record)) → (x.0 == l) ≡ false → length (lane l (x ∷ xs)) ≡ length (lane l xs)
 lane_other l x xs apart = ap (λ b. length (if b then x.1 ∷ lane l xs else lane l xs)) apart
 
--- by lane so many records
-abbrev pub Counts : (counts : List ℕ) → List (ℕ × Record) → Type 0
-Counts counts xs = (l : ℕ) → l < 32 → slice_index counts l ≡ length (lane l xs)
-
 -- with one more
 pub count_one : (counts : List ℕ) (x : ℕ × Record) (xs : List (ℕ × Record)) → length counts ≡ 32 → x.0 < 32 → Counts counts xs → Counts (slice_set counts x.0 (slice_index counts x.0 + 1)) (x ∷ xs)
 count_one counts x xs long low are l within = elim (eqb_tells x.0 l) [
@@ -66,15 +64,9 @@ count_less counts x xs long low are l within = elim (eqb_tells x.0 l) [
   | inr e ↦ get_or-set_other counts x.0 l (slice_index counts x.0 - 1) 0 (λ same. e.1 (sym same)) ∙ are l within ∙ lane_other l x xs e.0
 ]
 
--- nothing is counted
-pub none_counted : Counts (replicate 32 0) []
-none_counted l low = get_or-replicate 32 l 0 0 low
-
--- a count is below the records' number, which fits a word
-pub count_low : (counts : List ℕ) (xs : List LaneRecord) (i : ℕ) (l : ℕ) → l < 32 → i < length xs → length xs < 2 ^ 64 → Counts counts (log_from (take i xs)) → slice_index counts l + 1 < 2 ^ 64
-count_low counts xs i l low lt few are =
-    let some : length (log_from (take i xs)) ≡ i = log_long (take i xs) ∙ length-take-le i xs (omega (arith, lt)) in
-    omega (arith, are l low, lane_within l (log_from (take i xs)), some, lt, few)
+-- a count is no more than the records' number
+pub count_within : (counts : List ℕ) (xs : List LaneRecord) (l : ℕ) → l < 32 → Counts counts (log_from xs) → slice_index counts l ≤ length xs
+count_within counts xs l low are = omega (arith, are l low, lane_within l (log_from xs), log_long xs)
 
 -- lists that are the same from a place on
 pub same_at : {A : Type 0} (n : ℕ) (xs ys : List A) (d : A) → drop n xs ≡ drop n ys → get_or xs n d ≡ get_or ys n d
@@ -98,3 +90,18 @@ pub zero_at : (n l : ℕ) → slice_index (replicate n 0) l ≡ 0
 zero_at zero l = refl
 zero_at (suc n) zero = refl
 zero_at (suc n) (suc l) = zero_at n l
+
+-- the first records are of 32 lanes, where all are
+lanes_mapped : (xs : List LaneRecord) → All HasLane xs → IsOfLanes 32 (map pair xs)
+lanes_mapped [] all = tt
+lanes_mapped (e ∷ xs) all = (all 0 e (omega arith), lanes_mapped xs (λ k d lt. all (suc k) d (omega (arith, lt))))
+
+pub of_lanes_log : (xs : List LaneRecord) → All HasLane xs → IsOfLanes 32 (log_from xs)
+of_lanes_log xs all = lanes_mapped (reverse xs) (λ k d lt.
+    let low : k < length xs = omega (arith, lt, length-reverse xs) in
+    subst HasLane (sym (get_or-reverse xs k d low)) (all (length xs - 1 - k) d (omega (arith, low))))
+
+pub of_lanes_first : (n : ℕ) (xs : List LaneRecord) → n ≤ length xs → All HasLane xs → IsOfLanes 32 (log_from (take n xs))
+of_lanes_first n xs le all = of_lanes_log (take n xs) (λ k d lt.
+    let low : k < n = omega (arith, lt, length-take-le n xs le) in
+    subst HasLane (sym (get_or-take n xs k d low)) (all k d (omega (arith, low, le))))

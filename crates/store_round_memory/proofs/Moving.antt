@@ -1,5 +1,5 @@
 -- A survey whose values stand in another order.
-use Rattle.std.proofs.Common.{ℕ, ◌≡◌, ◌≢◌, ◌<◌, Bool, List, eqb, length, slice_index, Some, sym, ap, ◌∙◌, subst, arith}
+use Rattle.std.proofs.Common.{ℕ, ◌≡◌, ◌≢◌, ◌+◌, ◌<◌, Bool, List, eqb, length, slice_index, Some, sym, ap, ◌∙◌, subst, arith}
 use Rattle.std.specs.List.{IsDistinct}
 use Rattle.std.specs.List.Sorted.{IsPermutation}
 use Rattle.std.specs.Prelude.{AllPairs, vec_capacity}
@@ -9,10 +9,9 @@ use Rattle.std.proofs.lemmas.List.Sorted.{All-permutation, Contains-permutation,
 use Rattle.std.proofs.lemmas.Map.Keys.{IsDistinct-IsPermutation}
 use Rattle.std.proofs.lemmas.Map.Made.{AllPairs-from_IsDistinct, IsDistinct-from_AllPairs}
 use Rattle.heap_model.specs.declared.record.Record.{Record}
-use Rattle.store_helper_sections.specs.HelperSections.{earlier, first_taken}
 use Rattle.store_round_image.specs.Turning.{fields_of}
 use Rattle.store_round_image.specs.declared.cells.HomeValue.{HomeValue}
-use Rattle.store_round_memory.specs.Counting.{kept_store, number_told, records_left}
+use Rattle.store_round_memory.specs.Counting.{first_of, kept_store, kept_takes}
 use Rattle.store_round_memory.specs.Surveys.{AreMarked, IsSurvey, TellsDownTo, is_marked}
 use Rattle.store_round_memory.specs.declared.survey.Survey.{Survey}
 use Rattle.store_round_memory.proofs.Writing.{Once}
@@ -51,7 +50,7 @@ module _ (xs ys : List HomeValue) (moved : IsPermutation xs ys) where
     many = omega (arith, are.many, length_permutation xs ys moved);
   }
 
-module _ (v w : Survey) (moved : IsPermutation v.changed.items w.changed.items) (marks : w.marks.items ≡ v.marks.items) (first : w.first.items ≡ v.first.items) where
+module _ (v w : Survey) (moved : IsPermutation v.changed.items w.changed.items) (marks : w.marks.items ≡ v.marks.items) (first : w.first.items ≡ v.first.items) (taken : w.taken.items ≡ v.taken.items) (opened : w.open_takes.items ≡ v.open_takes.items) where
   -- it stays a survey
   pub survey_moved : (objects fields : ℕ) → vec_capacity w.changed ≡ vec_capacity v.changed → IsSurvey objects fields v → IsSurvey objects fields w
   survey_moved objects fields capacity was = record {
@@ -59,6 +58,9 @@ module _ (v w : Survey) (moved : IsPermutation v.changed.items w.changed.items) 
     first = ap (λ (ns : List ℕ). length ns) first ∙ was.first;
     room = omega (arith, capacity, was.room);
     marked = marked_moved v.changed.items w.changed.items moved w.marks.items (subst (AreMarked v.changed.items) (sym marks) was.marked);
+    taken = ap (λ (ns : List ℕ). length ns) taken ∙ was.taken;
+    opened = ap (λ (ns : List ℕ). length ns) opened ∙ was.opened;
+    firsts = λ o. ap (λ (ns : List ℕ). slice_index ns o) first ∙ was.firsts o ∙ (λ i. first_of (slice_index (sym taken i) o) (slice_index (sym opened i) o));
   }
 
   -- and tells of the same records
@@ -66,5 +68,5 @@ module _ (v w : Survey) (moved : IsPermutation v.changed.items w.changed.items) 
   tells_moved counts all older tells = record {
     values = All-permutation (λ (c : HomeValue). kept_store counts c.field.0 all ≡ Some c.value) v.changed.items w.changed.items moved tells.values;
     rest = λ f none. tells.rest f (ap (λ (ms : List Bool). is_marked ms f) (sym marks) ∙ none);
-    taken = λ o. tells.taken o ∙ ap (λ (ns : List ℕ). earlier (first_taken o (records_left counts older)) (number_told (slice_index ns o))) (sym first);
+    opened = λ o. ap (λ (ns : List ℕ). slice_index ns o + kept_takes counts o all) opened ∙ tells.opened o;
   }

@@ -6,6 +6,7 @@ use Rattle.std.proofs.lemmas.Bool.{cases_eq, cases_Bool}
 use Rattle.std.proofs.lemmas.List.{get_or_default, get_or-set_other, get_or-set_same}
 use Rattle.store_round_image.specs.Turning.{fields_of}
 use Rattle.store_round_image.specs.declared.cells.HomeValue.{HomeValue}
+use Rattle.store_round_memory.specs.Counting.{first_of}
 use Rattle.store_round_memory.specs.Surveys.{AreMarked, FoundNothing, HasField, IsSurvey, is_marked}
 use Rattle.store_round_memory.specs.declared.survey.Survey.{Survey}
 use Rattle.store_round_memory.proofs.Finding.{contains_field, mark_past}
@@ -54,11 +55,15 @@ none_marked changed marks now d are gone others f = elim (cases_Bool (is_marked 
 ]
 
 -- a survey that has found nothing is one
-pub nothing_found : (objects fields : ℕ) (v : Survey) → FoundNothing v → length v.marks.items ≡ fields → length v.first.items ≡ objects → fields ≤ vec_capacity v.changed → IsSurvey objects fields v
-nothing_found objects fields v nothing marks first room = record {
+pub nothing_found : (objects fields : ℕ) (v : Survey) → FoundNothing v → length v.marks.items ≡ fields → length v.first.items ≡ objects → fields ≤ vec_capacity v.changed → length v.taken.items ≡ objects → length v.open_takes.items ≡ objects →
+    ((o : ℕ) → slice_index v.first.items o ≡ first_of (slice_index v.taken.items o) (slice_index v.open_takes.items o)) → IsSurvey objects fields v
+nothing_found objects fields v nothing marks first room taken opened firsts = record {
   marks = marks;
   first = first;
   room = room;
+  taken = taken;
+  opened = opened;
+  firsts = firsts;
   marked = subst (λ (xs : List HomeValue). AreMarked xs v.marks.items) (sym nothing.changed) (record {
     listed = λ f. ((λ has. absurd (omega (arith, has.1))), (λ is. absurd (let both : true ≡ false = sym is ∙ nothing.marks f in cc)));
     once = λ i j d lt within. absurd (omega (arith, within));

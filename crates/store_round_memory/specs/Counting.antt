@@ -1,6 +1,6 @@
 -- What a later cut keeps of the records beyond a cut, told by how many of each lane it keeps (this project's own). A list of (lane, record)
 -- has its newest record first.
-use Rattle.std.specs.Prelude.{ℕ, zero, suc, ◌+◌, ◌==◌, nat_lt, if◌then◌else◌, Bool, List, [], ◌∷◌, length, slice_index, slice_set, Option, Some, None}
+use Rattle.std.specs.Prelude.{ℕ, ◌≡◌, ◌+◌, ◌-◌, ◌<◌, ◌==◌, nat_lt, if◌then◌else◌, Bool, List, [], ◌∷◌, length, slice_index, Option, Some, None}
 use Rattle.heap_model.specs.declared.record.Record.{Record}
 use Rattle.heap_model.specs.declared.record.Record.TheVariants.{Acq, Rel, WaitRel, Put}
 use Rattle.heap_model.specs.Log.{lane}
@@ -28,14 +28,39 @@ abbrev pub one_more : Option ℕ → ℕ
 one_more None = 0
 one_more (Some n) = n + 1
 
--- the number that a word of this kind tells
-abbrev pub number_told : ℕ → Option ℕ
-number_told zero = None
-number_told (suc n) = Some n
+-- by lane so many of the records are its own
+abbrev pub Counts : (counts : List ℕ) → List (ℕ × Record) → Type 0
+Counts counts xs = (l : ℕ) → l < 32 → slice_index counts l ≡ length (lane l xs)
 
--- the numbers by object, without that of the one that the record takes
-abbrev pub without_taken : Record → (first : List ℕ) → List ℕ
-without_taken (Acq o n) first = slice_set first o.0 0
-without_taken (Rel o n) first = first
-without_taken (WaitRel o n) first = first
-without_taken (Put f before after) first = first
+-- a lane with a count has none of these records
+abbrev pub Apart : (counts : List ℕ) → List (ℕ × Record) → Type 0
+Apart counts xs = (l : ℕ) → l < 32 → 0 < slice_index counts l → lane l xs ≡ []
+
+-- how many times the record takes the object: once, or not
+abbrev pub takes_one : (object : ℕ) → Record → ℕ
+takes_one o (Acq p n) = if p.0 == o then 1 else 0
+takes_one o (Rel p n) = 0
+takes_one o (WaitRel p n) = 0
+takes_one o (Put f before after) = 0
+
+-- one more than the number at which the object was last taken, once the record came
+abbrev pub taken_after : (object : ℕ) → Record → (taken : ℕ) → ℕ
+taken_after o (Acq p n) taken = if p.0 == o then n + 1 else taken
+taken_after o (Rel p n) taken = taken
+taken_after o (WaitRel p n) taken = taken
+taken_after o (Put f before after) taken = taken
+
+-- how many of the records take the object
+abbrev pub takes : (object : ℕ) → List (ℕ × Record) → ℕ
+takes o [] = 0
+takes o (x ∷ older) = takes_one o x.1 + takes o older
+
+-- how many of those among the lanes' first so many do
+abbrev pub kept_takes : (counts : List ℕ) → (object : ℕ) → List (ℕ × Record) → ℕ
+kept_takes counts o [] = 0
+kept_takes counts o (x ∷ older) = (if is_kept counts x.0 older then takes_one o x.1 else 0) + kept_takes counts o older
+
+-- One more than the number of the first of the open takes, or 0 where none is open. The numbers follow one another, and the last is one less
+-- than `taken`.
+abbrev pub first_of : (taken open_takes : ℕ) → ℕ
+first_of taken count = if count == 0 then 0 else taken - count + 1

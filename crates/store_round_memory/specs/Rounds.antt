@@ -13,11 +13,12 @@ use Rattle.store_helper_sections.specs.HelperSections.{first_taken}
 use Rattle.store_helper_sections.specs.Image.{kept_by}
 use Rattle.store_round_image.specs.Turning.{fields_of}
 use Rattle.store_round_image.specs.declared.cells.HomeValue.{HomeValue}
-use Rattle.store_round_memory.specs.Counting.{one_more}
+use Rattle.store_round_memory.specs.Counting.{one_more, records_left, takes}
 use Rattle.store_round_memory.specs.Surveys.{is_marked}
 
 -- By field what the acknowledged cut keeps; the logged records beyond it, the oldest first; by lane the place of the first of these; and what
 -- the last survey found: the fields that change, a mark for each of them, and by object one more than the number at which it is first taken.
+-- By object one more than the number at which it was last taken, and by lane how many records the last survey counts as kept.
 pub record Rounds : Type 0 where
   pub lanes : ℕ
   pub capacity : ℕ
@@ -27,6 +28,8 @@ pub record Rounds : Type 0 where
   pub changed : List HomeValue
   pub marks : List Bool
   pub first : List ℕ
+  pub taken : List ℕ
+  pub counted : List ℕ
 
 -- what is kept in memory is that of this past
 pub record KnowsRounds (s : Setting) (m : Rounds) (p : Past) : Type 0 where
@@ -35,6 +38,7 @@ pub record KnowsRounds (s : Setting) (m : Rounds) (p : Past) : Type 0 where
   pub kept : (f : ℕ) → f < s.fields → slice_index m.kept f ≡ kept_by s p.logged p.cut f
   pub beyond : log_from m.beyond ≡ records_since p.cut p.logged
   pub starts : (l : ℕ) → l < m.lanes → slice_index m.starts l ≡ records_in (p.cut l) (undo_logs p.logged l)
+  pub taken : (o : ℕ) → slice_index m.taken o ≡ takes o p.logged
 
 -- What was applied may count as logged: it is legal and of the lanes, and beyond the cut each lane has room for it.
 pub record MayLog (s : Setting) (m : Rounds) (p : Past) : Type 0 where
@@ -45,12 +49,14 @@ pub record MayLog (s : Setting) (m : Rounds) (p : Past) : Type 0 where
   pub last : s.last < 2 ^ 64
   pub room : (l : ℕ) → l < m.lanes → length (lane l (applied p)) ≤ records_in (p.cut l) (undo_logs p.logged l) + m.capacity
 
--- This cut of what is logged may be the next one, and its places are behind it.
+-- This whole closed cut of what is logged may be the next one, and its places are behind it.
 pub record MayKeep (s : Setting) (m : Rounds) (p : Past) (next : ℕ → ℕ) (places : List ℕ) : Type 0 where
   pub knows : KnowsRounds s m p
   pub legal : IsLegal s p.logged
   pub was_whole : IsWhole (actions p.logged) p.cut
   pub was_closed : IsClosed (actions p.logged) p.cut
+  pub whole : IsWhole (actions p.logged) next
+  pub closed : IsClosed (actions p.logged) next
   pub more : (l : ℕ) → p.cut l ≤ next l
   pub behind : (l : ℕ) → l < m.lanes → slice_index places l ≡ records_in (next l) (undo_logs p.logged l)
 
@@ -78,6 +84,7 @@ pub record HasFound (s : Setting) (m : Rounds) (p : Past) (next : ℕ → ℕ) :
   pub stays : (f : ℕ) → f < s.fields → is_marked m.marks f ≡ false → kept_by s p.logged next f ≡ kept_by s p.logged p.cut f
   pub left : (f : ℕ) → is_marked m.marks f ≡ false → has_store f (records_since p.cut p.logged) ≡ true → has_store f (records_since next p.logged) ≡ true
   pub first : (o : ℕ) → slice_index m.first o ≡ one_more (first_taken o (records_since next p.logged))
+  pub beyond : records_left m.counted (log_from m.beyond) ≡ records_since next p.logged
 
 -- what no survey changes
 pub record SurveysOnly (old new : Rounds) : Type 0 where
@@ -87,11 +94,11 @@ pub record SurveysOnly (old new : Rounds) : Type 0 where
   pub beyond : new.beyond ≡ old.beyond
   pub starts : new.starts ≡ old.starts
   pub objects : length new.first ≡ length old.first
+  pub taken : new.taken ≡ old.taken
 
--- what the last survey found stays, and the lanes and their room
+-- the fields that the last survey found stay, and the lanes and their room
 pub record KeepsFound (old new : Rounds) : Type 0 where
   pub lanes : new.lanes ≡ old.lanes
   pub capacity : new.capacity ≡ old.capacity
   pub changed : new.changed ≡ old.changed
   pub marks : new.marks ≡ old.marks
-  pub first : new.first ≡ old.first

@@ -1,40 +1,31 @@
 //! What stays in memory once a cut is acknowledged.
-ghost use Rattle.std.specs.Prelude.{◌≡◌, ◌≢◌, ◌+◌, ◌<◌, ◌≤◌, ◌++◌, if◌then◌else◌, ℕ, All, AllPairs, Contains, length, nat_lt, slice_index, slice_set, take};
-ghost use Rattle.std.specs.Vec.{vec_capacity, vec_len};
+ghost use Rattle.std.specs.Prelude.{◌≡◌, ◌≢◌, ◌+◌, ◌<◌, ◌≤◌, if◌then◌else◌, ℕ, All, AllPairs, Contains, length, slice_index, slice_set, take};
 ghost use Rattle.heap_model.specs.Log.{log_from};
 ghost use Rattle.store_round_image.specs.Turning.{fields_of};
-ghost use Rattle.store_round_memory.specs.Counting.{records_left};
+ghost use Rattle.store_round_memory.specs.Counting.{Apart, records_left};
 ghost use Rattle.store_round_memory.specs.Surveys.{HasField, HasLane};
 
-use crate::counting::{count, is_within};
+use crate::counting::is_next_kept;
 use heap_model::LaneRecord;
-use std::alloc::Global;
 use store_round_image::HomeValue;
 
-/// Adds the records behind the others.
-pub(crate) fn append(records: &mut Vec<LaneRecord>, more: &[LaneRecord])
-    requires { vec_len records.old + length more.now ≤ vec_capacity records.old }
-    ensures items { records.new.items ≡ records.old.items ++ more.now }
-    ensures capacity { vec_capacity records.new ≡ vec_capacity records.old }
-{
-    for entry in more {
-        records.push_reserved(*entry);
-    }
-}
-
-/// Moves the records to the front without the first so many of each lane, and tells how many are left.
-pub(crate) fn leave(records: &mut [LaneRecord], counts: &[u64; 32]) -> usize
-    requires { All HasLane records.old }
+/// Moves the records to the front without the first so many of each lane, and tells how many are left. None of those lies before `from`,
+/// where the walk begins.
+pub(crate) fn leave(records: &mut [LaneRecord], from: usize, counts: &[u64; 32]) -> usize
+    requires lanes { All HasLane records.old }
+    requires from { from ≤ length records.old }
+    requires apart { Apart counts.now (log_from (take from records.old)) }
     ensures size { length records.new ≡ length records.old }
     ensures within { result ≤ length records.old }
+    ensures front { from ≤ result }
+    ensures before { take from records.new ≡ take from records.old }
     ensures left { log_from (take result records.new) ≡ records_left counts.now (log_from records.old) }
 {
-    let mut met = [0; 32];
-    let mut left = 0;
-    for place in 0..records.len() {
+    let mut rest = *counts;
+    let mut left = from;
+    for place in from..records.len() {
         let entry = records[place];
-        let is_kept = is_within(&met, counts, entry.lane);
-        count(&mut met, entry.lane);
+        let is_kept = is_next_kept(&mut rest, entry.lane);
         left = put_unless(is_kept, records, left, entry);
     }
     left

@@ -92,7 +92,7 @@ module _ {l : Layout} {t : ℕ} {d : Device} {rows : List GuardRow} {slot : Slot
     trimmed = λ k. refl;
     remembers = new.remembers s set;
     sections = new.tells;
-    rounds = record { fields = (new.knows s set).fields; objects = (new.knows s set).objects; kept = (new.knows s set).kept; beyond = (new.knows s set).beyond; starts = (new.knows s set).starts };
+    rounds = record { fields = (new.knows s set).fields; objects = (new.knows s set).objects; kept = (new.knows s set).kept; beyond = (new.knows s set).beyond; starts = (new.knows s set).starts; taken = (new.knows s set).taken };
     starts = λ k low. new.sized.starts k;
     kept = λ k low. (on s set).tells.kept k (omega (arith, low, new.within));
     agrees = λ serves. record {

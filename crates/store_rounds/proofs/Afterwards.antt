@@ -55,6 +55,8 @@ module _ (t : ℕ) (s : Setting) (p : Past) (m : Memory) (g : Logged) (r : Round
     legal = tells.past.legal;
     was_whole = tells.sections.whole;
     was_closed = tells.sections.closed;
+    whole = stable.whole;
+    closed = stable.closed;
     more = more;
     behind = λ k low. behind k;
   }
@@ -91,13 +93,13 @@ module _ (t : ℕ) (s : Setting) (p : Past) (m : Memory) (g : Logged) (r : Round
     rounds_lanes = rounds_lanes;
     remembers = remembers;
     sections = sections;
-    rounds = record { fields = knows.fields; objects = knows.objects; kept = knows.kept; beyond = knows.beyond; starts = knows.starts };
+    rounds = record { fields = knows.fields; objects = knows.objects; kept = knows.kept; beyond = knows.beyond; starts = knows.starts; taken = knows.taken };
     starts = λ k low. starts k low ∙ behind k;
   }
 
 -- what no survey changes is the same the other way round
 pub surveys_back : (a b : Rounds) → SurveysOnly a b → SurveysOnly b a
-surveys_back a b only = record { lanes = sym only.lanes; capacity = sym only.capacity; kept = sym only.kept; beyond = sym only.beyond; starts = sym only.starts; objects = sym only.objects }
+surveys_back a b only = record { lanes = sym only.lanes; capacity = sym only.capacity; kept = sym only.kept; beyond = sym only.beyond; starts = sym only.starts; objects = sym only.objects; taken = sym only.taken }
 
 pub knows_surveyed : (s : Setting) (a b : Rounds) (p : Past) → SurveysOnly a b → KnowsRounds s a p → KnowsRounds s b p
 knows_surveyed s a b p only knows = record {
@@ -106,6 +108,7 @@ knows_surveyed s a b p only knows = record {
   kept = λ f low. ap (λ (xs : List ℕ). slice_index xs f) only.kept ∙ knows.kept f low;
   beyond = ap log_from only.beyond ∙ knows.beyond;
   starts = λ l low. ap (λ (xs : List ℕ). slice_index xs l) only.starts ∙ knows.starts l (omega (arith, low, only.lanes));
+  taken = λ o. ap (λ (xs : List ℕ). slice_index xs o) only.taken ∙ knows.taken o;
 }
 
 -- a plan is made by a survey
@@ -121,6 +124,8 @@ plan_made g a b next places only stable behind found = record {
     legal = may.legal;
     was_whole = may.was_whole;
     was_closed = may.was_closed;
+    whole = may.whole;
+    closed = may.closed;
     more = may.more;
     behind = λ l low. may.behind l (omega (arith, low, only.lanes));
   });
@@ -262,7 +267,7 @@ module _ (x : Known) (s : Setting) (p : Past) (d : Device) (has : HasPast x s p 
     rounds_lanes = has.layout.rounds_lanes;
     remembers = remembers;
     sections = has.sections;
-    rounds = record { fields = has.rounds.fields; objects = has.rounds.objects; kept = has.rounds.kept; beyond = has.rounds.beyond; starts = has.rounds.starts };
+    rounds = record { fields = has.rounds.fields; objects = has.rounds.objects; kept = has.rounds.kept; beyond = has.rounds.beyond; starts = has.rounds.starts; taken = has.rounds.taken };
     starts = λ k low. keeps.starts k ∙ has.starts k low ∙ sym (places_grown (p.cut k) p.fresh p.logged k (has.past.whole k));
   }) keeps.capacity refl refl refl has.trimmed [] (subst (λ (k : ℕ → ℕ). IsRoundOn x.layout x.threads s (applied p) k [] c e) same on)
       (subst (λ (xs : List HomeValue). All (IsValueIn x.layout (kept_by s (applied p) p.cut)) xs) (sym none) (All-nil (IsValueIn x.layout (kept_by s (applied p) p.cut))))

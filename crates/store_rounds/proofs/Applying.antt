@@ -77,7 +77,7 @@ module _ (x : Known) (s : Setting) (p : Past) (d : Device) (has : HasPast x s p 
 
   pub may_extend : MayLog s x.rounds (with_next p k r)
   may_extend = record {
-    knows = record { fields = has.rounds.fields; objects = has.rounds.objects; kept = has.rounds.kept; beyond = has.rounds.beyond; starts = has.rounds.starts };
+    knows = record { fields = has.rounds.fields; objects = has.rounds.objects; kept = has.rounds.kept; beyond = has.rounds.beyond; starts = has.rounds.starts; taken = has.rounds.taken };
     legal = remembers.legal;
     lanes = subst (λ n. IsOfLanes n ((k, r) ∷ applied p)) (keeps.lanes ∙ has.layout.lanes ∙ sym has.layout.rounds_lanes) remembers.of_lanes;
     whole = has.sections.whole;
@@ -107,7 +107,7 @@ module _ (x : Known) (s : Setting) (p : Past) (d : Device) (has : HasPast x s p 
       trimmed = has.trimmed;
       remembers = remembers;
       sections = tells;
-      rounds = record { fields = knows.fields; objects = knows.objects; kept = knows.kept; beyond = knows.beyond; starts = knows.starts };
+      rounds = record { fields = knows.fields; objects = knows.objects; kept = knows.kept; beyond = knows.beyond; starts = knows.starts; taken = knows.taken };
       starts = λ j below. keeps.starts j ∙ has.starts j below;
       kept = has.kept;
       agrees = λ serves.

@@ -4,7 +4,7 @@ use Rattle.std.specs.Prelude.{All, Contains, slice_index, ◌↔◌}
 use Rattle.std.specs.List.Sorted.{IsPermutation}
 use Rattle.std.proofs.lemmas.Bool.{cases_lt, lt-ltb}
 use Rattle.std.proofs.lemmas.List.{get_or_past}
-use Rattle.std.proofs.lemmas.List.Sorted.{All-permutation}
+use Rattle.std.proofs.lemmas.List.Sorted.{All-permutation, IsPermutation-sym}
 use Rattle.heap_model.specs.declared.cut.Cut.{Cut}
 use Rattle.heap_model.specs.declared.ids.ObjectId.{ObjectId}
 use Rattle.heap_model.specs.declared.record.Record.{Record}
@@ -246,8 +246,37 @@ module _ (x : Known) (s : Setting) (p : Past) (d : Device) (has : HasPast x s p 
               ]
             ])
 
-        pub may_join : (cells : List HomeValue) → cells ≡ settled_values x.rounds x.pending → MayMake l t s p.logged p.cut run.helped p.fresh later x.committed d next places cells fresh helper
-        may_join cells same = subst (λ (xs : List HomeValue). MayMake l t s p.logged p.cut run.helped p.fresh later x.committed d next places xs fresh helper) (sym same) may_join_own
+        -- in whichever order the cells are written
+        pub may_join : (cells : List HomeValue) → IsPermutation (settled_values x.rounds x.pending) cells → MayMake l t s p.logged p.cut run.helped p.fresh later x.committed d next places cells fresh helper
+        may_join cells other =
+            let was : MayMake l t s p.logged p.cut run.helped p.fresh later x.committed d next places (settled_values x.rounds x.pending) fresh helper = may_join_own in
+            record {
+              on = was.on;
+              all_lanes = was.all_lanes;
+              helper_lane = was.helper_lane;
+              legal = was.legal;
+              lanes = was.lanes;
+              whole = was.whole;
+              closed = was.closed;
+              more = was.more;
+              preceding = was.preceding;
+              behind = was.behind;
+              records = was.records;
+              fits = was.fits;
+              helper_are = was.helper_are;
+              helper_fits = was.helper_fits;
+              values = All-permutation (IsValueIn l (kept_by s all cut)) (settled_values x.rounds x.pending) cells other was.values;
+              covered = λ f listed. was.covered f (listed_moved f cells (settled_values x.rounds x.pending) (IsPermutation-sym (settled_values x.rounds x.pending) cells other) listed);
+              homes = λ f low logged. elim (was.homes f low logged) [
+                | inl live ↦ inl live
+                | inr (inl waits) ↦ inr (inl (listed_moved f (settled_values x.rounds x.pending) cells other waits))
+                | inr (inr cell) ↦ inr (inr cell)
+              ];
+            }
+
+-- the cells that a turn writes, as a list of them
+pub cells_as : {taken cells left settled : List HomeValue} → cells ≡ taken → IsPermutation left taken → left ≡ settled → IsPermutation settled cells
+cells_as {taken} {cells} {left} {settled} is moved same = subst (λ (xs : List HomeValue). IsPermutation xs cells) same (subst (IsPermutation left) (sym is) moved)
 
 -- no more fields are found than the image has
 pub found_few : (x : Known) (s : Setting) (p : Past) (d : Device) → HasPast x s p d → (next : Cut) (places : List ℕ) → IsPlan x.sections x.rounds next places →

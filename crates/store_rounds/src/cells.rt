@@ -3,6 +3,7 @@ ghost use Rattle.std.specs.Prelude.{◌≡◌, ◌+◌, ◌-◌, ◌<◌, ◌≤
 ghost use Rattle.std.specs.List.Sorted.{IsPermutation};
 ghost use Rattle.std.specs.Vec.{vec_capacity, vec_len};
 ghost use Rattle.undo_log.specs.StandsFor.{row_of};
+ghost use Rattle.store_round_memory.specs.Surveys.{IsSortedByField};
 ghost use Rattle.store_round_sections.specs.Sections.{IsSortedByGuard, needed_of};
 ghost use Rattle.store_rounds.specs.Cells.{settled_values, stays_put};
 ghost use Rattle.store_rounds.specs.Turns.{IsHelped, IsJoined};
@@ -38,12 +39,15 @@ fn copy(cells: &mut Vec<HomeValue>, changed: &[HomeValue])
     }
 }
 
-/// Leaves out the values whose fields change again.
+/// Leaves out the values whose fields change again, and puts the others in the order of their fields. Neighbours are then written one
+/// after the other, and a device that joins such writes makes one of them.
 pub(crate) fn leave_changed_out(cells: &mut Vec<HomeValue>, rounds: &RoundMemory)
-    ensures left { cells.new.items ≡ settled_values rounds.now cells.old.items }
+    ensures left { IsPermutation (settled_values rounds.now cells.old.items) cells.new.items }
+    ensures sorted { IsSortedByField cells.new.items }
     ensures capacity { vec_capacity cells.new ≡ vec_capacity cells.old }
 {
     cells.retain(|cell| stays_put(rounds, *cell));
+    cells.sort_unstable_by_key(|cell| cell.field.0);
 }
 
 // Whether the value's field doesn't change again.

@@ -12,7 +12,8 @@ impl<D: Disk> RoundStore<D> {
     /// Makes durable what was applied, acknowledges its stable cut and forgets it.
     ///
     /// With a lane for the helper that has room for the values which the round changes it takes two syncs; else four, by two commits. With
-    /// nothing applied since the last round it takes no call. The time is linear in the records beyond the acknowledged cut.
+    /// nothing applied since the last round it takes no call. The time is linear in what was applied since the last round, in the records
+    /// from the oldest one on that the new cut keeps, and but for two sorts in the fields that change or wait.
     /// Refusals, in this order: `Failed`; `Worn`: a control must be written, and its sequence is at its last value; `Fault`.
     pub fn round(&mut self) -> Result<(), StoreError>
         ensures { MakesRound D.device self.old self.new result }

@@ -130,7 +130,7 @@ impl<D: Disk> RoundStore<D> {
                 // Each lane stays within its area, so that both below have room.
                 let _fresh = self.applied.fresh();
                 self.sections.push(lane, next);
-                self.rounds.extend(&[LaneRecord { lane, record: next }]);
+                self.rounds.add(LaneRecord { lane, record: next });
                 Ok(())
             }
             Err(reason) => Err(reason),

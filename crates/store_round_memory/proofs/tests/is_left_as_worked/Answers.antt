@@ -1,4 +1,4 @@
-use Rattle.std.proofs.Common.{List, [], ◌∷◌, arith}
+use Rattle.std.proofs.Common.{List, [], ◌∷◌, refl, arith}
 use Rattle.std.specs.Prelude.{All}
 use Rattle.std.proofs.lemmas.List.Elements.{All-cons}
 use Rattle.heap_model.specs.declared.record.LaneRecord.{LaneRecord}
@@ -6,8 +6,8 @@ use Rattle.store_round_memory.specs.Surveys.{FitsLane}
 use Rattle.store_round_memory.proofs.tests.is_left_as_worked.Goals as goal
 
 -- the records from each on
-pub leave-left-requires : goal.leave-left-requires
-leave-left-requires c =
+pub leave-left-requires-clause-lanes : goal.leave-left-requires-clause-lanes
+leave-left-requires-clause-lanes c =
     let none : All (FitsLane 32 2 3) [] = λ k d lt. absurd (omega (arith, lt)) in
     let last : List LaneRecord = c.put-2.result ∷ [] in
     let fifth : List LaneRecord = c.put.result ∷ last in
@@ -22,3 +22,6 @@ leave-left-requires c =
     (All-cons (FitsLane 32 2 3) c.put.result last c.put.ensures
     (All-cons (FitsLane 32 2 3) c.put-2.result [] c.put-2.ensures none))))) in
     λ k d lt. (fits k d lt).0
+
+pub leave-left-requires-clause-apart : goal.leave-left-requires-clause-apart
+leave-left-requires-clause-apart c = λ l low some. refl

@@ -1,7 +1,10 @@
-use Rattle.std.proofs.Common.{◌<◌, ◌∷◌, length, sym, ◌∙◌, subst, inl, inr, arith}
+use Rattle.std.proofs.Common.{◌≡◌, ◌-◌, ◌<◌, ◌∷◌, length, slice_index, sym, ◌∙◌, subst, inl, inr, arith}
 use Rattle.std.proofs.lemmas.Bool.{cases_Bool}
+use Rattle.std.proofs.lemmas.List.{get_or_default}
 use Rattle.heap_model.specs.declared.record.Record.{Record}
+use Rattle.heap_model.specs.declared.record.Record.TheVariants.{Acq}
 use Rattle.store_round_memory.specs.Surveys.{Fits, IsSurvey, TellsDownTo, is_marked}
+use Rattle.store_round_memory.proofs.Opening.{tells_closed}
 use Rattle.store_round_memory.proofs.Finding.{has_room, survey_store, tells_again, tells_store}
 use Rattle.store_round_memory.proofs.survey.Survey.note.Goals as goal
 
@@ -26,3 +29,11 @@ returns-then-is_kept-clause-tells c = λ counts all older l is tells.
       | inl marked ↦ subst (TellsDownTo counts all older) (sym (c.note_store.ensures.again marked)) (tells_again counts all older l c.args.self.now c.in-Put.field c.in-Put.before c.in-Put.after marked told)
       | inr none ↦ tells_store counts all older l c.args.self.now c.in-Put.field c.in-Put.before c.in-Put.after c.note_store.new.self (sym is ∙ c.if-is_kept.true) low none (c.note_store.ensures.once none) told
     ]
+
+pub returns-then-is_kept-2-clause-tells : goal.returns-then-is_kept-2-clause-tells
+returns-then-is_kept-2-clause-tells c = λ counts all older l is tells.
+    let fits : Fits c.requires.survey.0 c.requires.survey.1 (Acq c.in-Acq.object c.in-Acq.number) = subst (Fits c.requires.survey.0 c.requires.survey.1) c.in-Acq.is c.requires.survey.3 in
+    let low : c.in-Acq.object.0 < length c.args.self.now.open_takes.items = omega (arith, fits.0, c.requires.survey.2.opened) in
+    let count : c.saturating_sub-count.result ≡ slice_index c.args.self.now.open_takes.items c.in-Acq.object.0 - 1 = omega (arith, get_or_default c.args.self.now.open_takes.items c.in-Acq.object.0 c.index.result.now 0 low) in
+    tells_closed counts all older l c.in-Acq.object c.in-Acq.number c.args.self.now c.set_open.new.self c.saturating_sub-count.result (sym is ∙ c.if-is_kept-2.true) low count c.set_open.ensures
+    (subst (λ (r : Record). TellsDownTo counts all ((l, r) ∷ older) c.args.self.now) c.in-Acq.is tells)

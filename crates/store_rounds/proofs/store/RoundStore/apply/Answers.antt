@@ -15,8 +15,8 @@ push-requires g c =
       );
     }
 
-pub extend-requires : goal.extend-requires
-extend-requires g c =
+pub add-requires : goal.add-requires
+add-requires g c =
     let was = c.self.invariant.1 in
     record {
       may = (
@@ -36,11 +36,11 @@ invariant_of-self g c =
       (
         was.0,
         after_apply was.1 c.args.lane.0 c.args.next,
-        applied_has _ was.0 was.1 _ was.2 c.args.lane.0 c.args.next c.apply.new.self there remembers c.apply.ensures.kept c.fresh-fresh.ensures.within c.push.new.self c.extend.new.self
+        applied_has _ was.0 was.1 _ was.2 c.args.lane.0 c.args.next c.apply.new.self there remembers c.apply.ensures.kept c.fresh-fresh.ensures.within c.push.new.self c.add.new.self
             (c.push.ensures.tells was.0 was.1.cut (applied was.1) (may_push _ was.0 was.1 _ was.2 c.args.lane.0 c.args.next c.apply.new.self there remembers c.apply.ensures.kept c.fresh-fresh.ensures.within))
             c.push.ensures.lanes c.push.ensures.capacity
-            (c.extend.ensures.knows was.0 (with_next was.1 c.args.lane.0 c.args.next) (may_extend _ was.0 was.1 _ was.2 c.args.lane.0 c.args.next c.apply.new.self there remembers c.apply.ensures.kept c.fresh-fresh.ensures.within) refl)
-            c.extend.ensures.found,
+            (c.add.ensures.knows was.0 (with_next was.1 c.args.lane.0 c.args.next) (may_extend _ was.0 was.1 _ was.2 c.args.lane.0 c.args.next c.apply.new.self there remembers c.apply.ensures.kept c.fresh-fresh.ensures.within) refl)
+            c.add.ensures.found,
       ),
     )
 
@@ -51,11 +51,11 @@ returns-in-Ok g c =
       ok = λ s p was.
           let there = (c.in-Ok.ensures.answer s p was.remembers).0 in
           let remembers = c.in-Ok.ensures.ok s p was.remembers in
-          applied_has _ s p _ was c.args.lane.0 c.args.next c.apply.new.self there remembers c.apply.ensures.kept c.fresh-fresh.ensures.within c.push.new.self c.extend.new.self
+          applied_has _ s p _ was c.args.lane.0 c.args.next c.apply.new.self there remembers c.apply.ensures.kept c.fresh-fresh.ensures.within c.push.new.self c.add.new.self
           (c.push.ensures.tells s p.cut (applied p) (may_push _ s p _ was c.args.lane.0 c.args.next c.apply.new.self there remembers c.apply.ensures.kept c.fresh-fresh.ensures.within))
           c.push.ensures.lanes c.push.ensures.capacity
-          (c.extend.ensures.knows s (with_next p c.args.lane.0 c.args.next) (may_extend _ s p _ was c.args.lane.0 c.args.next c.apply.new.self there remembers c.apply.ensures.kept c.fresh-fresh.ensures.within) refl)
-          c.extend.ensures.found;
+          (c.add.ensures.knows s (with_next p c.args.lane.0 c.args.next) (may_extend _ s p _ was c.args.lane.0 c.args.next c.apply.new.self there remembers c.apply.ensures.kept c.fresh-fresh.ensures.within) refl)
+          c.add.ensures.found;
       running = (c.if-self.false, c.if-self.false);
       no_fault = tt;
       err = tt;
