@@ -153,8 +153,9 @@ fn turns(
 }
 
 // The first thread stores 5, and the second 7 in a section that it ends later. The first stores to the other field, and once more to
-// the first one, in a section that is open over a flush.
-fn script() -> [Call; 17] {
+// the first one, in a section that is open over a flush. Then it stays in a section, while the second makes two with a monitor of its
+// own.
+fn script() -> [Call; 28] {
     [
         Call::One(acq(0, 0)),
         Call::One(put(0, 10, 5)),
@@ -173,6 +174,17 @@ fn script() -> [Call; 17] {
         Call::One(rel(0, 2)),
         Call::Round,
         Call::Flush,
+        Call::One(acq(0, 3)),
+        Call::One(put(0, 8, 9)),
+        Call::Two(acq(1, 1)),
+        Call::Two(put(1, 30, 40)),
+        Call::Two(rel(1, 1)),
+        Call::Round,
+        Call::Two(acq(1, 2)),
+        Call::Two(put(1, 40, 50)),
+        Call::Two(rel(1, 2)),
+        Call::Round,
+        Call::One(rel(0, 3)),
     ]
 }
 
