@@ -1,4 +1,4 @@
-/* Zelamiku for C++17, over zelamiku.h; examples/cpp/counters.cpp is a program. What this lacks is called in C, by what number() answers.
+/* Zelamiku for C++17, over zelamiku.h; examples/cpp/counters.cpp is a program. Other calls are C's, with the handle from number().
  *
  *     struct Accounts : zelamiku::Plan {
  *         zelamiku::Object alice = object();
@@ -11,14 +11,14 @@
  *     });
  *     session.durable();                                                         // returns when no crash can lose it
  *
- * A call that fails throws an Error, and has done nothing. Destructors throw nothing. What was moved from reports NOTHING.
- * A section keeps what it has stored if each of its guards has ended by exit(), and the work of each `synchronized` has returned. A guard that
- * is destroyed before, by an exception, a return or the end of its thread, takes the whole section back (zelamiku_thread_revert), and then
- * frees its monitors. Under an outer guard it leaves a section that can't store, wait or end well any more: each throws NOTHING. One that has
- * only loaded needs no exit(), where it has one guard. A section that fails and can't be taken back stops the heap (zelamiku_heap_abandon), and
- * the next opening drops it: one that has freed a monitor under which it had stored, and one that has stored where the plan's `reverts` is 0.
- * So take a section's monitors together: `enter({a, b})`.
- * One thread at a time uses a session and its guards. A session outlives its guards, and isn't moved while it has some. */
+ * A call that fails throws an Error, and has done nothing. Destructors throw nothing. A moved-from object reports NOTHING.
+ * A section keeps its stores if each of its guards has ended by exit(), and the work of each `synchronized` has returned. If a guard is
+ * destroyed earlier, by an exception, a return or the end of its thread, it reverts the whole section (zelamiku_thread_revert), and then frees
+ * its monitors. If an outer guard remains, its section can't store, wait or exit() any more: each throws NOTHING. A section that has only loaded
+ * needs no exit(), if it has one guard. A section that can't be reverted stops the heap instead (zelamiku_heap_abandon), and the next opening
+ * drops it: one that has freed a monitor under which it had stored, or one that has stored while the plan's `reverts` is 0. So take a section's
+ * monitors together: `enter({a, b})`.
+ * One thread at a time uses a session and its guards. A session outlives its guards, and isn't moved while it has any. */
 #ifndef ZELAMIKU_HPP
 #define ZELAMIKU_HPP
 #include <cassert>
@@ -78,14 +78,14 @@ public:
     explicit Heap(zelamiku_heap heap) noexcept : heap_(heap) {} /* one that C has opened */
     Heap(Heap &&other) noexcept : heap_(std::exchange(other.heap_, {})) {}
     Heap &operator=(Heap other) noexcept { return std::swap(heap_, other.heap_), *this; }
-    ~Heap() { /* where it can't be closed, sections that are open are cut off as by a crash */
+    ~Heap() { /* if it can't be closed, open sections are cut off as by a crash */
         if (heap_.number != 0 && zelamiku_heap_close(heap_) != ZELAMIKU_OK) drop(zelamiku_heap_stop(heap_));
     }
     void close() { must(zelamiku_heap_close(heap_)); }
     zelamiku_heap number() const noexcept { return heap_; }
 };
 
-struct Objects { /* one, or several: each once, in the order of their numbers, so that no two threads wait for each other's */
+struct Objects { /* one, or several: each once, in the order of their numbers, so no two threads wait for each other's */
     std::uint32_t numbers[ZELAMIKU_MOST_HELD]{};
     unsigned count = 0;
     Objects(Object one) { add(one); }
@@ -104,11 +104,11 @@ private:
         numbers[place] = one.number;
     }
 };
-struct Lane { /* what a session has together with its guards */
+struct Lane { /* what a session shares with its guards */
     zelamiku_heap heap;
     zelamiku_thread thread;
     unsigned guards;
-    bool is_taken_back; /* the section that is open */
+    bool is_taken_back; /* the open section */
     static void must_go_on(bool goes_on) {
         if (!goes_on) throw Error(ZELAMIKU_NOTHING, "the section was taken back when a guard ended without exit(), or the guard has ended");
     }
@@ -126,13 +126,13 @@ struct Lane { /* what a session has together with its guards */
         while (status == ZELAMIKU_OK && count > 0) status = zelamiku_thread_exit(thread, of.numbers[--count]);
         return status;
     }
-    void take_back() noexcept { /* at the heap's end the section is cut off in any case */
+    void take_back() noexcept { /* if the heap has ended, the section is cut off in any case */
         const zelamiku_status status = zelamiku_thread_revert(thread);
         is_taken_back = status == ZELAMIKU_OK;
         if (status == ZELAMIKU_NOT_HELD || status == ZELAMIKU_WRONG_KIND) drop(zelamiku_heap_abandon(heap));
     }
 };
-class [[nodiscard]] Guard { /* has monitors, until exit() keeps what its section has stored, or its end takes that back */
+class [[nodiscard]] Guard { /* holds monitors, until exit() keeps the section's stores, or its destructor reverts them */
     friend class Session;
     Lane *lane_; /* NULL once it has ended */
     Objects objects_;
@@ -149,7 +149,7 @@ public:
         lane_->take_back();
         drop(leave());
     }
-    void exit() { /* frees the monitors. With the section's last ones what it has stored stays */
+    void exit() { /* frees the monitors. With the section's last ones its stores stay */
         const bool goes_on = lane_ != nullptr && !lane_->is_taken_back;
         if (lane_ != nullptr) must(leave());
         Lane::must_go_on(goes_on);

@@ -1,19 +1,18 @@
-/* The calls of the proved library. This header is the scheduler's own (bindings/c/src), and that of tests and measurements. It isn't
- * installed: a program includes zelamiku.h. The names here may change with each release.
+/* The calls of the proved library. This header belongs to the scheduler (bindings/c/src), and to tests and measurements. It isn't installed: a
+ * program includes zelamiku.h. The names here may change with each release.
  *
  * What the caller upholds, for each call:
  *  - a handle begins as ZELAMIKU_NONE, isn't copied, and is changed by these calls alone. A handle may go to another thread;
- *  - one call at a time has a handle: the threads order their calls by a mutex, a start or join, or sequentially consistent atomics;
- *  - pointers are never NULL, also where a size or count is 0; they are valid for the call, point to initialized memory that nothing
- *    else reads or writes meanwhile, and don't overlap;
+ *  - one call at a time uses a handle: the threads order their calls by a mutex, a start or join, or sequentially consistent atomics;
+ *  - pointers are never NULL, even if a size or count is 0; they are valid for the call, point to initialized memory that nothing else reads or
+ *    writes meanwhile, and don't overlap;
  *  - the device is changed by the calls of zelamiku_next_call alone, in their order, one at a time;
- *  - malloc, realloc and free are of one allocator, and align a block to each power of two up to 16 that divides its size, as those
- *    of C11 do;
+ *  - malloc, realloc and free are of one allocator, and align a block to each power of two up to 16 that divides its size, as those of C11 do;
  *  - no call comes from a signal handler, or in a child that was forked by a process with threads.
- * Everything else is answered by a status. No call waits, blocks, starts a thread or panics; each out-parameter is always set.
+ * Everything else returns a status. No call waits, blocks, starts a thread or panics; each out-parameter is always set.
  *
- * The device. The proved library has no file: it works in memory, and asks its host, the scheduler, to write and sync. zelamiku_next_call tells
- * the next call, the host makes it, and zelamiku_call_done says that it has:
+ * The device. The proved library has no file: it works in memory, and its host, the scheduler, writes and syncs. zelamiku_next_call returns the
+ * next call, the host makes it, and zelamiku_call_done confirms it:
  *     uint8_t buffer[ZELAMIKU_MOST_BYTES];
  *     zelamiku_call call = {0};
  *     for (;;) {
@@ -25,27 +24,26 @@
  *         if (!made) return zelamiku_call_failed(&heap) == ZELAMIKU_OK ? 1 : -1; // and never zelamiku_call_done for it
  *         if (zelamiku_call_done(&heap) != ZELAMIKU_OK) return -1;
  *     }
- * A write that fails may be made again: the same call is told again. Only on the same device, though: over a connection that was made anew,
- * what was answered since the last sync may be gone, so all of it is written again, or the heap let go.
- * A sync that fails may not be made again, nor any later call. What was written before it may be lost, though the file still reads
- * as it was written, and though a later sync succeeds: systems drop the pages that they couldn't write. Told of it by
- * zelamiku_call_failed, the library lets the heap go: each later call of it answers ZELAMIKU_STOPPED, and so does each session that
- * would enter, wait or resume. Free the handles, and open the heap again from bytes that the device itself has: read past the
- * system's cache, or after the file system was mounted again.
+ * A failed write may be made again: zelamiku_next_call returns the same call again. But only on the same device: over a new connection, the
+ * writes since the last sync may be gone, so either all of them are made again, or the heap is released.
+ * A failed sync may not be made again, and no later call may follow. What was written before it may be lost, though the file still reads as it
+ * was written, and though a later sync succeeds: systems drop the pages that they couldn't write. After zelamiku_call_failed has reported it,
+ * the heap has stopped: each later call of it returns ZELAMIKU_STOPPED, and so does each session that would enter, wait or resume. Free the
+ * handles, and open the heap again from bytes that the device itself has: read past the system's cache, or after the file system was mounted
+ * again.
  *
- * The premise on the device: between two syncs each range that is written may hold any bytes after a crash, and every other byte stays. A
- * device of sectors, and the system's page cache, write the neighbours of a range again too, so there it holds exactly where rewriting a
- * durable byte with its own value can't lose it (SQLite's powersafe overwrite). NVMe promises that of a logical block, and replicated Ceph
- * RBD does; ATA and SCSI don't, nor drives without power-loss protection, nor parity RAID without a journal: docs/FORMAT.md, "What the
- * device keeps".
- * One host writes the device at a time. Where another machine may open it, the device ends the other one's access first, with its requests
- * that are underway: docs/EMBEDDING.md, "Another machine".
+ * The premise on the device: between two syncs each range that is written may hold any bytes after a crash, and every other byte stays. A device
+ * of sectors, and the system's page cache, also rewrite the neighbours of a range. There the premise holds exactly if rewriting a durable byte
+ * with its own value can't lose it (SQLite's powersafe overwrite). NVMe promises that of a logical block, and replicated Ceph RBD does; ATA and
+ * SCSI don't, nor drives without power-loss protection, nor parity RAID without a journal: docs/FORMAT.md, "What the device keeps".
+ * One host writes the device at a time. If another machine may open it, the device must first end the access of the machine before it, with
+ * its requests in flight: docs/EMBEDDING.md, "Another machine".
  *
- * Waiting is the host's. Where a call answers ZELAMIKU_HELD, ZELAMIKU_BEHIND or ZELAMIKU_IN_SET, try again later; other answers stay:
+ * Waiting is the host's. After ZELAMIKU_HELD, ZELAMIKU_BEHIND or ZELAMIKU_IN_SET, try again later; other statuses stay:
  *     for (unsigned spins = 0; (answer = zelamiku_try_enter(&session, object)) == ZELAMIKU_HELD || answer == ZELAMIKU_BEHIND; spins++)
  *         if (spins > 100) sched_yield();
  *     if (answer != ZELAMIKU_OK) ...
- * With a condition variable of the host's own, an exit or a notification is told to those that wait, and so is a call that failed:
+ * With a condition variable of the host's own, signal each exit, each notification and each failed call to the waiting threads:
  *     pthread_mutex_lock(&m);
  *     while ((answer = zelamiku_try_resume(&session)) == ZELAMIKU_IN_SET || answer == ZELAMIKU_HELD) pthread_cond_wait(&changed, &m);
  *     pthread_mutex_unlock(&m);
@@ -71,7 +69,7 @@ typedef struct {
 
 /* ---- the heap ---- */
 
-/* Each call of a heap that isn't to be opened also answers NOTHING, WRONG_KIND, and STOPPED once zelamiku_call_failed was told of a sync;
+/* Each call of a heap, except those that open it, also returns NOTHING, WRONG_KIND, and STOPPED after zelamiku_call_failed has reported a sync;
  * nothing was done then. */
 
 /* What an image has. */
@@ -83,148 +81,143 @@ typedef struct {
     uint32_t is_damaged; /* 1: there is none, and there may have been one: the device isn't free */
 } zelamiku_shape;
 
-/* So many bytes of a device zelamiku_head looks at. */
+/* How many of a device's bytes zelamiku_head reads. */
 #define ZELAMIKU_HEAD_BYTES 2160
 
-/* Tells which image a device has, by its first ZELAMIKU_HEAD_BYTES bytes; of a shorter one, by all of them and zeros.
- * OK: they are the header of an image of that shape. Whether the rest is as large, and an image, zelamiku_open finds.
- * NOT_FORMATTED: they are none. Where `is_damaged` is 0 a heap may be made there, if the device has only zeros from `zeros_from` on. That is
- * 0; or where the lanes' areas begin, if a making in place was cut off before its last gate. BAD_HEADER: a number of the header is out of its
- * limits. TOO_SMALL: fewer bytes are given. All other numbers are 0 then. */
+/* Finds out which image a device has, by its first ZELAMIKU_HEAD_BYTES bytes; if the device is shorter, by all of them and zeros.
+ * OK: they are the header of an image of that shape. zelamiku_open checks the rest, and its size.
+ * NOT_FORMATTED: they are no header. If `is_damaged` is 0 a heap may be made there, provided the device has only zeros from `zeros_from` on.
+ * That is 0; if a making in place was cut off before its last gate, it is where the lanes' areas begin. BAD_HEADER: a number of the header is
+ * out of its limits. TOO_SMALL: fewer bytes are given. All other numbers are 0 then. */
 ZELAMIKU_MUST_USE zelamiku_status zelamiku_head(const uint8_t *begun, size_t size, zelamiku_shape *shape);
 
-/* Makes a heap of so many objects and of these fields, with `lanes` (1 to 32) lanes of `capacity` (2,000 to 1,048,576) records
- * each, and opens it. `size` gets the bytes of its image.
- * `threads` is how many threads the caller has. Where the image has more lanes than that, and at least two, its last lane is the helper's: no
- * session has it, and a round asks for two syncs. Else each lane has a session, and a round asks for four. No number of threads is refused.
- * The image doesn't say whose its lanes are: each opening chooses it anew.
- * A session sends what it does through its lane's ring, from which a round takes it. A ring holds `ring` (4,096 to 65,536) records: a larger one
- * lets the session go on for longer while the host makes a round's calls, up to the lane's capacity. It takes 24 bytes of memory a record. The
- * ring is no part of the image: each opening chooses it anew.
- * Needs: before the first call of zelamiku_next_call is made, the device has `size` zero bytes, durably. Where it may have an image, that
- * one's gate is made zero first, alone and durably (docs/FORMAT.md): an old header over zeros would be a heap of zeros.
- * RING, before any other answer: `ring` is out of its limits. OPEN, EMPTY, UNKNOWN_OBJECT, TOO_MANY, BAD_HEADER, NO_MEMORY, FAULT (want of
+/* Makes a heap of so many objects and of these fields, with `lanes` (1 to 32) lanes of `capacity` (2,000 to 1,048,576) records each, and opens
+ * it. `size` gets the bytes of its image.
+ * `threads` is how many threads the caller has. If the image has more lanes than that, and at least two, its last lane is the helper's: no
+ * session has it, and a round has two syncs. Otherwise each lane has a session, and a round has four. No number of threads is refused.
+ * A session's records go through its lane's ring, from which a round takes them. A ring holds `ring` (4,096 to 65,536) records of 24 bytes: a
+ * larger one lets the session go on for longer while the host makes a round's calls, up to the lane's capacity. The image records neither whose
+ * its lanes are nor the ring: each opening chooses both anew.
+ * Needs: before the first call of zelamiku_next_call is made, the device has `size` zero bytes, durably. If it may have an image, make that
+ * one's gate zero first, alone and durably (docs/FORMAT.md): an old header over zeros would be a heap of zeros.
+ * RING, before any other status: `ring` is out of its limits. OPEN, EMPTY, UNKNOWN_OBJECT, TOO_MANY, BAD_HEADER, NO_MEMORY, FAULT (want of
  * memory too). The handle is as it was, and `size` is 0. */
 ZELAMIKU_MUST_USE zelamiku_status zelamiku_format(zelamiku_handle *heap, uint32_t objects, const zelamiku_field *fields, size_t count,
                                                   uint32_t lanes, uint32_t capacity, uint32_t threads, uint32_t ring, uint64_t *size);
 
-/* Recovers the heap of these bytes, and opens it, with threads and rings as zelamiku_format. `told` gets what it has and the sections that were
- * kept, of the helper's lane too, and `told->found.threads` how many of its lanes have a session, from lane 0 on. The
- * first `count` of `dropped` those that weren't, by lane and then by number, as many as there are; `told->found.dropped` is how many there are.
+/* Recovers the heap of these bytes, and opens it, with threads and rings as zelamiku_format. `told` gets what it has and how many sections were
+ * kept, of the helper's lane too; `told->found.threads` gets how many of its lanes have a session, from lane 0 on. `dropped` gets the first
+ * `count` sections that weren't kept, by lane and then by number; `told->found.dropped` is how many there are.
  * Needs: the device has these bytes, all of them, durably.
- * RING, before any other answer; OPEN, NOT_FORMATTED, BAD_HEADER, TOO_SMALL, NO_CONTROL, BAD_CONTROL, OLD_VERSION, WORN, BAD_RECORD,
- * ILLEGAL_LOG, NO_MEMORY, FAULT (want of memory too): the handle is as it was. `told` says for which record the image is refused, if it is for
- * one, and else nothing, and `dropped` says nothing. Nothing was asked of the device.
+ * RING, before any other status; OPEN, NOT_FORMATTED, BAD_HEADER, TOO_SMALL, NO_CONTROL, BAD_CONTROL, OLD_VERSION, WORN, BAD_RECORD,
+ * ILLEGAL_LOG, NO_MEMORY, FAULT (want of memory too): the handle is as it was. If one record is the cause, `told` says which; otherwise it is
+ * empty, and so is `dropped`. The device has no pending call.
  * OLD_VERSION: an older library made the heap, and zelamiku_upgrade opens it. */
 ZELAMIKU_MUST_USE zelamiku_status zelamiku_open(zelamiku_handle *heap, const uint8_t *image, size_t size, uint32_t threads, uint32_t ring,
                                                 zelamiku_told *told, zelamiku_dropped *dropped, size_t count);
 
-/* Opens the heap of these bytes as zelamiku_open does, also where their image has version 1, from before there were transient fields. The
- * calls of its recovery, which zelamiku_next_call tells first, give the image version 2, in place, with the same heap. A crash while the host
- * makes them leaves that heap too: call zelamiku_upgrade again, which takes both versions. The image has version 1 until the last gate is
- * written. Between that write and the return of its sync it may have either version, and after the sync it has version 2.
- * A library from before can't open version 2. So call this where the user has asked for it, or keep a copy of the image first; call
- * zelamiku_open otherwise.
- * As zelamiku_open, but for OLD_VERSION. */
+/* Opens the heap of these bytes as zelamiku_open does, and also an image of version 1, from before there were transient fields. The calls of its
+ * recovery, which zelamiku_next_call returns first, give the image version 2, in place, with the same heap. A crash while the host makes them
+ * leaves that heap too: call zelamiku_upgrade again, which accepts both versions. The image has version 1 until the last gate is written, either
+ * version until the sync after that returns, and then version 2.
+ * An older library can't open version 2. So call this if the user has asked for it, or after copying the image; otherwise call zelamiku_open.
+ * Returns what zelamiku_open does, except OLD_VERSION. */
 ZELAMIKU_MUST_USE zelamiku_status zelamiku_upgrade(zelamiku_handle *heap, const uint8_t *image, size_t size, uint32_t threads, uint32_t ring,
                                                    zelamiku_told *told, zelamiku_dropped *dropped, size_t count);
 
-/* One of both. */
+/* zelamiku_open or zelamiku_upgrade. */
 typedef zelamiku_status zelamiku_opening(zelamiku_handle *heap, const uint8_t *image, size_t size, uint32_t threads, uint32_t ring,
                                          zelamiku_told *told, zelamiku_dropped *dropped, size_t count);
 
-/* Tells the shape of a heap's image, and its fields: the first `count` of them, as its image has them, and zeros for those that it hasn't.
- * CLOSED. `shape` is all 0 then, and `fields` as it was. */
+/* Returns the shape of a heap's image, and its fields: the first `count` of them, as its image has them, and zeros past the last one. CLOSED.
+ * `shape` is all 0 then, and `fields` as it was. */
 ZELAMIKU_MUST_USE zelamiku_status zelamiku_fields(zelamiku_handle *heap, zelamiku_shape *shape, zelamiku_field *fields, size_t count);
 
-/* Hands out the session of the next lane, from 0 on; once each was, that of a lane whose session has ended (zelamiku_end) and held no
- * monitor then, whichever it is: so threads may come and go. zelamiku_lane tells which lane it has.
- * OPEN: `session` has something behind it. NONE_LEFT: each lane but the helper's has a session. CLOSED. NO_MEMORY: none was handed out, and
- * it may be asked for again. The handles are as they were. */
+/* Hands out the session of the next lane, from 0 on. Once all were handed out: that of any lane whose session has ended (zelamiku_end) while it
+ * held no monitor, so threads may come and go. zelamiku_lane returns which lane it has.
+ * OPEN: `session` is open already. NONE_LEFT: each lane but the helper's has a session. CLOSED. NO_MEMORY: none was handed out, and it may be
+ * requested again. The handles are as they were. */
 ZELAMIKU_MUST_USE zelamiku_status zelamiku_session(zelamiku_handle *heap, zelamiku_handle *session);
 
-/* Tells the call of the device that the host makes next, and copies its bytes. It tells the same call until zelamiku_call_done.
- * `call->kind` is ZELAMIKU_NO_CALL where none is left; another round may leave more. Into a buffer of fewer bytes than the call has,
- * which one of ZELAMIKU_MOST_BYTES never is, only the first of them are copied, though `call` tells all of it: the host may look at
- * such a call, and can't make it.
+/* Returns the call of the device that the host makes next, and copies its bytes. It returns the same call until zelamiku_call_done. `call->kind`
+ * is ZELAMIKU_NO_CALL if none is pending; another round may add more. If the buffer has fewer bytes than the call, which one of
+ * ZELAMIKU_MOST_BYTES never has, only the first of them are copied, though `call` describes all of it: the host may look at such a call, and
+ * can't make it.
  * After a refusal `call` is ZELAMIKU_NO_CALL. */
 ZELAMIKU_MUST_USE zelamiku_status zelamiku_next_call(zelamiku_handle *heap, zelamiku_call *call, uint8_t *bytes, size_t size);
 
-/* Says that the host has made the call that zelamiku_next_call told, which is the first of those that are left. The library can't see
- * whether the host has made it: say it once for each call, and only after that call was told and made.
- * NONE_LEFT: of the calls that the library has taken up to a sync, by zelamiku_next_call or zelamiku_acknowledged, none is left; nothing was
- * done. */
+/* Confirms that the host has made the call that zelamiku_next_call returned, the first pending one. The library can't check it: confirm each
+ * call once, and only after it was returned and made.
+ * NONE_LEFT: no call is pending that the library has taken, up to a sync, by zelamiku_next_call or zelamiku_acknowledged; nothing was done. */
 ZELAMIKU_MUST_USE zelamiku_status zelamiku_call_done(zelamiku_handle *heap);
 
-/* Says that the host couldn't make the call that zelamiku_next_call told.
- * OK: it was a write, and nothing has changed: the same call is told again, and may be made again.
- * STOPPED: it was a sync, or one had failed before. The memory of the heap is let go, and nothing that the sessions do from now on is
- * made durable; what was acknowledged before stays. Free the handles.
- * NONE_LEFT: no call was told. */
+/* Reports that the host couldn't make the call that zelamiku_next_call returned.
+ * OK: it was a write, and nothing has changed: the same call is returned again, and may be made again.
+ * STOPPED: it was a sync, or one had failed before. The heap's memory is freed, and nothing that the sessions do from now on becomes durable;
+ * what was acknowledged before stays. Free the handles.
+ * NONE_LEFT: no call was returned. */
 ZELAMIKU_MUST_USE zelamiku_status zelamiku_call_failed(zelamiku_handle *heap);
 
 #define ZELAMIKU_ALL UINT64_MAX /* no bound on a round */
 
-/* Takes what the sessions have done, at most `most` records of it, writes it to the log, acknowledges each section that has ended and
- * depends on none that hasn't, and leaves the calls of that to zelamiku_next_call: make them after each round, or in a thread that orders
- * its calls with this one. `applied` gets how many records were taken. With none there is no call.
- * A round that has taken `most` may have left some: make another one, also where nothing comes meanwhile. A session that waits for its
- * section is kept until all rounds are over that take what its section depends on: so where threads wait beside others that send much,
- * choose a bound that takes about as long as the calls of a round. The lanes have equal parts of it. ZELAMIKU_ALL is no bound.
- * After each refusal `applied` is 0. CLOSED: nothing was done. CALLS_LEFT: the host hasn't made its calls for so many rounds
- * that those of one more might have no room: nothing was done; make them, and go on. FAULT, FAILED: the heap has stopped; what was
- * acknowledged stays: free the handles, and open it again. WORN: the control's sequence is at its end. The heap hasn't stopped, but no round
- * that has to write acknowledges anything from now on; what was acknowledged stays. */
+/* Takes what the sessions have done, at most `most` records of it, and writes it to the log. Acknowledges each section that has ended and
+ * depends on none that hasn't. zelamiku_next_call then returns the calls for that: make them after each round, or in a thread that orders its
+ * calls with this one. `applied` gets how many records were taken. With none there is no call.
+ * A round that has taken `most` may have left some: make another one, even if nothing comes meanwhile. A session that waits for its section is
+ * delayed until all rounds are over that take what its section depends on: if threads wait beside others that send much, choose a bound that
+ * takes about as long as the calls of a round. The lanes have equal parts of it. ZELAMIKU_ALL is no bound.
+ * After each refusal `applied` is 0. CLOSED: nothing was done. CALLS_LEFT: the host hasn't made the calls of so many rounds that those of one
+ * more might have no room; nothing was done: make them, and go on. FAULT, FAILED: the heap has stopped; what was acknowledged stays: free the
+ * handles, and open it again. WORN: the control's sequence has reached its limit. The heap hasn't stopped, but from now on no round that has to
+ * write acknowledges anything; what was acknowledged stays. */
 ZELAMIKU_MUST_USE zelamiku_status zelamiku_round(zelamiku_handle *heap, uint64_t most, uint64_t *applied);
 
 /* How many sections of the lane are acknowledged since the heap was opened: no crash of the device loses them.
- * CLOSED. BAD_LANE: no session has that lane: it is past the last one, or the helper's. CALLS_LEFT: make the calls that are left, and ask
- * again.
+ * CLOSED. BAD_LANE: no session has that lane: it is past the last one, or the helper's. CALLS_LEFT: make the pending calls, and ask again.
  * `sections` is 0 then. */
 ZELAMIKU_MUST_USE zelamiku_status zelamiku_acknowledged(zelamiku_handle *heap, uint32_t lane, uint64_t *sections);
 
-/* Copies bytes of the heap's image, from byte `at` on, into `bytes`: as many as there are and `size` has room for. `copied` gets how many; it
- * is 0 where `at` is at the image's end or past it. After the copied bytes `bytes` stays as it was. The image is that of the heap's disk in
- * memory: what the device holds once the host has made each call that is told or left. So it may be ahead of the device, and never behind it.
- * Nothing else changes: no call is made or told by it, and a heap that stopped by FAULT, FAILED or WORN, or was closed, has its image too.
- * Needs: between the first and the last piece of a copy, no zelamiku_round and no zelamiku_close of this heap. Sessions may go on meanwhile,
- * and so may zelamiku_next_call and zelamiku_call_done.
+/* Copies bytes of the heap's image, from byte `at` on, into `bytes`: as many as there are and `size` has room for. `copied` gets how many; it is
+ * 0 if `at` is at the image's end or past it. After the copied bytes `bytes` stays as it was. The image is that of the heap's disk in memory:
+ * what the device holds once the host has made all pending calls. So it may be ahead of the device, and never behind it. Nothing else changes:
+ * it neither makes nor adds a call, and a heap that stopped by FAULT, FAILED or WORN, or was closed, has its image too.
+ * Needs: between the first and the last piece of a copy, no zelamiku_round and no zelamiku_close of this heap. Sessions may go on meanwhile, and
+ * so may zelamiku_next_call and zelamiku_call_done.
  *     for (uint64_t at = 0; zelamiku_copy(&heap, at, buffer, sizeof buffer, &copied) == ZELAMIKU_OK && copied > 0; at += copied)
  *         if (pwrite(file, buffer, copied, (off_t)at) != (ssize_t)copied) ...
- * A whole copy, once it is durable in a file of its own, is a heap that zelamiku_open takes: as if this one had crashed just then, with
- * nothing in flight. It keeps each section that was acknowledged by then, also by zelamiku_round_sections; after zelamiku_close has
- * answered OK it keeps all sections.
+ * A whole copy, once it is durable in a file of its own, is a heap that zelamiku_open accepts: as if this one had crashed just then, with
+ * nothing in flight. It keeps each section that was acknowledged by then, also by zelamiku_round_sections; after zelamiku_close has returned OK
+ * it keeps all sections.
  * After a refusal `copied` is 0, and `bytes` is as it was. */
 ZELAMIKU_MUST_USE zelamiku_status zelamiku_copy(zelamiku_handle *heap, uint64_t at, uint8_t *bytes, size_t size, uint64_t *copied);
 
-/* Closes the heap, once each session that was handed out has ended: the last round. Make the calls that are left, and then free it.
- * RUNNING: a session that was handed out hasn't ended, or each has and another thread is still inside zelamiku_end; the heap goes on. In
- * the second case the lanes that were never handed out have ended too, so that zelamiku_session hands out none of them anew but goes on
- * with their sessions. CALLS_LEFT: the calls of the last round might have no room: make those that are left, and close it then; the heap
- * goes on. UNFINISHED, NO_MEMORY, FAULT, FAILED, WORN: the heap is closed without its last round, or with a part of it. What was
- * acknowledged stays: make the calls that are left, free the handle, and open the heap again. UNFINISHED and NO_MEMORY have left no call.
- * WORN: the control's sequence is at its end, and zelamiku_open answers WORN too. CLOSED, by an earlier call: nothing was done. */
+/* Closes the heap, once each session that was handed out has ended: the last round. Make the pending calls, and then free it.
+ * RUNNING: a session that was handed out hasn't ended, or each has and another thread is still inside zelamiku_end; the heap goes on. In the
+ * second case the lanes that were never handed out have ended too: zelamiku_session then hands out none of them anew but goes on with their
+ * sessions. CALLS_LEFT: the calls of the last round might have no room: make the pending ones, and close it then; the heap goes on. UNFINISHED,
+ * NO_MEMORY, FAULT, FAILED, WORN: the heap is closed without its last round, or with a part of it. What was acknowledged stays: make the pending
+ * calls, free the handle, and open the heap again. UNFINISHED and NO_MEMORY leave no pending call. WORN: the control's sequence has reached its
+ * limit, and zelamiku_open returns WORN too. CLOSED, by an earlier call: nothing was done. */
 ZELAMIKU_MUST_USE zelamiku_status zelamiku_close(zelamiku_handle *heap);
 
-/* Lets go of what a handle holds, which is as at the beginning then. A heap stops, as if the process had: what was acknowledged stays.
- * A session that is freed never ends, so its heap can't be closed any more (RUNNING). What it holds stays held: others that want those
- * monitors are answered HELD for as long as the heap is open. Sections that depend on its last one are never acknowledged, and
- * their sessions end up BEHIND. zelamiku_look tells the lane that holds an object. If that lane's thread is gone, free the handles
- * and open the heap again. The section that was cut off is dropped then, with those that depend on it. A thread that may be ended by
- * force, or end by itself in a section, costs its heap an opening. */
+/* Frees what a handle holds, and resets the handle to ZELAMIKU_NONE. A heap stops, as if the process had: what was acknowledged stays. A session
+ * that is freed never ends, so its heap can't be closed any more (RUNNING). What it holds stays held: others that want those monitors get HELD
+ * as long as the heap is open. Sections that depend on its last one are never acknowledged, and their sessions end up BEHIND. zelamiku_look
+ * returns the lane that holds an object. If that lane's thread is gone, free the handles and open the heap again. The section that was cut off
+ * is dropped then, with those that depend on it. A thread that may be killed, or exit in a section, costs its heap an opening. */
 void zelamiku_free(zelamiku_handle *handle);
 
 /* ---- a session: one thread's use of the heap ---- */
 
-/* Each call of a session also answers NOTHING, WRONG_KIND and WAITING; nothing was done then. try_enter, begin_wait and try_resume answer
- * STOPPED once the heap has stopped by zelamiku_call_failed, so that no loop that tries again spins for ever: what is held and what
- * waits stays as it was. The others go on, so that a section may be ended, though nothing of it will be durable. */
+/* Each call of a session also returns NOTHING, WRONG_KIND and WAITING; nothing was done then. try_enter, begin_wait and try_resume return
+ * STOPPED once the heap has stopped by zelamiku_call_failed, so no retry loop spins for ever: what is held and what waits stays as it was. The
+ * others go on, to let a section end, though nothing of it will be durable. */
 
-/* Takes the object's monitor, or one lock more of it. The first of a section needs room for a whole one.
+/* Locks the object's monitor, or locks it once more. The first enter of a section needs room for a whole section.
  * UNKNOWN_OBJECT, BEHIND, SECTION_FULL, TOO_MANY, TOO_DEEP, NO_FAT, WORN, HELD: what is held stays as it was. */
 ZELAMIKU_MUST_USE zelamiku_status zelamiku_try_enter(zelamiku_handle *session, uint32_t object);
 
-/* Gives one lock back, and with the last one the monitor. With the last monitor the section ends.
+/* Unlocks the monitor once. The last unlock frees it, and the section ends when its last monitor is free.
  * UNKNOWN_OBJECT, NOT_HELD: nothing was done. */
 ZELAMIKU_MUST_USE zelamiku_status zelamiku_exit(zelamiku_handle *session, uint32_t object);
 
@@ -236,7 +229,7 @@ ZELAMIKU_MUST_USE zelamiku_status zelamiku_load(zelamiku_handle *session, uint32
  * UNKNOWN_FIELD, NOT_HELD, SECTION_FULL: nothing was stored. */
 ZELAMIKU_MUST_USE zelamiku_status zelamiku_store(zelamiku_handle *session, uint32_t field, uint64_t value);
 
-/* Joins the wait set of a monitor that is held, and frees it, whatever the count of its locks. Resume it then.
+/* Joins the wait set of a monitor that is held, and frees it, with all its locks. Resume it then.
  * UNKNOWN_OBJECT, NOT_HELD, BEHIND, SECTION_FULL, NO_FAT, WORN: the monitor is held as before. */
 ZELAMIKU_MUST_USE zelamiku_status zelamiku_begin_wait(zelamiku_handle *session, uint32_t object);
 
@@ -253,41 +246,40 @@ ZELAMIKU_MUST_USE zelamiku_status zelamiku_notify(zelamiku_handle *session, uint
  * UNKNOWN_OBJECT, NOT_HELD: `lanes` is 0. */
 ZELAMIKU_MUST_USE zelamiku_status zelamiku_notify_all(zelamiku_handle *session, uint32_t object, uint64_t *lanes);
 
-/* Looks at a monitor, which needn't be held.
- * UNKNOWN_OBJECT: `sight` is that of a free monitor. */
+/* Looks at a monitor, which needn't be held. UNKNOWN_OBJECT: `sight` describes a free monitor. */
 ZELAMIKU_MUST_USE zelamiku_status zelamiku_look(zelamiku_handle *session, uint32_t object, zelamiku_sight *sight);
 
-/* How many sections of the session's lane the last round acknowledged. They are durable once the host has made that round's calls: from then
- * on no crash loses them, even if the heap is never closed. zelamiku_acknowledged tells only of such. */
+/* How many sections of the session's lane the last round acknowledged. They are durable once the host has made that round's calls: from then on
+ * no crash loses them, even if the heap is never closed. zelamiku_acknowledged counts only such sections. */
 ZELAMIKU_MUST_USE zelamiku_status zelamiku_round_sections(zelamiku_handle *session, uint64_t *sections);
 
-/* Tells the session's lane, and how many sections of it have ended since the heap was opened, also those of the sessions that had the lane
- * before. What the session has done by then is durable once zelamiku_acknowledged tells as many of that lane.
+/* Returns the session's lane, and how many sections of it have ended since the heap was opened, also those of the sessions that had the lane
+ * before. What the session has done by then is durable once zelamiku_acknowledged returns as many for that lane.
  * After a refusal `lane` is ZELAMIKU_NOBODY and `sections` 0. */
 ZELAMIKU_MUST_USE zelamiku_status zelamiku_lane(zelamiku_handle *session, uint32_t *lane, uint64_t *sections);
 
 /* ---- a pool, by a session (zelamiku.h has what a pool is, and zelamiku_pool_fields) ---- */
 
-/* Takes a slot of the pool whose head is this field, and which has so many slots. Its object's monitor is held; it makes two records.
+/* Takes a free slot of the pool with this head and this number of slots. Its object's monitor must be held; the call makes two records.
  * POOL_EMPTY, DAMAGED, UNKNOWN_FIELD, NOT_HELD, SECTION_FULL: nothing was stored, and `slot` is ZELAMIKU_NO_SLOT. */
 ZELAMIKU_MUST_USE zelamiku_status zelamiku_pool_take(zelamiku_handle *session, uint32_t head, uint32_t slots, uint32_t *slot);
 
-/* Gives a slot back that was taken: it is the next one to be taken. Its object's monitor is held; it makes two records.
+/* Releases a slot that was taken: it is the next one to be taken. Its object's monitor must be held; the call makes two records.
  * NOT_TAKEN, DAMAGED, UNKNOWN_FIELD, NOT_HELD, SECTION_FULL: nothing was stored. */
 ZELAMIKU_MUST_USE zelamiku_status zelamiku_pool_give(zelamiku_handle *session, uint32_t head, uint32_t slots, uint32_t slot);
 
 /* ---- the end of a session ---- */
 
-/* Ends the session, and gives it back to its heap: its lane may be handed out again. Exit all monitors first: else it isn't, and its heap can't
- * be closed. The handle keeps 6 kB, and its lane's ring where the heap goes first, until it is opened again or freed: so free it, or hand it to
- * zelamiku_session. Until then each call of a session answers NOTHING for it, and each call of a heap WRONG_KIND.
+/* Ends the session, and returns it to its heap, which may hand out its lane again. Exit all monitors first: otherwise it isn't returned, and its
+ * heap can't be closed. The handle keeps 6 kB, and its lane's ring if the heap goes first, until it is opened again or freed: so free it, or
+ * pass it to zelamiku_session. Until then each call of a session returns NOTHING for it, and each call of a heap WRONG_KIND.
  * WAITING, WRONG_KIND: the handle is as it was. */
 ZELAMIKU_MUST_USE zelamiku_status zelamiku_end(zelamiku_handle *session);
 
 /* ---- measurements of these calls ---- */
 
-/* Makes all calls of the device that are left on a file, for measurements of the calls here without the scheduler. `made` gets how many. DEVICE:
- * a write has failed, and no call after it was made; the next zelamiku_make_calls begins with it. LOST: a sync has failed, and no call may follow
+/* Makes all pending calls of the device on a file, for measurements of the calls here without the scheduler. `made` gets how many. DEVICE: a
+ * write has failed, and no call after it was made; the next zelamiku_make_calls begins with it. LOST: a sync has failed, and no call may follow
  * (zelamiku_call_failed). errno has the cause. */
 ZELAMIKU_MUST_USE zelamiku_status zelamiku_make_calls(zelamiku_handle *heap, int descriptor, uint64_t *made);
 

@@ -1,9 +1,8 @@
-/* The calls that every section makes, for the compiler to write out in the program. zelamiku.h includes this at its end; what it says of
- * these calls holds. Where a section is open by the handle, or its lane may begin one, the proved library is called at once. Everything
- * else, and whatever the proved library refuses, goes to the library's own function of that name, which makes the whole call: one that was
- * refused has done nothing.
+/* The calls that every section makes, for the compiler to inline in the program. zelamiku.h includes this at its end; its comments on these
+ * calls hold. If the handle's section is open, or its lane may begin one, the proved library is called directly. Everything else, and whatever
+ * the proved library refuses, goes to the library's own function of that name, which makes the whole call: a refused call has done nothing.
  *
- * A program that defines ZELAMIKU_NO_INLINE calls functions alone. It may run with the shared object of another release; any other program has
+ * A program that defines ZELAMIKU_NO_INLINE calls functions alone. It may run with the shared object of another release; any other program needs
  * the library that came with this header. */
 #include "zelamiku.h"
 #ifndef ZELAMIKU_INLINE_H
@@ -32,41 +31,41 @@ typedef struct {
 ZELAMIKU_HAS_SIZE(zelamiku_handle, 16);
 #endif
 
-/* Four calls of the proved library, by a session of it. No program makes them by itself. */
+/* Four calls of the proved library, with one of its sessions. No program makes them by itself. */
 ZELAMIKU_MUST_USE zelamiku_status zelamiku_try_enter(zelamiku_handle *session, uint32_t object);
 ZELAMIKU_MUST_USE zelamiku_status zelamiku_exit(zelamiku_handle *session, uint32_t object);
 ZELAMIKU_MUST_USE zelamiku_status zelamiku_load(zelamiku_handle *session, uint32_t field, uint64_t *value);
 ZELAMIKU_MUST_USE zelamiku_status zelamiku_store(zelamiku_handle *session, uint32_t field, uint64_t value);
 
-/* What a section's end asks of its heap. The library's own, as all here: no program reads or writes it by itself. */
+/* What a section's end checks of its heap. The library's own, as all here: no program reads or writes it by itself. */
 typedef struct {
     uint32_t waiting[64]; /* how many wait for monitors, by the object modulo 64 */
-    uint32_t has_work;    /* 0: the helper may have to be told */
-    uint32_t enough;      /* records, after which a section's end asks for a round */
+    uint32_t has_work;    /* 0: the helper may have to be woken */
+    uint32_t enough;      /* once a lane has sent so many records, a section's end requests a round */
 } ZELAMIKU_SHARED zelamiku_signals;
 
-/* What the thread that has a lane keeps of it. */
+/* What the lane's thread keeps of it. */
 typedef struct {
-    uint64_t number; /* the handle that the lane is lent by; 0: a call has to look closer */
+    uint64_t number; /* the handle that the lane is lent by; 0: a call has to check further */
     uint64_t open;   /* the same while a section is open */
     uint64_t ended;  /* sections */
     uint32_t locks, is_busy;
     zelamiku_handle session;
     zelamiku_signals *signals;
     uint32_t records;
-    uint32_t has_stored;  /* 1: the section that is open has, to a persistent field */
-    uint64_t last_stored; /* the last section that has and has ended, by how many had ended with it */
-    uint32_t is_plain;    /* 1: nothing is kept of what a section changes, and no field is transient. Else the library's own functions store,
+    uint32_t has_stored;  /* 1: the open section has stored to a persistent field */
+    uint64_t last_stored; /* the number of the last ended section that has */
+    uint32_t is_plain;    /* 1: no old values are saved, and no field is transient. Else the library's own functions store,
                              and take further monitors */
 } ZELAMIKU_SHARED zelamiku_own;
 
-/* The table of all lanes. Every number, also one that is no handle, names a place in it. The number in its name is that of the layout of the
- * two structures above: raise it with each change of them, so that a program of another layout doesn't link. */
+/* The table of all lanes. Every number names a place in it, even one that is no handle. The number in its name is the layout's of the two
+ * structures above: raise it with each change of them, so a program of another layout doesn't link. */
 #define ZELAMIKU_SEATS zelamiku_seats_4
 extern char ZELAMIKU_SEATS[];
 #define ZELAMIKU_OWN_OF(thread) ((zelamiku_own *)(void *)(ZELAMIKU_SEATS + 128 + ((thread).number & 2096896)))
 
-/* What is left of an exit that the proved library has made, where there is somebody to be told. */
+/* The rest of an exit that the proved library has made, if another thread must be notified. */
 ZELAMIKU_MUST_USE zelamiku_status zelamiku_thread_exited(zelamiku_thread thread, uint32_t object);
 
 #ifdef __cplusplus
@@ -79,7 +78,7 @@ ZELAMIKU_MUST_USE zelamiku_status zelamiku_thread_exited(zelamiku_thread thread,
 extern "C" {
 #endif
 
-/* Never a function of the program's own: where the compiler writes none out it calls the library's. */
+/* Never a function of the program's own: a call that the compiler doesn't inline goes to the library. */
 #ifndef ZELAMIKU_INLINE
 #define ZELAMIKU_INLINE extern __inline __attribute__((__gnu_inline__))
 #endif
@@ -95,22 +94,22 @@ ZELAMIKU_INLINE __attribute__((__always_inline__)) bool zelamiku_is_open(const z
     return ZELAMIKU_OFTEN(__atomic_load_n(&own->open, __ATOMIC_RELAXED) == thread.number);
 }
 
-/* The lane is busy before it is looked whether the heap has ended: who ends the heap sees that, or is seen. */
+/* Marks the lane busy before it checks whether the heap has ended: the thread that ends the heap sees the mark, or is seen here. */
 ZELAMIKU_INLINE __attribute__((__always_inline__)) bool zelamiku_begins(zelamiku_own *own, zelamiku_thread thread) {
     if (!ZELAMIKU_OFTEN(__atomic_load_n(&own->number, __ATOMIC_RELAXED) == thread.number)) return false;
     __atomic_store_n(&own->is_busy, 1, __ATOMIC_SEQ_CST);
     return ZELAMIKU_OFTEN(__atomic_load_n(&own->number, __ATOMIC_SEQ_CST) == thread.number);
 }
 
-/* Before a section's end is counted: whoever sees its count sees whether it has stored. */
+/* Before a section's end is counted: a thread that sees its count sees whether it has stored. */
 ZELAMIKU_INLINE __attribute__((__always_inline__)) void zelamiku_notes_stores(zelamiku_own *own) {
     if (own->has_stored == 0) return;
     __atomic_store_n(&own->last_stored, own->ended + 1, __ATOMIC_RELAXED);
     own->has_stored = 0;
 }
 
-/* Whether a section has ended of whose end nobody has to be told. What is looked at after `ended` is written stands with it in the one order of
- * all: whoever begins a round reads `ended` after it has set `has_work` to 0. */
+/* Ends the section; true if no other thread needs to be notified. `ended` is stored, and the flags below are loaded, sequentially consistently:
+ * a leader reads `ended` after it has set `has_work` to 0. */
 ZELAMIKU_INLINE __attribute__((__always_inline__)) bool zelamiku_ends(zelamiku_own *own, zelamiku_thread thread) {
     __atomic_store_n(&own->open, 0, __ATOMIC_RELAXED);
     zelamiku_notes_stores(own);

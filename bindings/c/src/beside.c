@@ -1,11 +1,11 @@
 /* Files that are made beside a path and take its place once they are whole: locks, where a path leads, drafts.
  *
- * The registry has the list of drafts, and every descriptor from its opening to its closing, so that a fork's child closes all.
- * Else a draft is its caller's own. What keeps other processes out are locks of the system on the files (flock). */
+ * The registry has the list of drafts, and every descriptor from its opening to its closing: a fork's child closes all of them. Otherwise a
+ * draft belongs to its caller. Locks of the system on the files (flock) keep other processes out. */
 /* ---- locks and paths ---- */
 
-/* Opens a file whose descriptor the registry has: as soon as it is open, for a fork, which waits for `opens_underway`. No mutex is held,
- * because an open may hang. A file that was made for this is removed where it has no descriptor. */
+/* Opens a file, and lists its descriptor in the registry as soon as it is open, for a fork, which waits for `opens_underway`. No mutex is held,
+ * because an open may hang. A file that was made for this is removed if it gets no descriptor. */
 static bool open_listed(int *descriptor, const char *path, int flags, mode_t mode) {
     opens_underway++;
     int file = AGAIN(open(path, flags | O_CLOEXEC | O_NOCTTY | O_NONBLOCK, mode));
@@ -17,7 +17,7 @@ static bool open_listed(int *descriptor, const char *path, int flags, mode_t mod
     return *descriptor >= 0;
 }
 
-/* Locks a file for this open of it alone. BUSY: another open has it. DEVICE: it can't be locked, by errno. */
+/* Locks a file for this open of it alone. BUSY: another open has it. DEVICE: it can't be locked; errno says why. */
 static zelamiku_status lock_alone(int file) {
     if (AGAIN(flock(file, LOCK_EX | LOCK_NB)) == 0) return ZELAMIKU_OK;
     return errno == EWOULDBLOCK ? ZELAMIKU_BUSY : ZELAMIKU_DEVICE;
@@ -38,8 +38,8 @@ static bool is_open_here(const struct stat *its) {
     return is;
 }
 
-/* The heap has the file from now on, which is locked by this descriptor. BUSY: another heap of this process has it: the lock was free since the
- * program has closed that one's descriptor. DEVICE, by errno. */
+/* The heap has the file from now on; this descriptor has it locked. BUSY: another heap of this process has it, and the program has closed that
+ * one's descriptor, which released the lock. DEVICE with errno. */
 static zelamiku_status claim(heap *of, int file) {
     struct stat its;
     if (fstat(file, &its) != 0) return ZELAMIKU_DEVICE;
@@ -53,7 +53,7 @@ static zelamiku_status claim(heap *of, int file) {
     return status;
 }
 
-/* Whether the path leads to this file, or to none where `file` is -1. BUSY: it doesn't. DEVICE: the system doesn't say, by errno. */
+/* Whether the path leads to this file, or to none if `file` is -1. BUSY: it doesn't. DEVICE: the system can't say; errno says why. */
 static zelamiku_status leads_to(const char *path, int file) {
     struct stat own, named;
     bool is_there = stat(path, &named) == 0;
@@ -63,13 +63,13 @@ static zelamiku_status leads_to(const char *path, int file) {
     return own.st_dev == named.st_dev && own.st_ino == named.st_ino ? ZELAMIKU_OK : ZELAMIKU_BUSY;
 }
 
-/* How many bytes of the path its folder has, with the last slash. */
+/* How many bytes of the path are its folder's, with the last slash. */
 static size_t folder_size(const char *path) {
     const char *slash = strrchr(path, '/');
     return slash == NULL ? 0 : (size_t)(slash + 1 - path);
 }
 
-/* Where the link at the path leads, in place of the path. False where there is no link, and where that is too long: ENAMETOOLONG. */
+/* Replaces the path by the target of the link there. False if there is no link, or if the target is too long: ENAMETOOLONG. */
 static bool follow_link(char *path) {
     char link[PATH_MAX];
     ssize_t length = readlink(path, link, sizeof link - 1);
@@ -82,7 +82,7 @@ static bool follow_link(char *path) {
     return fits;
 }
 
-/* The real path of a file that isn't there yet. */
+/* The real path of a file that doesn't exist yet. */
 static bool find_new_path(const char *path, char *real) {
     char folder[PATH_MAX] = ".";
     size_t kept = folder_size(path), name = strlen(path) - kept;
@@ -96,7 +96,7 @@ static bool find_new_path(const char *path, char *real) {
     return true;
 }
 
-/* Where the path leads at the end of all links, also where no file is there yet, but its folder is. `real` takes PATH_MAX bytes. */
+/* Where the path leads after all links, even if there is no file yet but its folder exists. `real` takes PATH_MAX bytes. */
 static bool find_real_path(const char *path, char *real) {
     enum { MOST_LINKS = 40 }; /* as the system follows */
     char at[PATH_MAX];
@@ -109,7 +109,7 @@ static bool find_real_path(const char *path, char *real) {
     return errno = ELOOP, false;
 }
 
-/* The path from the root on, which stays when the process goes to another folder. NULL: it can't be told. */
+/* The absolute path, which holds when the process changes its folder. NULL: it can't be found out. */
 static char *path_from_root(const char *path) {
     char folder[PATH_MAX];
     if (path[0] == '/') return strdup(path);
@@ -122,10 +122,10 @@ static char *path_from_root(const char *path) {
 
 /* ---- drafts ---- */
 
-/* Ends a draft's name. It is heapctl's too, so that a making, a copy and a `heapctl format` of one path keep each other out. */
+/* The suffix of a draft's name. heapctl has the same one: a making, a copy and a `heapctl format` of one path keep each other out. */
 #define BESIDE ".heapctl-new"
 
-/* From now on a fork's child closes the draft's descriptors. It takes over `old`, where there is one. */
+/* From now on a fork's child closes the draft's descriptors. It takes over `old`, if there is one. */
 static void list_draft(draft *it, int *old) {
     it->is_in_place = false;
     it->old = it->file = -1;
@@ -139,7 +139,7 @@ static void list_draft(draft *it, int *old) {
     pthread_mutex_unlock(&registry);
 }
 
-/* The draft goes, but for a file that is in its place by now. errno stays. */
+/* Removes the draft; a file that is in its place by now stays. errno stays. */
 static void end_draft(draft *it) {
     int error = errno;
     if (it->file >= 0 && !it->is_in_place) (void)unlink(it->beside);
@@ -153,7 +153,7 @@ static void end_draft(draft *it) {
     errno = error;
 }
 
-/* Opens and locks the file that is beside the path, or a new one. `is_new` says which. `has_gone`: there was one, and it went meanwhile. */
+/* Opens and locks the file beside the path, or a new one; `is_new` says which. `has_gone`: there was one, and it vanished meanwhile. */
 static zelamiku_status open_beside(draft *it, mode_t mode, bool *is_new, bool *has_gone) {
     *is_new = open_listed(&it->file, it->beside, O_RDWR | O_CREAT | O_EXCL | O_NOFOLLOW, mode);
     if (!*is_new) {
@@ -170,8 +170,8 @@ static zelamiku_status open_beside(draft *it, mode_t mode, bool *is_new, bool *h
     return status;
 }
 
-/* Makes the file beside the path, locked. One that a draft was cut off in goes before, whatever rights and owner it has. A file whose name
- * another one took between the opening and the lock is let go. */
+/* Makes the file beside the path, locked. First removes the file of a draft that was cut off, whatever its mode and owner. If another file
+ * has taken the name between the opening and the lock, closes this one and tries again. */
 static zelamiku_status make_beside(draft *it, mode_t mode) {
     for (int tries = 0; tries < 5; tries++) {
         bool is_new = false, has_gone = false;
@@ -190,7 +190,7 @@ static zelamiku_status make_beside(draft *it, mode_t mode) {
     return ZELAMIKU_BUSY;
 }
 
-/* Begins a draft that is listed, for its path, at which `old` is. After a failure `cause` says what it was; DEVICE, by errno. */
+/* Begins a listed draft for its path, where `old` is. After a failure `cause` says what it was; DEVICE with errno. */
 static zelamiku_status begin_draft(draft *it, mode_t mode, const char **cause) {
     bool fits = (size_t)snprintf(it->beside, sizeof it->beside, "%s" BESIDE, it->path) < sizeof it->beside;
     if (!fits) errno = ENAMETOOLONG;
@@ -202,7 +202,7 @@ static zelamiku_status begin_draft(draft *it, mode_t mode, const char **cause) {
     return status;
 }
 
-/* The draft, whose bytes are durable, takes its place. False: it didn't; or it did (`is_in_place`), and that isn't durable. */
+/* Puts the draft, whose bytes are durable, in its place. False: it isn't there; or it is (`is_in_place`), and that isn't durable. */
 static bool put_in_place(draft *it) {
     assert(it->file >= 0 && !it->is_in_place);
     if (rename(it->beside, it->path) != 0) return false;

@@ -1,9 +1,9 @@
-/* A heap's device: its four functions, and the calls that the proved library asks for.
+/* A heap's device: its four functions, and the calls that the proved library requests.
  *
- * Who opens the heap has the device, and then who leads. No lock is held in a call, which may hang. */
+ * The thread that opens the heap uses the device first, and then the leader. No lock is held in a call, which may hang. */
 /* ---- the four functions ---- */
 
-/* What a function has answered: OK, DEVICE or LOST. errno has the cause. */
+/* A function's result: OK, DEVICE or LOST. errno has the cause. */
 static zelamiku_status answer_of(zelamiku_status answer) {
     if (answer == ZELAMIKU_OK) return ZELAMIKU_OK;
     if (errno == 0) errno = EIO;
@@ -35,7 +35,7 @@ static bool has_functions(const zelamiku_device *it) {
     return it != NULL && it->read != NULL && it->write != NULL && it->sync != NULL && it->size != NULL;
 }
 
-/* Whether the heap's descriptor is its file's. Another file is neither written nor taken for the heap's. errno is EBADF then. */
+/* Whether the heap's descriptor still is its file's. Another file is neither written nor taken for the heap's. errno is EBADF then. */
 static bool has_its_file(const heap *of) {
     if (of->file < 0 || of->inode == 0) return true; /* it is on a device, or not open yet */
     if (is_of_file(of->file, of->volume, of->inode)) return true;
@@ -45,7 +45,7 @@ static bool has_its_file(const heap *of) {
 
 /* ---- the proved library's calls ---- */
 
-/* Makes one call. A sync that is LOST is told to the library, which lets the heap go; any other call is told again by it. */
+/* Makes one call. Reports a sync that is LOST to the library, which then stops the heap; the library returns any other failed call again. */
 static zelamiku_status make_call(zelamiku_handle *handle, const zelamiku_device *on, const zelamiku_call *call, const uint8_t *bytes) {
     bool is_sync = call->kind == ZELAMIKU_SYNC;
     assert(is_sync || (call->size > 0 && call->size <= ZELAMIKU_MOST_BYTES));
@@ -61,7 +61,7 @@ static zelamiku_status make_call(zelamiku_handle *handle, const zelamiku_device 
     return status;
 }
 
-/* Makes the calls that are left, in order, and counts them and the syncs. DEVICE: the one that failed is the first of the next time. */
+/* Makes the pending calls, in order, and counts them and the syncs. DEVICE: the failed call is the first one next time. */
 static zelamiku_status make_calls_on(zelamiku_handle *handle, const zelamiku_device *on, uint64_t *made, uint64_t *syncs) {
     uint8_t bytes[ZELAMIKU_MOST_BYTES] = {0};
     zelamiku_call call = {ZELAMIKU_NO_CALL, 0, 0};

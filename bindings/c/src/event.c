@@ -1,11 +1,11 @@
-/* Threads with an event loop: what they have asked for, and the events that they wait for.
+/* Threads with an event loop: what they have requested, and the events that they wait for.
  *
- * The heap's mutex has what a loop waits for (`asked`, `lacks_room`) and what it knows; that mutex and the registry's have the
- * descriptor, so that either is enough to read it. */
+ * The heap's mutex guards what a loop waits for (`asked`, `lacks_room`) and what it knows. Both that mutex and the registry's guard the
+ * descriptor, so either is enough to read it. */
 /* ---- threads with an event loop ---- */
 
-/* Under the mutex: while an event loop waits for sections or room it counts among those that wait for a round, though its thread doesn't sleep
- * here: else no round would come once a section ends that its own depend on. */
+/* Under the mutex: while an event loop waits for sections or room it counts among the threads that wait for a round, though its thread doesn't
+ * sleep here. Otherwise no round would come once a section ends that its own sections depend on. */
 static void count_loop(heap *of, seat *own) {
     bool waits = own->asked != 0 || own->lacks_room;
     if (waits == own->counts_as_waiting) return;
@@ -25,7 +25,7 @@ static bool has_its_event(const seat *own) {
     return own->event != 0 && has_mark(own->event - 1, MARK_OF_EVENT);
 }
 
-/* Under the mutex, by which the descriptor stays open. */
+/* Under the mutex, which keeps the descriptor open. */
 static void ring_event(seat *other) {
     static const uint64_t one = 1;
     other->is_rung = true;
@@ -39,8 +39,8 @@ static void quieten_event(seat *own) {
     if (has_its_event(own)) (void)!read(own->event - 1, &rung, sizeof rung);
 }
 
-/* Under the mutex, after a round or at the heap's end: rings for each loop that waits for that. At the end it rings for all. A loop that has
- * asked stays asking until its sections are durable. */
+/* Under the mutex, after a round: rings for each loop that waits for it. After the heap has ended, rings for all. A loop's request stands until
+ * its sections are durable. */
 static void tell_loops(heap *of, bool is_trouble, bool is_end) {
     if (of->loops == 0 && !is_end) return;
     for (uint32_t lane = 0; lane < of->lanes; lane++) {
@@ -56,14 +56,14 @@ static void tell_loops(heap *of, bool is_trouble, bool is_end) {
     }
 }
 
-/* How many sections event loops have ended since the last round began. Behind each of them a client may wait, as behind a thread that
- * sleeps. Who leads calls it. */
+/* How many sections event loops have ended since the last round began. A client may wait for each of them, like a thread that sleeps. The leader
+ * calls it. */
 static uint32_t sections_of_loops(heap *of) {
     uint64_t count = 0;
     for (uint32_t lane = 0; of->events > 0 && lane < of->lanes; lane++) {
         seat *other = seat_at(of, lane);
         if (!other->has_event) continue;
-        uint64_t begun = other->begun; /* before what has ended since is read */
+        uint64_t begun = other->begun; /* before `ended` is read */
         count += other->ended - begun;
     }
     return count < UINT32_MAX / 2 ? (uint32_t)count : UINT32_MAX / 2;
@@ -81,8 +81,8 @@ static uint32_t begin_for_loops(heap *of) {
     return loops;
 }
 
-/* A try to enter has found no room. With an event its thread needn't try again before that is readable: it waits from now on. It asks for a few
- * rounds; a later one follows the end of another section, as in sleep_for_step. */
+/* A try to enter has found no room. With an event its thread waits from now on: it needn't try again before the event is readable. It requests a
+ * few rounds; a later one follows the end of another section, as in sleep_for_step. */
 static void note_no_room(heap *of, seat *own) {
     pthread_mutex_lock(&of->mutex);
     if (own->event == 0) {
@@ -112,12 +112,12 @@ static void close_event(heap *of, seat *own) {
     of->events--;
 }
 
-/* The same with those of all lanes that a heap of the place has ever had. */
+/* The same for all lanes that a heap of the place has ever had. */
 static void close_events(heap *of) {
     for (uint32_t lane = 0; of->events > 0 && lane < ZELAMIKU_MOST_LANES; lane++) close_event(of, seat_at(of, lane));
 }
 
-/* The thread ends its use of the lane, also after the heap's end: it waits for nothing, and has no event. */
+/* The thread returns the lane, also after the heap has ended: it waits for nothing, and has no event. */
 static void drop_event(heap *of, seat *own) {
     pthread_mutex_lock(&of->mutex);
     own->asked = own->lacked_at = 0;
@@ -138,8 +138,8 @@ static bool is_of_a_lane(int file) {
     return false;
 }
 
-/* Under the registry's mutex: an event whose number no lane has. Where the program has closed a lane's event the system gives its number anew,
- * and that lane would take the new event for its own. -1, by errno. */
+/* Under the registry's mutex: an event whose number no lane has. If the program has closed a lane's event, the system reuses its number, and
+ * that lane would take the new event for its own. -1 with errno. */
 static int new_event(void) {
     int file = above_streams(eventfd(0, EFD_CLOEXEC | EFD_NONBLOCK));
     while (file >= 0 && is_of_a_lane(file)) file = move_above(file, file);
@@ -150,7 +150,7 @@ static int new_event(void) {
     return -1;
 }
 
-/* Under the mutex: makes the lane's event, in place of one that the program has closed. False: the system has no descriptor, by errno. */
+/* Under the mutex: makes the lane's event, or replaces one that the program has closed. False: the system has no descriptor; errno is set. */
 static bool make_event(heap *of, seat *own) {
     pthread_mutex_lock(&registry);
     close_event(of, own);
@@ -158,7 +158,7 @@ static bool make_event(heap *of, seat *own) {
     if (file >= 0) {
         own->event = file + 1;
         own->begun = own->ended;
-        own->has_event = 1; /* after that, which who leads reads then */
+        own->has_event = 1; /* after `begun`, which the leader reads then */
         of->events++;
     }
     pthread_mutex_unlock(&registry);
@@ -167,7 +167,7 @@ static bool make_event(heap *of, seat *own) {
     return file >= 0;
 }
 
-/* Takes the mutex, in a call that is counted, for a handle that is lent, also at the heap's end. NOTHING, FORKED: it hasn't. */
+/* Locks the mutex, in a call that is counted, for a handle that is lent, also after the heap has ended. NOTHING, FORKED: it isn't locked. */
 static zelamiku_status lock_lane(heap *of, seat *own, zelamiku_thread thread, const char *call) {
     if (!is_lane_of(of, own, thread)) return nothing(call, NULL);
     if (of->end_status == ZELAMIKU_FORKED) return fail(of->path, ZELAMIKU_FORKED, 0, NULL, NULL, "%s", call);
@@ -200,7 +200,7 @@ zelamiku_status zelamiku_thread_event(zelamiku_thread thread, int *descriptor) {
     return status;
 }
 
-/* Under the mutex: makes the event unreadable; but once leaves it so for a loop that was told of room and has ended no section since: it may ask
+/* Under the mutex: makes the event unreadable. Exception: once for a loop that was notified of room and has ended no section since: it may ask
  * before it waits for the event, and try again after that. */
 static void quieten_for_ask(seat *own) {
     bool is_for_room = own->may_have_room && own->lacked_at == own->ended + 1;
@@ -208,7 +208,7 @@ static void quieten_for_ask(seat *own) {
     if (!is_for_room) quieten_event(own);
 }
 
-/* Under the mutex: the thread is told how many sections are durable, and asks for the others. What comes after this rings. */
+/* Under the mutex: returns how many sections are durable, and requests the others. Whatever comes later rings. */
 static zelamiku_status ask_for_all(heap *of, seat *own, uint64_t *durable) {
     quieten_for_ask(own);
     /* Before the sections are looked at, since what a last round acknowledges comes before it says so. */
@@ -217,7 +217,7 @@ static zelamiku_status ask_for_all(heap *of, seat *own, uint64_t *durable) {
     *durable = acknowledged > before ? acknowledged - before : 0;
     own->loop_knows = acknowledged;
     if (acknowledged >= own->asked) own->asked = 0;
-    /* Of a write that has failed before it asked it is told once that is made again, and fails. */
+    /* A write that had failed before the request is reported only when it is made again, and fails. */
     uint64_t known = own->asked != 0 ? own->troubles : of->troubles;
     own->troubles = of->troubles;
     bool is_new = acknowledged < ended && own->asked < ended && of->end_status == 0;

@@ -1,7 +1,7 @@
-/* A file as a device: read, write, sync, size. Who leads has it, or who opens the heap; there is no lock. */
+/* A file as a device: read, write, sync, size. The leader uses it, or the thread that opens the heap; there is no lock. */
 /* ---- the file ---- */
 
-/* The same open file by a number above that one. -1, by errno. */
+/* Duplicates the descriptor to a number above that one. -1 with errno. */
 static int move_above(int file, int number) {
     int above = fcntl(file, F_DUPFD_CLOEXEC, number + 1);
     int error = above < 0 && errno == EINVAL ? EMFILE : errno; /* the process may have no such number */
@@ -10,14 +10,14 @@ static int move_above(int file, int number) {
     return above;
 }
 
-/* The same open file by a number that no standard stream has: in a program that was started without them a file would get theirs, and what the
- * program prints would be written to it. -1, by errno. */
+/* Duplicates the descriptor to a number that no standard stream has. A program may have been started without these: a file would get their
+ * number, and the program's output would be written to it. -1 with errno. */
 static int above_streams(int file) {
     return file < 0 || file > STDERR_FILENO ? file : move_above(file, STDERR_FILENO);
 }
 
-/* A mark of the library's own opens, which the system keeps with the open: another open of the same file doesn't have it. All events of the
- * system, and its timers, have one inode: only the mark tells them apart. It is the signal of O_ASYNC, which nobody asks for here. */
+/* Marks the library's own opens. The system keeps the mark with the open: another open of the same file doesn't have it. All of the system's
+ * events and timers have one inode: only the mark tells them apart. It is the signal of O_ASYNC, which nobody asks for here. */
 enum { MARK_OF_FILE = 64, MARK_OF_EVENT = 63 };
 
 static bool mark(int descriptor, int its_mark) {
@@ -28,7 +28,7 @@ static bool has_mark(int descriptor, int its_mark) {
     return fcntl(descriptor, F_GETSIG) == its_mark;
 }
 
-/* Whether the descriptor is the library's open of that file still: one that the program has closed may be another's by now. */
+/* Whether the descriptor still is the library's open of that file. If the program has closed it, the number may be another file's by now. */
 static bool is_of_file(int descriptor, dev_t volume, ino_t inode) {
     struct stat its;
     if (fstat(descriptor, &its) != 0) return errno != EBADF;
@@ -71,8 +71,8 @@ static bool is_beside(int folder, int file) {
     return fstat(folder, &own) == 0 && fstat(file, &its) == 0 && own.st_dev == its.st_dev;
 }
 
-/* Makes the file's real path durable, by a sync of its folder: else a power failure may lose the name, with all that is durable in the file.
- * Where that folder can't be read, has no syncs, or is in another file system, the file's whole file system is synced. False, by errno. */
+/* Makes the file's real path durable, by a sync of its folder: otherwise a power failure may lose the name, and with it all that is durable in
+ * the file. If that folder can't be read, has no syncs, or is in another file system, syncs the file's whole file system. False with errno. */
 static bool sync_name(const char *real, int file) {
     char name[PATH_MAX];
     (void)snprintf(name, sizeof name, "%s", real);

@@ -1,11 +1,11 @@
-/* Handles and the places of heaps: the registry, forks, and looking a handle up.
+/* Handles and the places of heaps: the registry, forks, and the lookup of a handle.
  *
- * The registry's mutex has which places are used (`is_used`, `freed`), each heap's descriptor, device and inode, and each event's
- * descriptor. A handle is looked up without it: by a count of calls that are underway, and the place's number. */
+ * The registry's mutex guards which places are used (`is_used`, `freed`), each heap's descriptor, device and inode, and each event's descriptor.
+ * A handle is looked up without it: by a count of calls in progress, and the place's number. */
 /* ---- places of heaps, and forks ---- */
 
-/* In the child: its parent's heaps are at their end here, and so are their descriptors, which would keep the locks. Nothing else is touched:
- * another thread may have been in the middle of it, also of a heap that had ended before: so calls with its handles may not take its mutex. */
+/* In the child: ends its parent's heaps here, and closes their descriptors, which would keep the locks. Touches nothing else: another thread of
+ * the parent may have been changing it, even of a heap that had ended. So calls with such handles may not lock its mutex. */
 static void forked(void) {
     for (size_t place = 1; place < ZELAMIKU_MOST_HEAPS; place++) {
         heap *of = &heaps[place];
@@ -27,7 +27,7 @@ static void forked(void) {
     (void)pthread_mutex_unlock(&registry);
 }
 
-/* Waits for files that are being opened: a child must know each file that it has, to close it. It waits only so long, because an open may hang. */
+/* Waits for files that are being opened: a child must know each file that it has, to close it. Only for so long, because an open may hang. */
 static void before_fork(void) {
     pthread_mutex_lock(&registry);
     for (unsigned naps = 0; opens_underway > 0 && naps < OPENING_NAPS; naps++) nap(NAP);
@@ -37,14 +37,15 @@ static void after_fork(void) {
     pthread_mutex_unlock(&registry);
 }
 
-/* Before any handler of the program: so a fork takes the registry's mutex after whatever those take, and unlocks it before. */
+/* Registered before any handler of the program: so a fork locks the registry's mutex after all that the program's handlers lock, and unlocks it
+ * first. */
 __attribute__((constructor)) static void watch_forks(void) {
     (void)pthread_atfork(before_fork, after_fork, forked);
 }
 
-/* ---- calls that are underway ---- */
+/* ---- calls in progress ---- */
 
-/* Under the registry's mutex: whether the place, in which no heap lives, can serve another one. No call finds its old heap then. */
+/* Under the registry's mutex: whether the place, which has no heap, can be reused. After that no call finds its old heap. */
 static bool is_vacated(heap *of) {
     uint64_t number = of->number;
     of->number = 0;
@@ -53,8 +54,8 @@ static bool is_vacated(heap *of) {
     return false;
 }
 
-/* Under the registry's mutex: the place that is free longest, so that calls with the handles of the heap before are told of its end for long.
- * NULL: each is used. */
+/* Under the registry's mutex: the place that is free longest, so calls with handles of its old heap get that heap's status for long. NULL: each
+ * is used. */
 static heap *longest_free(void) {
     for (;;) {
         heap *found = NULL;
@@ -66,8 +67,8 @@ static heap *longest_free(void) {
     }
 }
 
-/* Whether this copy of the library has the table of lanes. All copies in a process share one table, which is bound by its name; each has its own
- * places of heaps. No heap has the first seat: its first word says whose the table is. */
+/* Whether this copy of the library has the table of lanes. All copies in a process share one table, bound by its name; each has its own places
+ * of heaps. No heap has the first seat: the first word there says which copy owns the table. */
 static bool has_table(void) {
     _Atomic(uintptr_t) *whose = (_Atomic(uintptr_t) *)(void *)ZELAMIKU_SEATS;
     uintptr_t nobody = 0, own = (uintptr_t)heaps;
@@ -92,7 +93,7 @@ static heap *new_place(void) {
     return found;
 }
 
-/* No thread is in a section of the heap that was here, and none begins one. */
+/* No thread is in a section of the heap that was here, and none can begin one. */
 static void free_changes(heap *of) {
     for (uint32_t lane = 0; lane < of->lanes; lane++) {
         free(seat_at(of, lane)->changes);
@@ -111,7 +112,7 @@ static void free_place(heap *of) {
     pthread_mutex_unlock(&registry);
 }
 
-/* Unlocks and closes a file whose descriptor the registry has. To close it isn't enough: a child that was forked has it until it runs. */
+/* Unlocks and closes a file whose descriptor the registry has. Closing isn't enough: a forked child shares the lock until it runs. */
 static void close_listed(int *descriptor) {
     pthread_mutex_lock(&registry);
     int file = *descriptor;
@@ -131,7 +132,7 @@ static void close_file(heap *of) {
     close_listed(&of->file);
 }
 
-/* The heap of a handle, until end_call; NULL: NOTHING or FORKED, as `status` says. */
+/* The heap of a handle, valid until end_call; NULL: NOTHING or FORKED, as `status` says. */
 static heap *begin_call(zelamiku_heap handle, const char *call, zelamiku_status *status) {
     heap *of = &heaps[handle.number >> 8 & (ZELAMIKU_MOST_HEAPS - 1)];
     count_call(of);

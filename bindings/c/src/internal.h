@@ -1,4 +1,4 @@
-/* What the rooms of the scheduler share: a lane's seat, a heap, their places, and the constants. */
+/* What the parts of the scheduler share: a lane's seat, a heap, their places, and the constants. */
 #define _GNU_SOURCE
 #include "zelamiku_core.h"
 #include <assert.h>
@@ -32,7 +32,7 @@
 #define ARE_ATOMIC(first, size) ((void)(first), (void)(size))
 #endif
 #define SELDOM(is_so) __builtin_expect((is_so), 0)
-/* A call of the system that answers -1 when it fails, made again while it was interrupted. */
+/* A system call that returns -1 when it fails, made again while it is interrupted. */
 #define AGAIN(call) \
     ({ \
         __typeof__(call) answer_; \
@@ -42,50 +42,50 @@
     })
 #define COLD __attribute__((noinline, cold)) static
 
-/* tools/search makes it small, so that its programs, of few sections, have groups. */
+/* tools/search makes it small: its programs have few sections, and need groups too. */
 #ifndef ZELAMIKU_GROUP
 #define ZELAMIKU_GROUP 256
 #endif
 enum {
     BUCKETS = sizeof((zelamiku_signals *)NULL)->waiting / sizeof(uint32_t),
     TRIES = 40,               /* before a thread sleeps for a monitor */
-    DEMANDS = 3,              /* rounds that one without room asks for; a later one follows the end of another section */
+    DEMANDS = 3,              /* rounds that a thread without room requests; a later one follows the end of another section */
     POLLED_PART = 8,          /* 1/8 of the time of the last calls: how long a thread without room polls */
     GATHERED_PART = 8,        /* 1/8 of that time: how long a round gathers at most */
-    MOST_PART = 20000000,     /* nanoseconds: such a part is no longer, also after calls that hung */
-    FEWEST = 4096,            /* records for each lane, which a round may take at least */
-    GROUP = ZELAMIKU_GROUP,   /* sections: one that waits for as many leaves the round to the helper where others have some */
-    MOST_SPIN = 250000,       /* nanoseconds: where a round takes less, a thread looks so long for its end before it sleeps */
-    LONG_SPIN = 30000,        /* nanoseconds: a look that took longer has let another thread run, */
-    UNSPUN_ROUNDS = 64,       /* so nobody looks for so many rounds */
-    USUAL_SLACK = 50000,      /* nanoseconds: the timers' slack of a thread that nobody has given another one */
-    SHORT_SLICE = 100000,     /* nanoseconds that a thread which makes rounds, or waits for them, runs at once where others want to */
-    NAP = 20000,              /* nanoseconds between two looks, for each thread that waits for a round, where many do */
-    OPENING_NAPS = 100,       /* for which a fork waits until a file is open */
+    MOST_PART = 20000000,     /* nanoseconds: such a part takes no longer, even after calls that hung */
+    FEWEST = 4096,            /* records for each lane: a round's least bound */
+    GROUP = ZELAMIKU_GROUP,   /* sections: a thread that waits for as many leaves the round to the helper if other lanes have some */
+    MOST_SPIN = 250000,       /* nanoseconds: if a round takes less, a waiting thread spins so long before it sleeps */
+    LONG_SPIN = 30000,        /* nanoseconds: a spin that took longer has let another thread run, */
+    UNSPUN_ROUNDS = 64,       /* so nobody spins for so many rounds */
+    USUAL_SLACK = 50000,      /* nanoseconds: the default timer slack of a thread */
+    SHORT_SLICE = 100000,     /* nanoseconds: the time slice of a thread that makes rounds or waits for them */
+    NAP = 20000,              /* nanoseconds between two checks, for each of many threads that wait for a round */
+    OPENING_NAPS = 100,       /* that a fork waits for a file that is being opened */
     SECOND = 1000000000
 };
 
 typedef struct heap heap;
 
-/* A field, as a lane keeps it: its value before the section that is open stored to it first, if it has. */
+/* A field in a lane's `changes`: its value before the open section's first store to it, if there was one. */
 typedef struct {
-    uint64_t stamp; /* the value is kept where this is that of the lane */
+    uint64_t stamp; /* the value is valid if `changes` has the same stamp */
     uint64_t value;
-    uint32_t next;  /* the field that was kept before it; or NO_FIELD */
+    uint32_t next;  /* the field that was saved before it; or NO_FIELD */
     uint16_t guard;
     uint16_t records; /* that a store makes: 0 where the field is transient, else 1 */
 } kept_field;
 
 enum { NO_FIELD = ZELAMIKU_MOST_FIELDS, NO_OBJECT = ZELAMIKU_MOST_OBJECTS };
 
-/* What the open section of a lane has changed, in a heap that reverts: its thread's own. It is that of the section after `section` ended ones: so
- * a section's end, which looks at none of this, leaves it out of date. */
+/* What the open section of a lane has changed, in a heap that reverts. Only its thread uses it. It belongs to the section that follows `section`
+ * ended ones: when that section ends it is out of date, without a write here. */
 typedef struct {
     uint64_t section;
-    uint64_t stamp;   /* of what is kept; another one for each section, and after each revert */
-    uint32_t used;    /* of the section's 1,000 records: those that it has made, and that would free its monitors and put back what is kept */
-    uint32_t last;    /* the field that was kept last; or NO_FIELD */
-    uint32_t guard;   /* and the monitor that it was stored under; or NO_OBJECT */
+    uint64_t stamp;   /* of the saved values; another one for each section, and after each revert */
+    uint32_t used;    /* of the section's 1,000 records: those made, and those that freeing its monitors and restoring the saved values would need */
+    uint32_t last;    /* the field that was saved last; or NO_FIELD */
+    uint32_t guard;   /* and its guard; or NO_OBJECT */
     uint32_t guards;  /* under how many monitors it has stored, and which */
     uint16_t under[ZELAMIKU_MOST_HELD];
     bool is_past;     /* a monitor under which it had stored was freed, and taken again */
@@ -93,67 +93,67 @@ typedef struct {
     kept_field fields[];
 } changes;
 
-/* What others tell the thread that has a lane, and, on other cache lines, what it keeps of itself. */
+/* A lane's seat: what others write for the thread that has the lane, and, on other cache lines, what that thread keeps itself. */
 typedef struct {
     _Alignas(256) _Atomic uint32_t bell; /* 1: somebody has rung since the last sleep */
-    _Atomic uint32_t is_behind;          /* it sleeps until the next step of who leads */
-    _Atomic uint32_t session_use;        /* whether others may look by its session: see waits.c */
+    _Atomic uint32_t is_behind;          /* it sleeps until the leader's next step */
+    _Atomic uint32_t session_use;        /* whether others may look at monitors with its session: see waits.c */
     _Atomic uint64_t acknowledged;       /* how many sections of the lane are durable */
     uint32_t wanted;                     /* mutex: the object whose monitor it waits for, plus one; 0: none */
     bool is_lent;                        /* mutex: a thread has the lane */
     bool frees_session;                  /* mutex: the heap has ended, and that thread is to free the session */
-    bool is_logged;                      /* mutex: the log has a circle of which it is */
-    _Atomic uint32_t was_cut_off;        /* the heap's end has cut off a section of its thread */
-    uint64_t turn;                       /* mutex: who waits for the monitor longest has the least */
+    bool is_logged;                      /* mutex: the log has reported a circle that it is in */
+    _Atomic uint32_t was_cut_off;        /* the heap has ended inside a section of its thread */
+    uint64_t turn;                       /* mutex: the thread that waits for the monitor longest has the least */
     _Atomic uint64_t earlier;            /* the sections that the lane had ended when it was lent; changed under the mutex */
-    uint64_t asked;                      /* mutex: how many sections its event loop has asked for; 0: all of these are durable */
+    uint64_t asked;                      /* mutex: how many sections its event loop has asked for; 0: all those are durable */
     uint64_t loop_knows;                 /* mutex: how many were durable when its event loop learned that last */
-    uint64_t troubles;                   /* mutex: of how many the loop knows, or needn't */
+    uint64_t troubles;                   /* mutex: how many failed rounds the loop knows of, or needn't */
     uint64_t lacked_at;                  /* mutex: how many sections had ended when the loop found no room, plus one */
     _Atomic uint64_t begun;              /* how many had ended when the last round began; of a lane with an event */
     int event;                           /* its descriptor, plus one; 0: none. Changed under the mutex and the registry's */
-    _Atomic uint32_t has_event;          /* the same, for who leads */
+    _Atomic uint32_t has_event;          /* the same, for the leader */
     uint32_t demands;                    /* mutex: rounds that the loop has asked for since it found no room */
     bool lacks_room;                     /* mutex: the loop has found no room, */
-    bool may_have_room;                  /* mutex: or has been told since then that it may have some, and no ask has come */
+    bool may_have_room;                  /* mutex: or has been notified since that it may have some, and hasn't asked again */
     bool counts_as_waiting;              /* mutex: the loop counts among `awaiting` */
     bool is_rung;                        /* mutex: its event is readable, or is to be once there is one */
     _Alignas(128) _Atomic uint64_t number; /* the handle that it is lent by; 0: calls look at `lent_number` and the heap */
-    _Atomic uint64_t open;               /* the same while a section is open, so that one look is enough for a load */
+    _Atomic uint64_t open;               /* the same while a section is open: a load checks only this */
     _Atomic uint64_t ended;              /* how many sections the lane has ended */
-    uint32_t locks;                      /* own: by how many monitors are held, all together */
+    uint32_t locks;                      /* own: how many locks are held, of all monitors together */
     _Atomic uint32_t is_busy;            /* a section is open, or it waits: nobody else touches the session */
-    zelamiku_handle session;             /* own; freed by who ends the heap where the thread isn't busy */
+    zelamiku_handle session;             /* own; unless the thread is busy, freed by the thread that ends the heap */
     zelamiku_signals *signals;           /* the heap's */
     uint32_t records;                    /* own: about how many it has sent since the section `counted` */
-    uint32_t has_stored;                 /* own: the section that is open has, to a persistent field */
-    _Atomic uint64_t last_stored;        /* the last section that has and has ended, by how many had ended with it */
-    uint32_t is_plain;                   /* 1: nothing is kept of what its sections change, and no field is transient */
+    uint32_t has_stored;                 /* own: the open section has stored to a persistent field */
+    _Atomic uint64_t last_stored;        /* the number of the last ended section that has */
+    uint32_t is_plain;                   /* 1: no old values are saved, and no field is transient */
     uint32_t lane;
-    _Atomic uint64_t lent_number;        /* the handle, also after the heap's end */
+    _Atomic uint64_t lent_number;        /* the handle, also after the heap has ended */
     heap *of;
     uint64_t counted;                    /* own: how many sections had ended when it began to count the records */
-    changes *changes;                    /* own; NULL: nothing is kept */
-    uint64_t passed;                     /* own: the last section that has stored to a transient field, where nothing is kept */
+    changes *changes;                    /* own; NULL: no old values are saved */
+    uint64_t passed;                     /* own: the last section that has stored to a transient field, if no old values are saved */
 } seat;
 
 struct heap {
-    _Atomic uint64_t number; /* the handle, also after the end; 0: never used, or being opened */
-    _Atomic uint32_t underway; /* calls that are: while there are some the place serves no other heap */
-    uint64_t freed;          /* registry: when its place became free: the one that is free longest is used next */
+    _Atomic uint64_t number; /* the handle, also after the heap has ended; 0: never used, or being opened */
+    _Atomic uint32_t underway; /* calls in progress: while there are any the place isn't reused */
+    uint64_t freed;          /* registry: when its place became free: the place that is free longest is used next */
     bool is_used;            /* registry */
     bool has_mutex;          /* registry: the mutex was initialized, once for all heaps of the place */
     char *path;
     int file;                /* or -1 */
-    char *where;             /* the path from the root on, for a look at whether it leads to the file; or NULL */
-    uint64_t path_checked;   /* leads: when the last such look was */
+    char *where;             /* the absolute path, to check whether it leads to the file; or NULL */
+    uint64_t path_checked;   /* leader: when it was last checked */
     dev_t volume;            /* registry */
     ino_t inode;
     uint64_t size;           /* of the image, in bytes */
     uint64_t linger;         /* nanoseconds */
     uint32_t lanes, objects, fields, processors;
     bool keeps_slice;        /* of the plan */
-    bool reverts;            /* each lane keeps what its section changes */
+    bool reverts;            /* each lane saves the values that its section changes */
     bool *transient;         /* which fields are; NULL: none is */
     zelamiku_device device;
     zelamiku_log *log;
@@ -162,52 +162,52 @@ struct heap {
     size_t dropped_count;
     pthread_t helper;
     pthread_mutex_t mutex;
-    zelamiku_handle handle;  /* leads */
+    zelamiku_handle handle;  /* leader */
     uint64_t room;           /* how many records a lane's ring takes, or its log where that is less */
-    uint64_t last_calls;     /* leads: how many nanoseconds the calls of the last round took */
-    uint64_t affordable;     /* leads: how many records it would have taken in that time */
-    uint64_t syncs_made;     /* leads */
-    uint64_t syncs_before;   /* leads: how many before the calls of the round whose calls are made now */
+    uint64_t last_calls;     /* leader: how many nanoseconds the calls of the last round took */
+    uint64_t affordable;     /* leader: how many records it would have taken in that time */
+    uint64_t syncs_made;     /* leader */
+    uint64_t syncs_before;   /* leader: how many before the calls of the round whose calls are made now */
     uint32_t urgent;         /* mutex: why a round is wanted now */
-    uint32_t waiting_to_lead; /* mutex: how many wait to lead for something else than a round */
+    uint32_t waiting_to_lead; /* mutex: how many wait to lead for other work than a round */
     bool is_led;             /* mutex: a thread leads */
-    bool is_ending;          /* mutex: the helper is to end */
+    bool is_ending;          /* mutex: the helper must end */
     bool is_troubled;        /* mutex: the last round's write has failed */
     bool is_being_ended;     /* mutex: a thread closes or stops the heap for good, */
     bool has_ended;          /* mutex: and has: no call of the device or the log hook comes any more */
-    uint32_t sessions_out;   /* mutex: how many threads are to free their sessions (`frees_session`) */
-    uint32_t sleepers;       /* mutex: how many of those that wait are told by the next round's end */
-    bool leader_waits;       /* mutex: who leads waits for that round itself */
+    uint32_t sessions_out;   /* mutex: how many threads must free their sessions (`frees_session`) */
+    uint32_t sleepers;       /* mutex: how many waiting threads the next round wakes when it finishes */
+    bool leader_waits;       /* mutex: the leader waits for the round itself */
     uint32_t loops;          /* mutex: how many lanes' event loops count among `awaiting` */
-    uint32_t expected_sections; /* leads: as `expected`, of lanes with events */
+    uint32_t expected_sections; /* leader: as `expected`, of lanes with events */
     _Atomic uint32_t events; /* how many lanes have one; changed under the registry's mutex */
     uint64_t turns;          /* mutex: how many were given */
     zelamiku_stats stats;    /* mutex */
     _Alignas(64) _Atomic uint32_t waiting[BUCKETS]; /* how many wait for monitors, by the object modulo the buckets */
-    _Atomic uint32_t has_work;              /* a section has ended since the last round began, but for those of has_reads */
-    uint32_t enough;                        /* records that a lane has sent, after which a section's end asks for a round */
-    _Alignas(64) _Atomic uint32_t end_status; /* what all calls answer since the heap's end; 0 while it goes on */
+    _Atomic uint32_t has_work;              /* a section has ended since the last round began; has_reads stands for some others */
+    uint32_t enough;                        /* once a lane has sent so many records, a section's end requests a round */
+    _Alignas(64) _Atomic uint32_t end_status; /* what all calls return since the heap has ended; 0 before */
     _Atomic uint32_t is_settled;            /* nothing more will be acknowledged */
-    _Atomic uint32_t has_reads;             /* so have sections none of which has stored: no round comes for these by itself */
+    _Atomic uint32_t has_reads;             /* sections have ended that stored nothing: no round comes for them alone */
     _Atomic uint32_t round_bell;            /* changes after each round: all that wait for one sleep on it */
-    _Atomic uint32_t helper_bell;           /* changes when the helper is wanted, which sleeps on it */
-    _Atomic uint32_t has_timer;             /* the helper looks again within the linger, whoever rings */
-    _Atomic uint32_t awaiting;              /* threads that wait for a round and haven't been told of its end */
+    _Atomic uint32_t helper_bell;           /* changes to wake the helper, which sleeps on it */
+    _Atomic uint32_t has_timer;             /* the helper checks again within the linger, rung or not */
+    _Atomic uint32_t awaiting;              /* threads that wait for a round and that no round has woken */
     _Atomic uint32_t arrivals;              /* threads that came to wait for their sections since the last round began */
-    _Atomic uint32_t expected;              /* threads that the last round has told of its end: so many may come back */
-    _Atomic uint32_t has_more;              /* the last round has taken as much as it might: the next one comes at once */
-    _Atomic uint64_t steps;                 /* odd while who leads takes records from the lanes' rings, each of which gives room */
-    _Atomic uint64_t poll_until;            /* until when those without room look again, by zelamiku_now */
-    _Atomic uint64_t spin_time;             /* how many nanoseconds one that waits for a round looks for its end before it sleeps */
-    _Atomic uint64_t no_spin_before;        /* until so many rounds have ended nobody does: others want the processors */
-    _Atomic uint32_t hooks_underway;        /* threads that call the log hook, or are about to: who ends the heap waits for these */
-    _Atomic uint64_t rounds, troubles;      /* that have ended; of which a write has failed */
-    _Atomic int error;                      /* errno of the last of these, or of what the heap has ended with */
+    _Atomic uint32_t expected;              /* threads that the last round has woken: so many may come back */
+    _Atomic uint32_t has_more;              /* the last round has reached its bound: the next one comes at once */
+    _Atomic uint64_t steps;                 /* odd while the leader takes records from the lanes' rings, which makes room */
+    _Atomic uint64_t poll_until;            /* until when threads without room poll, by zelamiku_now */
+    _Atomic uint64_t spin_time;             /* nanoseconds that a thread waiting for a round spins before it sleeps */
+    _Atomic uint64_t no_spin_before;        /* nobody spins until so many rounds have ended: others want the processors */
+    _Atomic uint32_t hooks_underway;        /* threads that call the log hook, or are about to: the thread that ends the heap waits for them */
+    _Atomic uint64_t rounds, troubles;      /* rounds that have ended; those with a failed write */
+    _Atomic int error;                      /* errno of the last failed write, or of what ended the heap */
 };
 
-/* A handle is a number: a count of all that were handed out, from bit 24 on; the seat's place in the table, in bytes, or the heap's in
- * `heaps`, in bits 8 to 20; and 1 in bit 0 of a heap's. No heap has place 0: so the handle of zeros finds a seat without a session. They are
- * never freed, so that a handle of yesterday is looked up as one of today. */
+/* A handle is a number: a count of all that were handed out, from bit 24 on; the seat's place in the table, in bytes, or the heap's in `heaps`,
+ * in bits 8 to 20; and 1 in bit 0 of a heap's. Place 0 is never used, so the zero handle finds a seat with no session. Seats are never freed: a
+ * stale handle is looked up like a valid one, and its number doesn't match. */
 #define SEATS ((size_t)ZELAMIKU_MOST_HEAPS * ZELAMIKU_MOST_LANES)
 #define PLACE ((SEATS - 1) * sizeof(seat))
 _Alignas(256) char ZELAMIKU_SEATS[SEATS * sizeof(seat)];
@@ -226,8 +226,8 @@ static pthread_mutex_t registry = PTHREAD_MUTEX_INITIALIZER;
 static _Atomic uint64_t handed_out;
 static _Atomic uint32_t opens_underway; /* files that are being opened */
 
-/* A file that is written beside a path, and takes its place once it is whole. Whoever has a draft has both files locked, so that no other
- * draft is made there, and nobody opens what is replaced. */
+/* A file that is written beside a path and replaces the file there once it is whole. Both files stay locked meanwhile: no other draft is made
+ * there, and nobody opens the file that is replaced. */
 typedef struct draft {
     char path[PATH_MAX], beside[PATH_MAX]; /* real ones: no links are on the way */
     int old, file;                         /* registry: what is at the path, or -1; the new one, or -1 */
@@ -254,8 +254,9 @@ static inline heap *place_of(const seat *own) {
     return &heaps[(own - (const seat *)(const void *)ZELAMIKU_SEATS) / ZELAMIKU_MOST_LANES];
 }
 
-/* A call is counted before it looks whether its handle is that of the place's heap. Who takes the place for another heap makes the number 0
- * before it looks whether calls are counted. So a call that has found the number has the heap, also at its end, until it isn't counted. */
+/* A call is counted before it checks whether its handle is that of the place's heap. A thread that reuses the place for another heap sets the
+ * number to 0 before it checks whether calls are counted. So a call that has found its number keeps the heap until end_call, even if the heap
+ * ends. */
 static inline void count_call(heap *of) {
     of->underway++;
 }

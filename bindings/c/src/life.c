@@ -1,12 +1,12 @@
 /* A heap's life once its device is open: begin, close, stop, abandon, stats, copy.
  *
- * Under the heap's mutex a heap ends (`end_status`), once; and one thread takes its ending over (`is_being_ended`): that one ends the
- * helper, waits until nobody leads, and lets all go. What is durable then is settled (`is_settled`), and no round comes after it. Another
- * thread that ends the heap too waits until that one has (`has_ended`). */
+ * A heap ends once (`end_status`), under its mutex. One thread takes over its ending (`is_being_ended`): it ends the helper, waits until nobody
+ * leads, and frees everything. What is durable then is final (`is_settled`), and no round comes after it. If another thread ends the heap too,
+ * it waits until the first one has finished (`has_ended`). */
 /* ---- the beginning of a heap ---- */
 
-/* The seat as no thread has it, also of a lane that the heap doesn't have and one before had. By old handles others may look at its atomic
- * members meanwhile. */
+/* Resets the seat as if no thread had the lane, even if an earlier heap had this lane and this one doesn't. Calls with old handles may read its
+ * atomic members meanwhile. */
 static void clear_seat(heap *of, uint32_t lane) {
     seat *own = seat_at(of, lane);
     assert(own->changes == NULL && own->event == 0);
@@ -28,14 +28,14 @@ static void clear_seat(heap *of, uint32_t lane) {
     memset(&own->session, 0, sizeof own->session);
 }
 
-/* A session that was handed out first for its lane has ended no section. */
+/* Whether the session is the first of its lane: none of its sections has ended. */
 static inline bool is_first_of(seat *own) {
     uint32_t lane = ZELAMIKU_NOBODY;
     uint64_t ended = 1;
     return zelamiku_lane(&own->session, &lane, &ended) == ZELAMIKU_OK && lane == own->lane && ended == 0;
 }
 
-/* Takes the sessions of all lanes, which a heap that was just opened hands out from 0 on. */
+/* Takes the sessions of all lanes; a heap that was just opened hands them out from 0 on. */
 static zelamiku_status take_lanes(heap *of, zelamiku_handle *handle) {
     zelamiku_status status = ZELAMIKU_OK;
     for (uint32_t lane = 0; lane < ZELAMIKU_MOST_LANES; lane++) clear_seat(of, lane);
@@ -62,7 +62,7 @@ static void mark_atomics(heap *of) {
     }
 }
 
-/* All that a heap before has left in the place goes. */
+/* Removes all that an earlier heap has left in the place. */
 static void clear_place(heap *of, const zelamiku_plan *plan) {
     long processors = sysconf(_SC_NPROCESSORS_ONLN);
     of->processors = processors > 1 ? (uint32_t)processors : 1;
@@ -83,8 +83,8 @@ static void clear_place(heap *of, const zelamiku_plan *plan) {
     of->hooks_underway = 0; /* clang joins no atomics of two types */
 }
 
-/* Sets how many records a lane takes, by its ring and its log, and after how many a section's end asks for a round: three quarters of what is
- * filled when the next section finds no room. */
+/* Sets how many records a lane takes, by its ring and its log, and after how many a section's end requests a round: three quarters of the
+ * records after which a section finds no room. */
 static void set_room(heap *of, uint32_t ring, uint32_t capacity) {
     if (capacity < ring) ring = capacity;
     of->room = ring > ZELAMIKU_LEAST_CAPACITY ? ring : ZELAMIKU_LEAST_CAPACITY;
@@ -92,7 +92,7 @@ static void set_room(heap *of, uint32_t ring, uint32_t capacity) {
     of->enough = (uint32_t)(of->room - ZELAMIKU_MOST_RECORDS) / 4 * 3;
 }
 
-/* A place for a heap of this path and plan; NULL: why not. */
+/* A place for a heap of this path and plan; NULL: none, for the reason in `status`. */
 static heap *place_for(const char *path, const zelamiku_plan *plan, const char *call, zelamiku_status *status) {
     if (!has_table()) {
         *status = fail(path, ZELAMIKU_NONE_LEFT, 0, "another copy of the library has the lanes of this process", "load one copy alone", "%s", call);
@@ -114,7 +114,7 @@ static heap *place_for(const char *path, const zelamiku_plan *plan, const char *
     return NULL;
 }
 
-/* Starts the helper, where no signal is handled. */
+/* Starts the helper, with all signals blocked. */
 static int start_helper(heap *of) {
     sigset_t all, before;
     (void)sigfillset(&all);
@@ -124,7 +124,7 @@ static int start_helper(heap *of) {
     return answer;
 }
 
-/* The heap of the handle lives in the place from now on. After a failure the sessions are free. */
+/* The handle's heap has the place from now on. After a failure the sessions are free. */
 static zelamiku_status occupy(heap *of, zelamiku_handle *handle, zelamiku_heap *begun) {
     zelamiku_status status = take_lanes(of, handle);
     if (status == ZELAMIKU_OK && of->reverts) {
@@ -152,7 +152,7 @@ static zelamiku_status occupy(heap *of, zelamiku_handle *handle, zelamiku_heap *
 
 /* ---- the end of a heap ---- */
 
-/* No more will be acknowledged, and nobody has to lead: who waits for a round, or to lead, is told. */
+/* No more rounds will come. Wakes every thread that waits for one, or for its turn to lead. */
 static void tell_end_of_rounds(heap *of) {
     of->is_settled = 1;
     pthread_mutex_lock(&of->mutex);
@@ -162,14 +162,14 @@ static void tell_end_of_rounds(heap *of) {
     tell_all(of);
 }
 
-/* Under the mutex: whether the lane's thread is inside of a section or a call. A thread of a heap that had the place before may have been kept
- * from running since it looked at its handle, and then write `is_busy` here. In a lane that nobody has, that means nothing. */
+/* Under the mutex: whether the lane's thread is in a section or a call. A thread of an earlier heap of this place may have been suspended after
+ * it checked its handle, and write `is_busy` here only now. In a lane that isn't lent, that means nothing. */
 static bool is_inside(const seat *own) {
     return own->is_lent && own->is_busy;
 }
 
-/* Lets go of the file, the library's memory, and the place, but for the sessions of threads that are inside of theirs: each lets go of its
- * own with its next call, and the last of them of the place. */
+/* Releases the file, the library's memory, and the place. Sessions of threads in sections stay: each thread frees its own with its next call,
+ * and the last one frees the place. */
 static void release(heap *of) {
     zelamiku_free(&of->handle);
     close_file(of);
@@ -190,7 +190,7 @@ static void release(heap *of) {
     if (is_free) free_place(of);
 }
 
-/* A thread has learned that the heap is at its end, and is out of its section. */
+/* A thread has learned that the heap has ended, and leaves its section. */
 COLD void leave(heap *of, seat *own) {
     bool is_last = false;
     pthread_mutex_lock(&of->mutex);
@@ -219,8 +219,8 @@ static void await_next_round(heap *of) {
     }
 }
 
-/* Under the mutex: whether nothing is open and all is durable, so that no section begins any more. RUNNING: a section is open or a thread
- * waits. CALLS_LEFT: a section has ended since the last round. */
+/* Under the mutex. OK: nothing is open and all is durable, and no section can begin any more. RUNNING: a section is open or a thread waits.
+ * CALLS_LEFT: a section has ended since the last round. */
 static zelamiku_status try_stop(heap *of) {
     zelamiku_status status = ZELAMIKU_OK;
     shut(of, false);
@@ -250,7 +250,7 @@ static zelamiku_status settle(heap *of) {
     return status;
 }
 
-/* Under the mutex, which it gives back: the helper ends, and nobody leads any more. */
+/* Under the mutex, which it releases: ends the helper, and waits until nobody leads. */
 static void end_helper(heap *of) {
     assert(of->end_status != 0 && !of->is_being_ended);
     of->is_being_ended = of->is_ending = true;
@@ -262,8 +262,8 @@ static void end_helper(heap *of) {
     pthread_mutex_unlock(&of->mutex);
 }
 
-/* The library closes a heap whose sessions have all ended. All sections are durable, whatever becomes of the closing's own calls: what they
- * leave is recovered. */
+/* Closes the heap in the library, once its sessions have all ended. All sections are durable already: if the close's own calls fail, the next
+ * open recovers what they leave. */
 static zelamiku_status close_cleanly(heap *of) {
     zelamiku_status status = ZELAMIKU_OK;
     uint64_t calls = 0;
@@ -282,7 +282,7 @@ static zelamiku_status tell_end(heap *of, zelamiku_status status, int error, con
     return fail(of->path, status, has_cause ? error : 0, status == ZELAMIKU_DEVICE ? "a write has failed" : NULL, NULL, "%s", call);
 }
 
-/* Under the mutex, which it gives back: another thread ends the heap. Returns once that has. */
+/* Under the mutex, which it releases: waits until the other thread that ends the heap has finished. */
 static zelamiku_status await_end(heap *of, const char *call) {
     while (!of->has_ended) {
         uint32_t seen = of->round_bell;
@@ -294,7 +294,7 @@ static zelamiku_status await_end(heap *of, const char *call) {
     return tell_end(of, (zelamiku_status)of->end_status, of->error, call);
 }
 
-/* The thread that ends the heap has let all go, and logged it: the calls that wait for that return, this one among them. */
+/* This thread has released all of the heap, and logged that. Wakes the calls that wait for it, and returns. */
 static zelamiku_status ended(heap *of, zelamiku_status status) {
     await_hooks(of);
     pthread_mutex_lock(&of->mutex);
@@ -314,7 +314,7 @@ static zelamiku_status close_heap(heap *of) {
     }
     end(of, ZELAMIKU_CLOSED);
     bool is_clean = status == ZELAMIKU_OK;
-    if (is_clean) of->is_settled = 1; /* else who leads may have yet to tell the cause */
+    if (is_clean) of->is_settled = 1; /* else the leader may have yet to report the cause */
     end_helper(of);
     int error = of->error;
     if (is_clean) {
@@ -335,7 +335,7 @@ zelamiku_status zelamiku_heap_close(zelamiku_heap heap_) {
     return status;
 }
 
-/* Stops the heap, so that all calls answer this. */
+/* Stops the heap: all calls return this status. */
 static zelamiku_status stop_heap(heap *of, zelamiku_status why, const char *call) {
     pthread_mutex_lock(&of->mutex);
     if (of->is_being_ended) return await_end(of, call);
@@ -344,11 +344,11 @@ static zelamiku_status stop_heap(heap *of, zelamiku_status why, const char *call
     end_helper(of);
     int error = of->error;
     if (status == ZELAMIKU_OK) {
-        /* A last round, for what has ended. */
+        /* A last round, for the sections that have ended. */
         status = lead(of, ZELAMIKU_ROUND_CLOSING, true);
         error = of->error;
     }
-    if (status == ZELAMIKU_DEVICE && !has_stores(of)) status = ZELAMIKU_OK; /* what the calls leave is recovered */
+    if (status == ZELAMIKU_DEVICE && !has_stores(of)) status = ZELAMIKU_OK; /* the next open recovers what the calls leave */
     tell_end_of_rounds(of);
     release(of);
     if (status == ZELAMIKU_DEVICE) /* nobody makes that write again */
@@ -431,7 +431,7 @@ zelamiku_status zelamiku_heap_await_round(zelamiku_heap heap_, uint64_t seen, ui
     return status;
 }
 
-/* The bytes of the disk in memory, between two rounds: what the device has once all calls that are left are made. */
+/* The bytes of the disk in memory, between two rounds: what the device holds once all pending calls are made. */
 static zelamiku_status copy_bytes(heap *of, uint8_t *bytes) {
     zelamiku_status status = ZELAMIKU_OK;
     uint64_t copied = 1;
@@ -440,7 +440,7 @@ static zelamiku_status copy_bytes(heap *of, uint8_t *bytes) {
     return status;
 }
 
-/* The heap's bytes of a moment between two rounds, and the rights of its file, or those of a new one where it has none. */
+/* The heap's bytes, of a moment between two rounds, and the mode of its file, or that of a new file if it has none. */
 static zelamiku_status take_bytes(heap *of, uint8_t *bytes, mode_t *mode) {
     struct stat info = {.st_mode = 0600};
     pthread_mutex_lock(&of->mutex);
@@ -454,7 +454,7 @@ static zelamiku_status take_bytes(heap *of, uint8_t *bytes, mode_t *mode) {
             status = copy_bytes(of, bytes);
             pthread_mutex_lock(&of->mutex);
         }
-        lead_no_more(of, false); /* at the heap's end before anybody has seen that it leads: who ends the heap lets go of it meanwhile */
+        lead_no_more(of, false); /* if the heap has ended, before anybody sees `is_led`: the thread that ends it frees it meanwhile */
     }
     pthread_mutex_unlock(&of->mutex);
     tell_all(of);
@@ -477,8 +477,8 @@ static zelamiku_status no_copy(const char *path) {
     return fail(path, ZELAMIKU_DEVICE, errno, "the copy can't be written", "what was at the path is there still", "copy");
 }
 
-/* Begins a copy: what is at the path, at the end of links, is locked until the copy has replaced it. So it is no heap that somebody has open,
- * and whoever opens it meanwhile is BUSY. */
+/* Begins a copy: locks the file at the path, where its links lead, until the copy has replaced it. So that file is no heap that is open, and
+ * opening it meanwhile is BUSY. */
 static zelamiku_status begin_copy(draft *it, const char *path) {
     const char *cause = "a heap of that path is open";
     zelamiku_status status = find_real_path(path, it->path) ? take_target(it) : ZELAMIKU_DEVICE;

@@ -1,17 +1,17 @@
 /* Opening a heap by its path, or on a device: lock, recover or make, compare with the plan.
  *
- * Nobody knows the heap before it is open: so no lock is needed but the registry's, for descriptors and for whether this process has the
- * file open. */
+ * Nobody knows the heap before it is open. So no lock is needed but the registry's, for descriptors and for whether this process has the file
+ * open. */
 /* ---- opening ---- */
 
-/* An open that is underway. */
+/* An open in progress. */
 typedef struct {
     heap *of;
     const char *path; /* or the device's name */
     const zelamiku_plan *plan;
     zelamiku_report *report;
     zelamiku_handle handle;
-    uint32_t threads, capacity, ring; /* of the plan, which tells its threads as lanes */
+    uint32_t threads, capacity, ring; /* of the plan, in which threads are `lanes` */
     uint32_t lanes;                   /* of the image */
     zelamiku_shape shape;             /* what the file begins with */
     bool is_volume;                   /* the path leads to a block device, */
@@ -24,7 +24,7 @@ static zelamiku_status refuse(door *at, zelamiku_status status, int error) {
     return fail(at->path, status, error, at->cause[0] != 0 ? at->cause : NULL, at->cure[0] != 0 ? at->cure : NULL, "open");
 }
 
-/* The file or the device has failed, by errno. */
+/* The file or the device has failed; errno says how. */
 static zelamiku_status no_device(door *at, const char *cause) {
     int error = errno;
     (void)snprintf(at->cause, sizeof at->cause, "%s", cause);
@@ -58,8 +58,8 @@ static zelamiku_status check_plan(door *at) {
     return status;
 }
 
-/* How many lanes a heap has for so many threads: one more for the helper, where a heap may have as many. The same rule as `lanes_for` of
- * crates/thread_work, by which hosts in Rattle make theirs: the proved library takes the number from whoever makes the heap. */
+/* How many lanes a heap has for so many threads: one more for the helper, unless that exceeds the limit. The same rule as `lanes_for` of
+ * crates/thread_work, which hosts in Rattle use: the proved library takes the number from its caller. */
 static uint32_t lanes_for(uint64_t threads) {
     return threads < ZELAMIKU_MOST_LANES ? (uint32_t)threads + 1 : ZELAMIKU_MOST_LANES;
 }
@@ -70,7 +70,7 @@ static bool differs(door *at, uint32_t difference, uint32_t field, uint64_t has,
     bool is_less = difference == ZELAMIKU_DIFFERENT_LANES && has >= planned;
     if (has == planned || is_less) return false;
     zelamiku_report *report = at->report;
-    assert(report->difference == 0); /* the first one is told */
+    assert(report->difference == 0); /* the first one is reported */
     report->difference = difference;
     report->field = field;
     report->has = has;
@@ -90,14 +90,14 @@ static bool differs(door *at, uint32_t difference, uint32_t field, uint64_t has,
     return true;
 }
 
-/* What the field has as a fingerprint: the first value of a transient one of object 0, which guards it. 0: it is none. */
+/* The fingerprint in this field: the first value of a transient field of object 0, guarded by it. 0: it has none. */
 static uint64_t fingerprint_in(const zelamiku_field *field) {
     return field->guard == 0 && field->owner == 0 && field->is_transient != 0 ? field->first : 0;
 }
 
-/* The heap's fingerprint, for a plan that has one: it lies in one field more than the plan has, the last, which isn't counted from now on.
- * 0: the heap has none, but as many fields as the plan; unless the last of them is the fingerprint of a plan that had a field less, since it
- * has another first value than it is planned to. */
+/* The heap's fingerprint, for a plan that has one. It is in the heap's last field, one more than the plan has, which isn't counted from now on.
+ * 0: the heap has none, but as many fields as the plan. If its last field is the fingerprint of a plan with one field less, that one is
+ * returned: its first value differs from the planned one. */
 static uint64_t take_fingerprint(door *at, const zelamiku_field *has) {
     const zelamiku_plan *plan = at->plan;
     uint32_t *fields = &at->report->told.found.fields;
@@ -137,14 +137,14 @@ static zelamiku_status compare(door *at) {
     return status == ZELAMIKU_OK ? status : refuse(at, status, 0);
 }
 
-/* How many records a ring holds, where a lane's log takes so many: a record that the log has no room for can't be sent. */
+/* How many records a ring holds, if a lane's log takes so many: a ring never holds more than the log has room for. */
 static uint32_t ring_for(const door *at, uint32_t capacity) {
     if (at->ring <= capacity) return at->ring;
     return capacity > ZELAMIKU_LEAST_RING ? capacity : ZELAMIKU_LEAST_RING;
 }
 
-/* Opens the heap of these bytes. Few sections of threads are dropped, and mostly one of the helper's for each object at most; where there are
- * more it is opened again, by which nothing is asked of the device. */
+/* Opens the heap of these bytes. Few sections of threads are dropped, and mostly at most one of the helper's for each object. If there are more,
+ * it opens the heap again with more room, which makes no call of the device. */
 static zelamiku_status open_bytes(door *at, const uint8_t *image, size_t size, zelamiku_opening *by) {
     zelamiku_told *told = &at->report->told;
     uint32_t ring = ring_for(at, at->shape.capacity);
@@ -164,7 +164,7 @@ static zelamiku_status open_bytes(door *at, const uint8_t *image, size_t size, z
     }
 }
 
-/* Leaves the helper's lane out of what is told, which is the last one, where it has one. */
+/* Removes the helper's lane from the report: the last lane, if the heap has one for it. */
 static void leave_helper_out(door *at) {
     zelamiku_told *told = &at->report->told;
     zelamiku_found *found = &told->found;
@@ -173,15 +173,15 @@ static void leave_helper_out(door *at) {
         if (at->of->dropped[i].lane < found->threads) at->of->dropped[count++] = at->of->dropped[i];
     at->of->dropped_count = count;
     found->dropped = count;
-    if (count == 0) found->undone = 0; /* all of these were values that the helper's lane had: zelamiku.h says so of the report */
+    if (count == 0) found->undone = 0; /* all of these values were the helper's lane's: zelamiku.h says so of the report */
     for (uint32_t lane = found->threads; lane < found->lanes; lane++) told->kept[lane] = 0;
     at->lanes = found->lanes;
     found->lanes = found->threads;
 }
 
-enum { HEADER_BYTES = 64 }; /* where a device has fewer, there is no heap, and nothing else is said of its bytes */
+enum { HEADER_BYTES = 64 }; /* a device with fewer has no heap, and its bytes aren't examined further */
 
-/* Opens the heap of the device's bytes, which are durable. NOT_FORMATTED has no message yet: its first bytes are no header. */
+/* Opens the heap of the device's bytes, which are durable. NOT_FORMATTED sets no message yet: the first bytes are no header. */
 static zelamiku_status open_image(door *at, uint64_t size) {
     uint8_t begun[ZELAMIKU_HEAD_BYTES] = {0};
     const zelamiku_device *from = &at->of->device;
@@ -222,7 +222,7 @@ static zelamiku_status look_for_zeros(door *at, uint64_t from, uint64_t size, bo
     return ZELAMIKU_OK;
 }
 
-/* A device that stands for a making: it compares each write with what is on another device, and keeps nothing. */
+/* A device that stands for a making: it compares each write with another device's bytes, and stores nothing. */
 typedef struct {
     const zelamiku_device *with;
     uint64_t end; /* of the writes */
@@ -244,8 +244,8 @@ static zelamiku_status compare_sync(void *context) {
     return ZELAMIKU_OK;
 }
 
-/* Whether a making of the heap that the handle has may have left what is on the device, and was cut off before its last gate: whichever of its
- * writes are there, whole or torn. Nothing was acknowledged then. It takes the handle's first calls, and writes nothing. */
+/* Whether the device may hold what a making of the handle's heap has left that was cut off before its last gate: any of its writes, whole or
+ * torn. Nothing was acknowledged then. It takes the handle's first calls, and writes nothing. */
 static zelamiku_status compare_with_making(door *at, uint64_t size, bool *is_left) {
     comparison it = {.with = &at->of->device, .is_left = true};
     const zelamiku_device compared = {.write = compare_write, .sync = compare_sync, .context = &it};
@@ -256,9 +256,9 @@ static zelamiku_status compare_with_making(door *at, uint64_t size, bool *is_lef
     return it.is_left ? look_for_zeros(at, it.end, size, is_left) : ZELAMIKU_OK;
 }
 
-/* Whether a heap may replace the first `size` bytes of the device, in which the library has found none. They are none, or only zeros. Or a making
- * in place has left them that was cut off, of this heap or of another one: the library tells of another's, by what it begins with, from where on
- * there are zeros. A heap with a changed byte isn't free: its control shows that there was one, or its lanes' areas do. */
+/* Whether a heap may replace the first `size` bytes of the device, in which the library has found no heap. There are none, or only zeros, or a
+ * making in place that was cut off has left them, of this heap or of another. For another heap, the library finds out from the first bytes from
+ * where on there must be zeros. A heap with a changed byte isn't free: its control shows that there was one, or its lanes' areas do. */
 static zelamiku_status must_be_free(door *at, uint64_t size) {
     const zelamiku_shape *begun = &at->shape;
     bool is_whole = size >= ZELAMIKU_HEAD_BYTES, has_name = begun->is_damaged != 0 || begun->zeros_from != 0, is_free = false;
@@ -272,7 +272,7 @@ static zelamiku_status must_be_free(door *at, uint64_t size) {
     return refuse(at, ZELAMIKU_NOT_FORMATTED, 0);
 }
 
-/* Writes so many zeros, durably, so that there is space before anything is kept in it. */
+/* Writes so many zeros, durably, so space is allocated before anything is stored there. */
 static zelamiku_status write_zeros(const zelamiku_device *to, uint64_t size) {
     static const uint8_t zeros[1 << 16];
     zelamiku_status status = ZELAMIKU_OK;
@@ -283,7 +283,7 @@ static zelamiku_status write_zeros(const zelamiku_device *to, uint64_t size) {
     return status == ZELAMIKU_OK ? sync_device(to) : status;
 }
 
-/* Makes the heap that the handle has on a device of zeros, by all of its first calls. */
+/* Makes the handle's heap on a device of zeros, by all of its first calls. */
 static zelamiku_status make_on(door *at, const zelamiku_device *to, uint64_t size) {
     uint64_t calls = 0;
     zelamiku_status status = write_zeros(to, size);
@@ -292,7 +292,7 @@ static zelamiku_status make_on(door *at, const zelamiku_device *to, uint64_t siz
     return status == ZELAMIKU_OK ? status : refuse(at, status, 0);
 }
 
-/* Who may read and write the old file may read and write the new one. A file system without rights keeps its own rule. */
+/* Gives the new file the old file's owner and mode. A file system without rights keeps its own rule. */
 static void keep_rights(const draft *it) {
     struct stat info;
     if (it->old < 0 || fstat(it->old, &info) != 0) return;
@@ -300,8 +300,8 @@ static void keep_rights(const draft *it) {
     if (fchmod(it->file, info.st_mode & 0777) != 0) errno = 0;
 }
 
-/* Makes the draft's file that of the heap which the handle has, by all of its first calls, and puts it in its place. Another open that comes
- * meanwhile is BUSY. */
+/* Writes the handle's heap into the draft's file, by all of its first calls, and puts the file in its place. Another open that comes meanwhile
+ * is BUSY. */
 static zelamiku_status make_file(door *at, draft *it, uint64_t size) {
     const char *cause = NULL;
     if (!find_real_path(at->path, it->path)) return no_device(at, "it can't be opened");
@@ -319,7 +319,7 @@ static zelamiku_status make_file(door *at, draft *it, uint64_t size) {
     return status;
 }
 
-/* The heap's file is that of the draft, which it has claimed. */
+/* The draft's file, claimed already, becomes the heap's file. */
 static void adopt(heap *of, draft *it) {
     pthread_mutex_lock(&registry);
     of->file = it->file;
@@ -358,8 +358,7 @@ static zelamiku_status may_make(door *at, int error) {
     return refuse(at, ZELAMIKU_NOT_FORMATTED, error);
 }
 
-/* Where the path has no heap: makes one, beside the path, for a plan that is good. A kill at any moment leaves at the path what was there, or
- * the heap. */
+/* The path has no heap: makes one, beside the path, if the plan is good. After a kill at any moment the path has what was there, or the heap. */
 static zelamiku_status make_at_path(door *at) {
     uint64_t size = 0;
     zelamiku_status status = may_make(at, at->of->file < 0 ? ENOENT : 0);
@@ -376,7 +375,7 @@ static zelamiku_status make_at_path(door *at) {
     return status;
 }
 
-/* Where a device of `has` bytes has no heap: makes one in place, if what it is to lie on is free. */
+/* A device of `has` bytes has no heap: makes one in place, if those bytes are free. */
 static zelamiku_status make_in_place(door *at, uint64_t has) {
     uint64_t size = 0;
     bool is_left = false;
@@ -398,7 +397,7 @@ static zelamiku_status make_in_place(door *at, uint64_t has) {
     return status;
 }
 
-/* Locks a block device as lock_alone does. The system's udevd locks one for a moment after a program has closed it. */
+/* Locks a block device as lock_alone does. The system's udevd locks a device for a moment after a program has closed it. */
 static zelamiku_status lock_volume(int file) {
     zelamiku_status status = lock_alone(file);
     for (int tries = 0; status == ZELAMIKU_BUSY && tries < 100; tries++) {
@@ -408,8 +407,8 @@ static zelamiku_status lock_volume(int file) {
     return status;
 }
 
-/* Locks the file for this open alone, and sees that the path still leads to it: heapctl may have replaced it meanwhile, and what went there
- * would be lost. */
+/* Locks the file for this open alone, and checks that the path still leads to it: heapctl may have replaced it meanwhile, and what was written
+ * to the old file would be lost. */
 static zelamiku_status lock_file(door *at) {
     struct stat own;
     heap *of = at->of;
@@ -433,11 +432,11 @@ static zelamiku_status lock_file(door *at) {
     return refuse(at, status, 0);
 }
 
-/* Writes the gates of the header and of the control's slots back with what they read; recovery begins with a sync. Where a sync of an earlier opening has failed, reads
- * may return cached bytes that never reached the device, and no later sync writes them; POSIX_FADV_DONTNEED is only advice. Each gate is written
- * alone between two syncs, so at most one differs on the device, and either value of that one is right. What a gate makes count was synced before it,
- * and recovery writes each field again that it has to put back. A gate that the device has is written with its own value, which a crash must keep
- * (docs/FORMAT.md, "What the device keeps"). */
+/* Writes the gates of the header and of the control's slots back with what they read; recovery begins with a sync. If a sync of an earlier
+ * opening has failed, reads may return cached data that never reached the device, and no later sync writes it; POSIX_FADV_DONTNEED is only
+ * advice. Each gate is written alone between two syncs, so at most one differs on the device, and either value of it is right. The bytes that a
+ * gate makes valid were synced before it, and recovery writes again each field that it has to restore. A gate that the device has is written
+ * with its own value, which a crash must keep (docs/FORMAT.md, "What the device keeps"). */
 static zelamiku_status write_gates_back(const zelamiku_device *on) {
     static const uint64_t GATES[] = {8, 64, 1112};
     zelamiku_status status = ZELAMIKU_OK;
@@ -449,8 +448,8 @@ static zelamiku_status write_gates_back(const zelamiku_device *on) {
     return status;
 }
 
-/* Whoever renamed the file to its path may have been killed before the folder was synced, and an overlay has just made the name: what becomes
- * durable in the file would be lost with it. */
+/* The program that renamed the file to its path may have been killed before the folder was synced, and an overlay has just made the name.
+ * Without the name, what becomes durable in the file would be lost. */
 static bool keep_name(const door *at) {
     char real[PATH_MAX];
     return find_real_path(at->path, real) && sync_name(real, at->of->file);
@@ -461,7 +460,7 @@ static zelamiku_status recover_or_make(door *at) {
     const zelamiku_device *on = &at->of->device;
     bool is_file = at->of->file >= 0 && !at->is_volume;
     uint64_t calls = 0, size = 0;
-    /* What a process before this one wrote may be in a cache alone: it is made durable, and then read from the device. */
+    /* What an earlier process wrote may be in a cache alone: sync it first, then read it from the device. */
     if (sync_device(on) != ZELAMIKU_OK || tell_size(on, &size) != ZELAMIKU_OK) return no_device(at, "it can't be synced");
     if (at->of->file >= 0) (void)posix_fadvise(at->of->file, 0, 0, POSIX_FADV_DONTNEED);
     zelamiku_status status = open_image(at, size);
@@ -479,8 +478,8 @@ static zelamiku_status recover_or_make(door *at) {
     return no_device(at, "a write or a sync of it has failed");
 }
 
-/* Opens what is at the path; whether there is something. A block device is opened for this open alone (O_EXCL), as mkfs opens one: so it is neither
- * mounted, nor another's. */
+/* Opens what is at the path; returns whether there is something. A block device is opened for this open alone (O_EXCL), as mkfs opens one: so it
+ * is neither mounted nor in another's use. */
 static zelamiku_status open_at_path(door *at, bool *is_there) {
     struct stat its;
     at->is_claimed = stat(at->path, &its) == 0 && S_ISBLK(its.st_mode);
@@ -492,7 +491,7 @@ static zelamiku_status open_at_path(door *at, bool *is_there) {
     return refuse(at, ZELAMIKU_BUSY, 0);
 }
 
-/* Where there is no file none is made for a plan that is no good. */
+/* If there is no file, none is made for a bad plan. */
 static zelamiku_status open_path(door *at) {
     bool is_there = false;
     zelamiku_status status = open_at_path(at, &is_there);
@@ -521,7 +520,7 @@ static bool note_transient(heap *of, const zelamiku_plan *plan) {
     return true;
 }
 
-/* Opens the heap of the device, or where it is NULL that of the file at the path. */
+/* Opens the heap of the device; if that is NULL, of the file at the path. */
 static zelamiku_status open_door(door *at, const zelamiku_device *device, zelamiku_heap *opened) {
     heap *of = at->of;
     zelamiku_status status = device != NULL ? open_device(at, device) : open_path(at);

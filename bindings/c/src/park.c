@@ -1,6 +1,6 @@
 /* How a thread sleeps and is woken: the clock, futexes, bells, and monitors that are waited for.
  *
- * A bell is an atomic word, of a seat or of a heap; no lock has it. The heap's mutex has who wants which monitor (`wanted`, `turn`), and
+ * A bell is an atomic word, of a seat or of a heap; no lock guards it. The heap's mutex guards who wants which monitor (`wanted`, `turn`), and
  * why a round is wanted (`urgent`). How many wait for a monitor is atomic (`waiting`), since each exit reads it. */
 /* ---- sleeping and waking ---- */
 
@@ -20,7 +20,7 @@ static void nap(uint64_t nanoseconds) {
     (void)nanosleep(&time, NULL);
 }
 
-/* Sleeps while the word is as it was seen, until somebody wakes, or the deadline; false after it. It may be woken for nothing. */
+/* Sleeps while the word is as it was seen, until a wake or the deadline; false after the deadline. It may wake for nothing. */
 static bool sleep_on(_Atomic uint32_t *word, uint32_t seen, uint64_t deadline) {
     struct timespec due = {(time_t)(deadline / SECOND), (long)(deadline % SECOND)};
     bool has_due = deadline != ZELAMIKU_NO_DEADLINE;
@@ -32,7 +32,7 @@ static void wake(_Atomic uint32_t *word, int count) {
     (void)syscall(SYS_futex, word, FUTEX_WAKE_PRIVATE, count, NULL, NULL, 0);
 }
 
-/* Sleeps until somebody rings, or has since the last sleep; false where the deadline comes before. Look again for what it was. */
+/* Sleeps until somebody rings, or has rung since the last sleep; false if the deadline comes first. The caller checks what it waits for. */
 static bool sleep_seat(seat *own, uint64_t deadline) {
     while (atomic_exchange(&own->bell, 0) == 0)
         if (!sleep_on(&own->bell, 0, deadline)) return atomic_exchange(&own->bell, 0) != 0;
@@ -49,13 +49,14 @@ static void ring_helper(heap *of) {
     wake(&of->helper_bell, 1);
 }
 
-/* Tells all that wait for a round. */
+/* Wakes all that wait for a round. */
 static void tell_all(heap *of) {
     of->round_bell++;
     wake(&of->round_bell, INT_MAX);
 }
 
-/* Under the mutex: asks for a round, now. Where one was asked for that hasn't begun, it will be that one. Who leads looks at its end. */
+/* Under the mutex: requests a round now. If one is requested already and hasn't begun, it is that one. A leader checks for requests when it
+ * finishes. */
 static void ask(heap *of, uint32_t cause) {
     if (of->urgent == 0 && !of->is_led) ring_helper(of);
     of->urgent = cause;
@@ -67,9 +68,9 @@ static void demand(heap *of, uint32_t cause) {
     pthread_mutex_unlock(&of->mutex);
 }
 
-/* ---- log hooks that are underway ---- */
+/* ---- log hooks in progress ---- */
 
-/* Under the mutex, while the heap goes on or the thread leads: it is about to call the log hook. Who ends the heap waits for it. */
+/* Under the mutex, while the heap goes on or the thread leads: it is about to call the log hook. The thread that ends the heap waits for it. */
 static void begin_hook(heap *of) {
     of->hooks_underway++;
 }
@@ -86,8 +87,8 @@ static void await_hooks(heap *of) {
 
 /* ---- monitors that are waited for ---- */
 
-/* Wakes the one that waits longest for the object's monitor. It stays where it waits until it has the monitor, so it may be woken twice,
- * and another one not at all: whoever has the monitor then wakes it. */
+/* Wakes the thread that waits longest for the object's monitor. It stays listed until it has the monitor, so it may be woken twice, and another
+ * one not at all: the next owner of the monitor then wakes that one. */
 COLD void wake_first(heap *of, uint32_t object) {
     seat *first = NULL;
     pthread_mutex_lock(&of->mutex);
@@ -99,8 +100,8 @@ COLD void wake_first(heap *of, uint32_t object) {
     if (first != NULL) ring_seat(first);
 }
 
-/* The lane waits for the object's monitor from now on; whether it didn't before. A try comes after it, so that whoever frees the monitor
- * after that try finds the lane here. */
+/* Lists the lane as waiting for the object's monitor; returns whether it wasn't listed before. The caller tries again afterwards: a thread that
+ * frees the monitor after that try finds the lane here. */
 static bool want(heap *of, seat *own, uint32_t object) {
     pthread_mutex_lock(&of->mutex);
     bool is_new = own->wanted == 0;
@@ -113,7 +114,7 @@ static bool want(heap *of, seat *own, uint32_t object) {
     return is_new;
 }
 
-/* The lane waits for no monitor any more. One that hasn't taken it hands its wake on. */
+/* The lane waits for no monitor any more. If it hasn't taken the monitor, it passes its wake-up on. */
 static void want_no_more(heap *of, seat *own, bool has_taken) {
     pthread_mutex_lock(&of->mutex);
     uint32_t wanted = own->wanted;
@@ -125,15 +126,15 @@ static void want_no_more(heap *of, seat *own, bool has_taken) {
     if (wanted != 0 && !has_taken) wake_first(of, wanted - 1);
 }
 
-/* By how many locks the lane holds the monitor. */
+/* How many locks of the monitor the lane has. */
 static uint32_t locks_of(seat *own, uint32_t object) {
     zelamiku_sight sight = {ZELAMIKU_NOBODY, 0, 0};
     bool is_ours = zelamiku_look(&own->session, object, &sight) == ZELAMIKU_OK && sight.owner == own->lane;
     return is_ours ? sight.locks : 0;
 }
 
-/* Whether what the lane has sent and isn't durable is enough for a round. It counts records, and is told of sections: as large a part of the
- * records is taken to be durable as of the sections, which is about right. */
+/* Whether the lane has sent enough for a round. It counts records, but durability is known by sections: it takes the same part of the records to
+ * be durable as of the sections, which is about right. */
 static bool has_enough(const heap *of, seat *own) {
     uint64_t ended = own->ended, durable = own->acknowledged;
     assert(durable <= ended && own->counted <= ended);
@@ -144,7 +145,7 @@ static bool has_enough(const heap *of, seat *own) {
     return own->records >= of->enough;
 }
 
-/* A section has ended that the helper may not know of. While its look is due within the linger nobody has to wake it. */
+/* A section has ended that the helper may not know of. While the helper's check is due within the linger, nobody has to wake it. */
 COLD void tell_of_work(heap *of, seat *own) {
     if (own->records >= of->enough && has_enough(of, own)) {
         own->records = 0;
@@ -158,10 +159,9 @@ COLD void tell_of_work(heap *of, seat *own) {
     }
 }
 
-/* Locks of a monitor were given back. With the last lock of all a section has ended. What is looked at here, and what is written before,
- * stands in the one order of all, as the library's step that has freed the monitor does. So one that waits for the monitor was put down
- * before, or finds it free; and who leads learns of the section by the count, which it reads when it takes all work to be known, or by the
- * word. */
+/* Some locks of a monitor were released. If they were the thread's last, its section has ended. The loads here and the stores before are
+ * sequentially consistent, and so is the library's step that has freed the monitor. So a thread that waits for the monitor was listed before, or
+ * finds it free. The leader learns of the section by its count, which it reads after it has cleared `has_work`, or by `has_work`. */
 COLD void tell_and_wake(seat *own, uint32_t object, bool waits) {
     heap *of = own->of;
     bool is_end = own->locks == 0;
@@ -170,7 +170,7 @@ COLD void tell_and_wake(seat *own, uint32_t object, bool waits) {
         if (of->has_work == 0 || own->records >= of->enough) tell_of_work(of, own);
         if (!waits) atomic_store_explicit(&own->is_busy, 0, memory_order_release);
     }
-    /* Somebody waits: the first is woken, unless another lock of the monitor is left. */
+    /* Somebody waits: wakes the first, unless another lock of the monitor is left. */
     if (of->waiting[object % BUCKETS] > 0 && (is_end || locks_of(own, object) == 0)) wake_first(of, object);
     end_call(of);
 }

@@ -1,7 +1,7 @@
-/* Taking a section back: what it changes is kept as it stores, and zelamiku_thread_revert stores the old values again. Room for that is
- * kept too: so the records of the section that is open are counted here, as the library counts them.
+/* Reverting a section: old values are saved as the section stores, and zelamiku_thread_revert stores them again. Room for that is reserved too,
+ * so the open section's records are counted here, as the library counts them.
  *
- * What is kept is the thread's own, and nobody else looks at it: there is no lock. */
+ * Only the thread itself reads and writes what it has saved: there is no lock. */
 static zelamiku_status why_not(seat *own, zelamiku_thread thread, const char *call);
 static zelamiku_status why_not_of(heap *of, seat *own, zelamiku_thread thread, const char *call);
 static zelamiku_status refused(seat *own, zelamiku_status status, const char *call, const char *what, uint32_t number);
@@ -9,7 +9,7 @@ static zelamiku_status enter_slowly(seat *own, uint32_t object, zelamiku_status 
 
 /* ---- the section's changes ---- */
 
-/* Nothing is kept from here on, and no value that was. */
+/* Forgets all saved values. */
 static inline void keep_nothing(changes *all) {
     all->stamp++;
     all->last = NO_FIELD;
@@ -17,20 +17,20 @@ static inline void keep_nothing(changes *all) {
     all->guards = 0;
 }
 
-/* The changes of the section that is open. Where they are another section's, this one has taken its first monitor and done nothing else: all
- * other steps of a section come here. */
+/* The open section's changes. Resets them if they belong to an earlier section. Every step but the first enter calls this, so then the section
+ * has only taken its first monitor. */
 static inline changes *changes_of(seat *own) {
     changes *all = own->changes;
     if (all->section != own->ended) {
         all->section = own->ended;
-        all->used = 2; /* that monitor's taking and its freeing */
+        all->used = 2; /* to take that monitor and to free it */
         all->is_past = false;
         keep_nothing(all);
     }
     return all;
 }
 
-/* A step of a section needs as much: the freeing of a monitor was counted when it was taken. */
+/* Whether there is room for a step of so many records. Freeing a monitor was counted when it was taken. */
 static inline bool has_room(const changes *all, uint32_t more) {
     return all->used + more <= ZELAMIKU_MOST_RECORDS;
 }
@@ -41,8 +41,8 @@ static bool has_stored_under(const changes *all, uint32_t object) {
     return false;
 }
 
-/* The section stores under this monitor, which it holds. Where it has stored under 16 others one of them isn't held any more: that one is found by
- * a revert, so that this one needn't be. */
+/* The section stores under this monitor, which it holds. If it has stored under 16 others, one of those isn't held any more. A revert will find
+ * that one, and needn't find this one too. */
 static void note_guard(changes *all, uint16_t guard) {
     all->guard = guard;
     if (has_stored_under(all, guard)) return;
@@ -53,7 +53,7 @@ static inline bool is_kept(const changes *all, uint32_t field) {
     return all->fields[field].stamp == all->stamp;
 }
 
-/* Keeps the value of a field that the section has stored to first. */
+/* Saves the value of a field before the section's first store to it. */
 static inline void keep(changes *all, kept_field *kept, uint32_t field, uint64_t before) {
     kept->stamp = all->stamp;
     kept->value = before;
@@ -64,14 +64,14 @@ static inline void keep(changes *all, kept_field *kept, uint32_t field, uint64_t
 
 /* ---- stores ---- */
 
-/* There is no room for a store to the field; but of a guard that isn't held the library would have told before. */
+/* There is no room for a store to the field. But if the field's guard isn't held, returns that error, as the library would. */
 COLD zelamiku_status no_room(seat *own, uint32_t field) {
     uint64_t value = 0;
     zelamiku_status status = zelamiku_load(&own->session, field, &value);
     return refused(own, status == ZELAMIKU_OK ? ZELAMIKU_SECTION_FULL : status, "store", "field", field);
 }
 
-/* Stores where a section's changes are kept, and answers as the library does. */
+/* Stores, and saves the old value. Returns what the library returns. */
 static __attribute__((noinline)) zelamiku_status store_keeping(seat *own, uint32_t field, uint64_t value) {
     changes *all = changes_of(own);
     if (SELDOM(field >= all->all)) return refused(own, ZELAMIKU_UNKNOWN_FIELD, "store", "field", field);
@@ -101,7 +101,7 @@ static bool loads(seat *own, uint32_t field, uint64_t *value) {
     return zelamiku_load(&own->session, field, value) == ZELAMIKU_OK;
 }
 
-/* Whether the pool's call stores to two fields, unless it has no room. Else the library refuses it for another cause. */
+/* Whether the pool's call stores to two fields, if there is room. Otherwise the library refuses it for another reason. */
 static bool takes(seat *own, uint32_t head, uint32_t slots, pool_stores *two) {
     two->head = head;
     if ((uint64_t)head + slots >= ZELAMIKU_MOST_FIELDS || !loads(own, head, &two->head_value)) return false;
@@ -118,7 +118,7 @@ static bool gives(seat *own, uint32_t head, uint32_t slots, uint32_t slot, pool_
            two->head_value <= slots;
 }
 
-/* How many records a store to the field takes of the section's: its own, and where it is the first, that which puts the old value back. */
+/* How many of the section's records a store to the field takes: its own, and for the first one also the record that would restore the old value. */
 static uint32_t room_for(const changes *all, uint32_t field) {
     return (uint32_t)all->fields[field].records << !is_kept(all, field);
 }
@@ -133,7 +133,7 @@ static void note_stores(changes *all, const pool_stores *two) {
     if (!is_kept(all, two->cell)) keep(all, &all->fields[two->cell], two->cell, two->cell_value);
 }
 
-/* A pool's calls, where a section's changes are kept. */
+/* A pool's calls, with old values saved. */
 static zelamiku_status take_keeping(seat *own, uint32_t head, uint32_t slots, uint32_t *slot) {
     changes *all = changes_of(own);
     pool_stores two = {0, 0, 0, 0};
@@ -158,7 +158,7 @@ static zelamiku_status give_keeping(seat *own, uint32_t head, uint32_t slots, ui
 
 /* ---- monitors ---- */
 
-/* The section, which goes on, has taken a monitor that it didn't hold. Where it has stored under it, others may have stored there since. */
+/* The section goes on and has taken a monitor that it didn't hold. If it had stored under it before, others may have stored there since. */
 static void note_taken(changes *all, uint32_t object) {
     all->used += 2;
     assert(has_room(all, 0));
@@ -181,15 +181,15 @@ static __attribute__((noinline)) zelamiku_status enter_keeping(seat *own, uint32
 
 /* ---- reverting ---- */
 
-/* Whether the section still holds each monitor under which it has stored. Exits aren't counted here: one that was freed is free now, or was
- * taken again. */
+/* Whether the section still holds each monitor under which it has stored. Exits aren't tracked here: a monitor that was freed is free now, or
+ * was taken again. */
 static bool can_revert(seat *own, changes *all) {
     for (uint32_t i = 0; i < all->guards && !all->is_past; i++) all->is_past = locks_of(own, all->under[i]) == 0;
     return !all->is_past;
 }
 
-/* Stores back what is kept. Nothing is refused: each guard is held, and there is room. At the heap's end too: nothing of a section that hasn't
- * ended is durable then, so half of this neither. */
+/* Stores the saved values back. No store is refused: each guard is held, and there is room. Goes on even if the heap has ended: nothing of an
+ * unfinished section is durable then, so half a revert doesn't matter. */
 static void put_back(seat *own, changes *all) {
     for (uint32_t field = all->last; field != NO_FIELD; field = all->fields[field].next) {
         assert(is_kept(all, field));
@@ -201,11 +201,11 @@ static void put_back(seat *own, changes *all) {
     keep_nothing(all);
 }
 
-/* Why nothing is put back, in a call that is counted. */
+/* Why nothing is restored; the call is counted. */
 static zelamiku_status not_reverted(heap *of, seat *own, zelamiku_thread thread, bool was_open) {
     zelamiku_status status = why_not_of(of, own, thread, "revert");
     if (status != ZELAMIKU_OK) return status;
-    if (!of->reverts && was_open && own->has_stored == 0 && own->passed != own->ended + 1) return ZELAMIKU_OK; /* there is nothing to put back */
+    if (!of->reverts && was_open && own->has_stored == 0 && own->passed != own->ended + 1) return ZELAMIKU_OK; /* there is nothing to restore */
     if (!of->reverts)
         return fail(of->path, ZELAMIKU_WRONG_KIND, 0, "the heap's plan doesn't keep what a section changes", "open it with reverts = 1", "revert");
     if (!was_open) return fail(of->path, ZELAMIKU_NOT_HELD, 0, "no section is open", "enter an object before", "revert");
@@ -229,7 +229,7 @@ zelamiku_status zelamiku_thread_revert(zelamiku_thread thread) {
 
 /* ---- room for it ---- */
 
-/* Room for all that a section of so many fields may change, so that none allocates; it shares no cache line with another lane's. */
+/* Room for all fields that one section may change, so no store allocates; it shares no cache line with another lane's. */
 static changes *new_changes(uint32_t count) {
     const size_t line = 128;
     size_t size = (sizeof(changes) + (size_t)count * sizeof(kept_field) + line - 1) / line * line;
@@ -249,7 +249,7 @@ static void note_fields(changes *all, const zelamiku_field *fields) {
     }
 }
 
-/* Every lane keeps what its sections change from now on. It is freed with the heap's place, also after a failure. */
+/* From now on every lane saves what its sections change. The memory is freed with the heap's place, also after a failure. */
 static zelamiku_status keep_changes(heap *of, zelamiku_handle *handle) {
     zelamiku_shape shape = {0};
     zelamiku_field *fields = (zelamiku_field *)calloc(ZELAMIKU_MOST_FIELDS, sizeof *fields);

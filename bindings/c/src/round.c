@@ -1,44 +1,44 @@
-/* Rounds: how what threads have done becomes durable. One thread at a time leads (`is_led`, under the heap's mutex). It takes records
- * from the lanes' rings into the proved library, and makes the device's calls that this asks for. Two syncs are among them where the heap has
- * a lane for the helper, else four. It holds no lock meanwhile.
+/* Rounds: how threads' sections become durable. One thread at a time leads (`is_led`, under the heap's mutex). The leader takes records from the
+ * lanes' rings into the proved library, and makes the device's calls that the library requests. These include two syncs if the heap has a lane
+ * for the helper, else four. The leader holds no lock meanwhile.
  *
- *  1. Who leads. The first thread that waits for its sections, for all that come meanwhile: so it wakes nobody to have a round made, and
- *     nobody has to wake it. One with a deadline leaves the round to the helper, and so does each after a failed write. So does one that
- *     waits for many sections at once while others have some: then the helper makes round after round, beside those that go on. Who wants
- *     no round but none underway (a copy, a close) leads as a guest, and goes first.
- *  2. When. At once where a thread waits for its sections or for room, where a lane has sent three quarters of what its ring or its log
- *     takes, or where the last round has reached its bound. Else by the helper, a linger after the end of a section that has stored. A
- *     section that has only loaded asks for none: it goes with the next. After a failed write each second.
- *  3. Gathering. The threads that the last round has told come back soon, each with a section more. Who leads waits until as many have
- *     come, at most an eighth of the time that the last calls took: one that misses a round waits for all of the next.
- *  4. Bounds. A round takes as many records as the last one would have taken in the time of its calls, and at least 4,096 for each lane
- *     with sections. So one that waits isn't kept by what others send. Where nobody waits, or everybody does, it takes a ring's fill for
- *     each lane.
- *  5. Room. While records are taken (`steps` is odd) every lane gains room. Threads without any look again and again, up to an eighth of
- *     the calls' time, so that the same round takes what they do next. While calls are made they sleep.
- *  6. Looks. Who waits for a round sleeps on `round_bell`. Where rounds are shorter than a quarter of a millisecond it looks for the end
- *     before, since a wake takes as long. One look that lasted too long shows that others want the processor: no one looks for 64 rounds.
- *  7. No lost wake. Who leads writes `acknowledged`, then `round_bell`, then wakes; who waits reads the bell, then its sections, and
- *     sleeps only while the bell is as it was read. A section's end writes `ended`, then reads `has_work`; who leads clears `has_work`,
- *     then reads `ended`. All of these stand in one order, so that one of the two sees the other. */
+ *  1. Who leads. The first thread to wait leads, on behalf of all that join meanwhile. Starting the round then needs no wake-up. A thread with a
+ *     deadline leaves the round to the helper, and so does each thread after a failed write. So does one that waits for many sections at once
+ *     while other lanes have some: the helper then makes round after round beside the running threads. A thread that wants no round, only that
+ *     none is in progress (a copy, a close), leads as a guest, and goes first.
+ *  2. When. At once if a thread waits for its sections or for room, if a lane has sent three quarters of what its ring or its log takes, or if
+ *     the last round has reached its bound. Otherwise the helper makes one, a linger after the end of a section that has stored. A section that
+ *     has only loaded requests none: it goes with the next. After a failed write, each second.
+ *  3. Gathering. The threads that the last round has woken come back soon, each with one more section. The leader waits until as many have come,
+ *     at most an eighth of the time that the last calls took: a thread that misses a round waits for all of the next.
+ *  4. Bounds. A round takes as many records as the last one would have taken in the time of its calls, and at least 4,096 for each lane with
+ *     sections. So a waiting thread isn't delayed by what others send. If nobody waits, or everybody does, it takes a ring's fill for each lane.
+ *  5. Room. While records are taken (`steps` is odd) every lane gains room. Threads without room poll, up to an eighth of the calls' time: the
+ *     same round takes what they do next. While calls are made they sleep.
+ *  6. Spinning. A thread that waits for a round sleeps on `round_bell`. If rounds are shorter than a quarter of a millisecond it spins first,
+ *     since a wake-up takes as long. A spin that lasted too long shows that others want the processor: nobody spins for 64 rounds.
+ *  7. No lost wake. The leader writes `acknowledged`, then `round_bell`, then wakes. A waiting thread reads the bell, then its sections, and
+ *     sleeps only while the bell is as it was read. A section's end writes `ended`, then reads `has_work`; the leader clears `has_work`, then
+ *     reads `ended`. All of these are sequentially consistent, so one of the two sees the other. */
 /* ---- waiting for a round ---- */
 
 static bool is_durable(const seat *own, uint64_t sections) {
     return own->acknowledged >= sections;
 }
 
-/* DEVICE where a write has failed since there were so many troubles, and is made again: not at the heap's end, which a waiting thread gets. */
+/* DEVICE if a write has failed since there were so many troubles, and will be made again. Not after the heap has ended: the thread then gets
+ * that status. */
 static zelamiku_status trouble_since(const heap *of, uint64_t troubles) {
     return of->troubles == troubles || of->end_status != 0 ? ZELAMIKU_OK : ZELAMIKU_DEVICE;
 }
 
-/* Sleeps until the next step of who leads, or the deadline. */
+/* Sleeps until the leader's next step, or the deadline. */
 static zelamiku_status sleep_for_step(heap *of, seat *own, uint64_t step, unsigned *demands, uint64_t deadline, bool *is_late) {
     uint64_t troubles = of->troubles;
     zelamiku_status status;
     of->awaiting++;
     own->is_behind = 1;
-    /* A round that is taking records, or is about to start, gives the same room: it needn't be asked for. */
+    /* A round that is taking records, or is about to start, makes the same room: no need to request one. */
     if (step % 2 == 0 && of->steps == step && !of->has_more && *demands < DEMANDS) {
         ++*demands;
         demand(of, ZELAMIKU_ROUND_ROOM);
@@ -51,9 +51,9 @@ static zelamiku_status sleep_for_step(heap *of, seat *own, uint64_t step, unsign
     return status;
 }
 
-/* Waits for room, of which there was none at that step. While who leads takes records the thread looks again and again, so that what it
- * does then is taken by the same round; while calls are made, which may last, it sleeps. Where as many wait as there are processors, they
- * nap: the longer, the more they are, so that all of them together look as often as one does. */
+/* Waits for room; at that step there was none. While the leader takes records the thread polls: the same round takes what it does then. While
+ * calls are made, which may last, it sleeps. If as many threads wait as there are processors, they nap: the more they are the longer, so all of
+ * them together poll as often as one does. */
 static zelamiku_status await_room(heap *of, seat *own, uint64_t step, unsigned *demands, uint64_t deadline, bool *is_late) {
     uint64_t now = zelamiku_now();
     *is_late = now >= deadline;
@@ -69,8 +69,8 @@ static zelamiku_status await_room(heap *of, seat *own, uint64_t step, unsigned *
 
 /* ---- a round ---- */
 
-/* Waits until as many threads have come for their sections as the last round has told, and event loops have ended as many sections. It waits
- * for a part of the last calls' time at most. Who misses a round waits for all of the next one. */
+/* Waits until as many threads have come for their sections as the last round has woken, and event loops have ended as many sections; for a part
+ * of the last calls' time at most. A thread that misses a round waits for all of the next one. */
 static void gather(heap *of) {
     uint64_t now = zelamiku_now(), part = of->last_calls / GATHERED_PART, soon = now + NAP / 2;
     uint64_t end = now + (part < MOST_PART ? part : MOST_PART);
@@ -81,37 +81,37 @@ static void gather(heap *of) {
             nap(NAP / 2);
 }
 
-/* Wakes those that sleep without room. */
+/* Wakes the threads that sleep without room. */
 static void wake_those_behind(heap *of) {
     for (uint32_t lane = 0; lane < of->lanes; lane++)
         if (seat_at(of, lane)->is_behind) ring_seat(seat_at(of, lane));
 }
 
-/* Waits until they are awake, or until that time: else the rings may be empty before the first of them has gone on. */
+/* Waits until they are awake, or until that time: otherwise the rings may be empty before the first of them has gone on. */
 static void await_woken(heap *of, uint64_t end) {
     for (uint32_t lane = 0; lane < of->lanes; lane++)
         while (seat_at(of, lane)->is_behind && zelamiku_now() < end) nap(NAP);
 }
 
-/* How many records a round takes at most, where so many lanes have sections for it, and so many threads wait for theirs. The rule: as many as
- * the last round would have taken in the time of its calls. So one that waits isn't kept for long by what other lanes send, and no more time goes
- * into calls than into the rest. At least FEWEST for each lane: so a thousand sections of four records are one round. Where nobody waits, or as
- * many as there are lanes, nobody is kept by others: a ring's fill for each lane then. */
+/* A round's bound, in records, if so many lanes have sections for it, and so many threads wait for theirs: as many as the last round would have
+ * taken in the time of its calls. So other lanes' records don't delay a waiting thread for long, and no more time goes into calls than into the
+ * rest. At least FEWEST for each lane, so a thousand sections of four records are one round. If nobody waits, or as many threads as there are
+ * lanes, no thread is delayed by others: then a ring's fill for each lane. */
 static uint64_t bound(const heap *of, uint32_t lanes, uint32_t waiting) {
     uint64_t least = waiting == 0 || waiting >= lanes ? of->room : FEWEST;
     least *= lanes > 0 ? lanes : 1;
     return of->affordable > least ? of->affordable : least;
 }
 
-/* Notes how long taking so many records took, and the calls after it. */
+/* Notes how long it took to take so many records, and how long the calls after it took. */
 static void note_times(heap *of, uint64_t records, uint64_t taking, uint64_t calls) {
     of->last_calls = calls;
     if (calls > MOST_PART) calls = MOST_PART;
     if (records > 0) of->affordable = records * calls / (taking + 1);
 }
 
-/* Takes what the threads have done, at most so many records, and tells how long that took. Where calls take long it is worth some time that
- * much comes into one round: those without room are woken before. Else they have room soon, and sleep until all is taken. */
+/* Takes what the threads have done, at most so many records, and reports how long that took. If calls take long, it pays to get much into one
+ * round: threads without room are woken first. Otherwise they have room soon, and sleep until all is taken. */
 static zelamiku_status take(heap *of, uint64_t most, uint64_t *records, uint64_t *time) {
     uint64_t begun = zelamiku_now(), part = of->last_calls / POLLED_PART;
     if (part > MOST_PART) part = MOST_PART;
@@ -139,7 +139,7 @@ static zelamiku_status make_calls(heap *of, uint64_t *calls) {
     return status;
 }
 
-/* The same, and once all calls of a round are made counts it by its syncs. A failed write leaves some of them to the next round. */
+/* The same. Once all calls of a round are made, counts the round by its syncs. A failed write leaves some of them to the next round. */
 static zelamiku_status make_rounds_calls(heap *of, zelamiku_stats *count) {
     zelamiku_status status = make_calls(of, &count->calls);
     if (status != ZELAMIKU_OK) return status;
@@ -150,8 +150,8 @@ static zelamiku_status make_rounds_calls(heap *of, zelamiku_stats *count) {
     return status;
 }
 
-/* Makes the calls that a failed write left, a round of at most so many records, and its calls, and counts what is durable by them. What may have
- * gone to another file isn't counted. */
+/* Makes the calls that a failed write left, then a round of at most so many records, and its calls. Counts what is durable by them, unless it
+ * may have gone to another file. */
 static zelamiku_status round_and_calls(heap *of, uint64_t most, zelamiku_stats *count) {
     uint64_t taking = 0;
     zelamiku_status status = has_its_file(of) ? make_rounds_calls(of, count) : ZELAMIKU_LOST;
@@ -170,7 +170,7 @@ static zelamiku_status round_and_calls(heap *of, uint64_t most, zelamiku_stats *
     return status == ZELAMIKU_STOPPED ? ZELAMIKU_LOST : status;
 }
 
-/* Under the mutex: calls that come from now on look at `over`. */
+/* Under the mutex: later calls check `end_status`. */
 static void shut(heap *of, bool is_for_good) {
     for (uint32_t lane = 0; lane < of->lanes; lane++) {
         seat_at(of, lane)->number = 0;
@@ -178,7 +178,7 @@ static void shut(heap *of, bool is_for_good) {
     }
 }
 
-/* Under the mutex: the heap is at its end, and whoever sleeps is told. */
+/* Under the mutex: ends the heap, and wakes every sleeping thread. */
 static void end(heap *of, zelamiku_status status) {
     assert(status != ZELAMIKU_OK);
     if (of->end_status != 0) return;
@@ -188,7 +188,7 @@ static void end(heap *of, zelamiku_status status) {
     for (uint32_t lane = 0; lane < of->lanes; lane++) ring_seat(seat_at(of, lane));
 }
 
-/* Under the mutex: who leads does no more. */
+/* Under the mutex: the leader stops leading. */
 static void lead_no_more(heap *of, bool is_helper) {
     assert(of->is_led);
     of->is_led = of->leader_waits = false;
@@ -208,7 +208,7 @@ static void add_up(zelamiku_stats *all, const zelamiku_stats *round) {
     if (round->longest_round > all->longest_round) all->longest_round = round->longest_round;
 }
 
-/* Logs what a round came to: its status and errno, whether the one before was in trouble, and whether the path has just begun to lead astray. */
+/* Logs a round's outcome: its status and errno, whether the one before was in trouble, and whether the path has just begun to lead elsewhere. */
 static void log_round(const heap *of, zelamiku_status status, int error, bool was_troubled, bool has_strayed) {
     bool is_trouble = status == ZELAMIKU_DEVICE, is_end = status != ZELAMIKU_OK && !is_trouble;
     if (is_end) tell_log(of, ZELAMIKU_LOG_ERROR, "%s: %s; %s", text_of(status, 0), strerror(error), cure_of(status, error));
@@ -217,7 +217,7 @@ static void log_round(const heap *of, zelamiku_status status, int error, bool wa
     if (has_strayed) tell_log(of, ZELAMIKU_LOG_WARNING, "the path doesn't lead to the heap's file any more: it was removed or replaced");
 }
 
-/* Tells what a round came to, and wakes those that waited for it. */
+/* Publishes a round's outcome, and wakes the threads that waited for it. */
 static void finish(heap *of, zelamiku_status status, int error, const zelamiku_stats *round, bool is_helper) {
     bool is_trouble = status == ZELAMIKU_DEVICE, is_end = status != ZELAMIKU_OK && !is_trouble;
     pthread_mutex_lock(&of->mutex);
@@ -227,7 +227,7 @@ static void finish(heap *of, zelamiku_status status, int error, const zelamiku_s
     if (is_trouble) of->has_more = 0; /* it doesn't come at once */
     add_up(&of->stats, round);
     of->stats.syncs = of->syncs_made;
-    /* The first cause of the heap's end stays, also where a stop has set another status meanwhile. */
+    /* The first cause of the heap's end stays, even if a stop has set another status meanwhile. */
     if (is_trouble || (is_end && !of->is_settled)) of->error = error;
     of->troubles += is_trouble;
     if (is_end) {
@@ -249,7 +249,7 @@ static void finish(heap *of, zelamiku_status status, int error, const zelamiku_s
     end_hook(of);
 }
 
-/* Looks each second, while rounds are made, whether the path leads to the heap's file still. Where that can't be known it is as it was. */
+/* Checks each second, while rounds are made, whether the path still leads to the heap's file. If that can't be found out it stays as it was. */
 static bool is_astray(heap *of) {
     struct stat named;
     uint64_t now = zelamiku_now();
@@ -261,7 +261,7 @@ static bool is_astray(heap *of) {
     return !is_there || named.st_dev != of->volume || named.st_ino != of->inode;
 }
 
-/* Makes a round. The caller has begun to lead; afterwards it doesn't any more. */
+/* Makes a round. The caller leads already, and no longer afterwards. */
 static zelamiku_status lead(heap *of, uint32_t cause, bool is_helper) {
     zelamiku_stats round = {.last_cause = cause};
     if (cause == ZELAMIKU_ROUND_AWAITED) gather(of);
@@ -271,7 +271,7 @@ static zelamiku_status lead(heap *of, uint32_t cause, bool is_helper) {
     of->urgent = 0;
     pthread_mutex_unlock(&of->mutex);
     uint32_t come = atomic_exchange(&of->arrivals, 0), sections = sections_of_loops(of);
-    /* No section that has ended before is unknown to this round: one of whose end nothing is learned here finds the word 0, and tells. */
+    /* This round takes every section that ended before this line: one whose end isn't seen here finds the word 0, and rings. */
     of->has_reads = 0;
     of->has_work = 0;
     uint32_t lanes = 0, waiting = (come > of->expected ? come : of->expected) + begin_for_loops(of);
@@ -289,8 +289,8 @@ static zelamiku_status lead(heap *of, uint32_t cause, bool is_helper) {
     return status;
 }
 
-/* Whether many sections of the lane aren't durable, and others have some too. To take these into a round lasts, and the next group could begin
- * meanwhile: so the helper makes it. */
+/* Whether many sections of the lane aren't durable, and other lanes have some too. Taking them into a round lasts, and the next group could
+ * begin meanwhile: so the helper makes it. */
 static bool is_one_of_groups(heap *of, const seat *own) {
     if (own->ended - own->acknowledged < GROUP) return false;
     for (uint32_t lane = 0; lane < of->lanes; lane++) {
@@ -300,9 +300,9 @@ static bool is_one_of_groups(heap *of, const seat *own) {
     return false;
 }
 
-/* The first that waits for a round makes it, for all that come: it needn't wake the helper, nor be woken by it. Whether it leads now; else it
- * waits from now on until a round has ended, if it doesn't yet since the round `counted`. One that is to leave the round to the helper does, and
- * so does each after a failed write. */
+/* The first thread to wait leads the round for all that come: it needn't wake the helper, nor be woken. Returns whether it leads now. Otherwise
+ * it is counted as waiting until a round has ended, unless it has been since round `counted`. With `leaves_it`, or after a failed write, the
+ * round is left to the helper. */
 static bool leads_or_counts(heap *of, bool leaves_it, uint64_t *counted) {
     pthread_mutex_lock(&of->mutex);
     bool has_sections = of->has_work || of->has_reads || of->has_more, is_free = !of->is_led && of->waiting_to_lead == 0 && of->end_status == 0;
@@ -319,7 +319,7 @@ static bool leads_or_counts(heap *of, bool leaves_it, uint64_t *counted) {
     return leads;
 }
 
-/* The thread waits no more; whom no round has told since it was counted is counted still. */
+/* The thread stops waiting. If no round has ended since it was counted, uncounts it. */
 static void count_no_more(heap *of, uint64_t counted) {
     if (of->rounds != counted) return;
     pthread_mutex_lock(&of->mutex);
@@ -331,7 +331,7 @@ static void count_no_more(heap *of, uint64_t counted) {
     pthread_mutex_unlock(&of->mutex);
 }
 
-/* Under the mutex, which it gives back while it sleeps: leads, for something else than a round. */
+/* Under the mutex, which it releases while it sleeps: leads, for other work than a round. */
 static void lead_as_guest(heap *of) {
     of->waiting_to_lead++;
     while (of->is_led) {
@@ -357,7 +357,7 @@ static uint32_t cause_of(const heap *of, bool is_due) {
     return of->has_work && is_due ? ZELAMIKU_ROUND_LINGER : ZELAMIKU_ROUND_NONE;
 }
 
-/* Whether a section that has stored has ended and isn't durable. Its lane's count is read first: with it comes what was stored. */
+/* Whether a section that has stored has ended and isn't durable. Reads its lane's count first: `last_stored` was written before it. */
 static bool has_stores(heap *of) {
     for (uint32_t lane = 0; lane < of->lanes; lane++) {
         seat *other = seat_at(of, lane);
@@ -366,9 +366,9 @@ static bool has_stores(heap *of) {
     return false;
 }
 
-/* Under the mutex, once the linger has passed and while nobody leads: whether a round comes for that. What has only been looked at needs none:
- * it goes with the next round, or with one for a thread that waits. The lanes are looked at after the word is 0, so that a section that ends
- * meanwhile is seen, or tells. */
+/* Under the mutex, once the linger has passed and while nobody leads: whether that makes a round. A section that has only loaded needs none: it
+ * goes with the next round, or with one for a thread that waits. The lanes are checked after the word is set to 0: a section that ends meanwhile
+ * is seen, or rings. */
 static bool comes_by_linger(heap *of) {
     if (!of->has_work || of->urgent != 0 || of->is_troubled || of->awaiting > 0) return true;
     of->has_reads = 1;
@@ -378,9 +378,9 @@ static bool comes_by_linger(heap *of) {
     return true;
 }
 
-/* Under the mutex, which it gives back while it sleeps: sleeps until a round is to be made, and says why; NONE: the heap is at its end. After
- * a round the helper looks again within the linger, so that no section's end has to wake it meanwhile. A look that finds nothing is the last:
- * the next section's end wakes it. While another thread leads nothing is looked at: that one rings at its end. */
+/* Under the mutex, which it releases while it sleeps: sleeps until a round is needed, and returns why; NONE: the heap has ended. After a round
+ * the helper checks again within the linger, so no section's end has to wake it meanwhile. A check that finds nothing is the last: then the next
+ * section's end wakes it. While another thread leads it checks nothing: the leader rings when it finishes. */
 static uint32_t rest(heap *of) {
     uint64_t due = ZELAMIKU_NO_DEADLINE;
     for (bool has_begun = false;; has_begun = true) {

@@ -1,8 +1,8 @@
 /* Short time slices and short naps, for threads that make rounds or wait for them. Nothing here is shared, and there is no lock. */
 /* ---- slices ---- */
 
-/* Since Linux 6.12 a thread may say for how long it wants to run at once (sched_setattr). One that asks for a short slice runs soon after it is
- * woken, also where other threads keep all processors busy: else each sync costs it a tick, of 4 milliseconds mostly. Its share of the
+/* Since Linux 6.12 a thread may say how long its time slice should be (sched_setattr). A thread that asks for a short slice runs soon after it
+ * is woken, even if other threads keep all processors busy: otherwise each sync costs it a tick, mostly of 4 milliseconds. Its share of the
  * processors stays. It needs no privilege. */
 typedef struct {
     uint32_t size, policy;
@@ -27,13 +27,13 @@ static bool set_slice(const attributes *of, uint64_t nanoseconds) {
     return syscall(SYS_sched_setattr, 0, &wanted, 0) == 0;
 }
 
-/* Whether the system's calls go through a filter, which may end the process for one that it doesn't know. */
+/* Whether system calls go through a filter, which may end the process for a call that it doesn't know. */
 static bool is_filtered(void) {
     int mode = prctl(PR_GET_SECCOMP);
     return mode > 0 || (mode < 0 && errno != EINVAL);
 }
 
-/* Asks for a short slice where the calling thread has the system's. Whether it has that is learned by asking for it. */
+/* Asks for a short slice if the calling thread has the default one. Whether it has it is found out by reading it. */
 static void ask_for_short_slice(void) {
     attributes before, usual;
     if (!get_attributes(&before) || before.runtime == 0 || !set_slice(&before, 0)) return;
@@ -41,7 +41,8 @@ static void ask_for_short_slice(void) {
     (void)set_slice(&before, is_usual ? SHORT_SLICE : before.runtime);
 }
 
-/* The system may end a sleep later by a thread's slack. Asks for the least where the calling thread has the usual one, which is longer than a nap. */
+/* The system may end a sleep late, by a thread's slack. Asks for the least if the calling thread has the default one, which is longer than a
+ * nap. */
 static void ask_for_least_slack(void) {
     if (prctl(PR_GET_TIMERSLACK, 0ul, 0ul, 0ul, 0ul) == USUAL_SLACK) (void)prctl(PR_SET_TIMERSLACK, 1ul, 0ul, 0ul, 0ul);
 }
@@ -52,7 +53,7 @@ COLD void ask_to_run_soon(void) {
     ask_for_least_slack();
 }
 
-/* A thread is asked once, whichever heaps it uses. */
+/* Once for each thread, whichever heaps it uses. */
 static void run_soon(const heap *of) {
     static _Thread_local bool has_asked;
     if (has_asked || of->keeps_slice) return;

@@ -1,5 +1,5 @@
-/* Statuses as texts, the message of a thread, and the log hook. A message is its thread's own; the hook is called under no lock. */
-/* ---- what is told ---- */
+/* Statuses as texts, a thread's message, and the log hook. A message belongs to its thread; the hook is called under no lock. */
+/* ---- messages and the log ---- */
 
 static _Thread_local char message[ZELAMIKU_MOST_MESSAGE];
 static _Thread_local int message_error;
@@ -73,7 +73,7 @@ const char *zelamiku_status_text(uint32_t status) {
     return text_of(status, 0);
 }
 
-/* What mends a failure, where a user can: by the system's cause, or by the status. */
+/* How a user can mend a failure: by the system's cause, or by the status. */
 static const char *cure_of(zelamiku_status status, int error) {
     bool is_full = error == ENOSPC || error == EDQUOT;
     if (status == ZELAMIKU_LOST && is_full) return "make room, then close the heap and open it again";
@@ -91,8 +91,8 @@ static const char *cure_of(zelamiku_status status, int error) {
     }
 }
 
-/* Sets the thread's message: the path, what was called, the status or `cause` in its place, the system's cause, and the cure, by cure_of where
- * it is NULL. Answers the status. */
+/* Sets the thread's message: the path, the call, the status or `cause` in its place, the system's cause, and the cure, which is cure_of's if
+ * NULL. Returns the status. */
 __attribute__((format(printf, 6, 7))) COLD zelamiku_status fail(const char *path, zelamiku_status status, int error, const char *cause,
                                                                const char *cure, const char *call, ...) {
     char called[160], system[96] = "";
@@ -103,7 +103,7 @@ __attribute__((format(printf, 6, 7))) COLD zelamiku_status fail(const char *path
     va_end(numbers);
     message_error = error;
     const char *what = cause != NULL ? cause : text_of(status, 0), *then = cure != NULL ? cure : cure_of(status, error);
-    /* Of a path that is too long its end. */
+    /* If the path is too long, only its last part. */
     size_t length = path == NULL ? 0 : strlen(path);
     if (length > 500) path += length - 500;
     (void)snprintf(message, sizeof message, "%s%s%s%s%s%s%s%s%s", path == NULL ? "" : path, length > 0 ? ": " : "", called,

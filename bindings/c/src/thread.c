@@ -1,8 +1,8 @@
 /* A thread's calls, from enter to await.
  *
- * A seat is its thread's own while a section is open (`open` is the handle) or a call is inside of one (`is_busy`): no lock is taken for
- * enter, exit, load and store. Who ends the heap, or looks by another's session, makes `number` 0 and then reads `is_busy`; the thread
- * writes `is_busy` and then reads `number`. So one of the two sees the other. The heap's mutex has which lanes are lent. */
+ * A seat belongs to its thread while a section is open (`open` is the handle) or a call is inside one (`is_busy`): enter, exit, load and store
+ * take no lock. A thread that ends the heap, or borrows another's session to look, sets `number` to 0 and then reads `is_busy`; the seat's
+ * thread writes `is_busy` and then reads `number`. So one of the two sees the other. The heap's mutex guards which lanes are lent. */
 /* ---- a thread's use of it ---- */
 
 /* Lends a lane that nobody has. */
@@ -37,7 +37,7 @@ zelamiku_status zelamiku_thread_begin(zelamiku_thread *thread, zelamiku_heap hea
     return status;
 }
 
-/* Whether the handle is that of a lane of the place's heap, also at its end. In a call that is counted it stays so. */
+/* Whether the handle is that of a lane of the place's heap, also after that has ended. It stays so while the call is counted. */
 static bool is_lane_of(const heap *of, const seat *own, zelamiku_thread thread) {
     return thread.number != 0 && of->number != 0 && own->lent_number == thread.number;
 }
@@ -54,7 +54,7 @@ static zelamiku_status why_not_of(heap *of, seat *own, zelamiku_thread thread, c
     return tell_end(of, status, of->error, call);
 }
 
-/* Why a call with this handle isn't made. OK: a look at whether the heap can be closed was underway, and has ended: try again. */
+/* Why a call with this handle isn't made. OK: another thread was checking whether the heap can be closed, and has finished: try again. */
 COLD zelamiku_status why_not(seat *own, zelamiku_thread thread, const char *call) {
     heap *of = place_of(own);
     count_call(of);
@@ -63,7 +63,7 @@ COLD zelamiku_status why_not(seat *own, zelamiku_thread thread, const char *call
     return status;
 }
 
-/* The same of a call that needs a monitor, where no section is open. */
+/* The same for a call that needs a monitor, when no section is open. */
 COLD zelamiku_status not_open(seat *own, zelamiku_thread thread, const char *call, bool is_field, uint32_t number) {
     heap *of = place_of(own);
     count_call(of);
@@ -77,8 +77,8 @@ COLD zelamiku_status not_open(seat *own, zelamiku_thread thread, const char *cal
     return status;
 }
 
-/* The library has stopped, since a sync has failed: the heap is at its end, also before who leads has told so, and with which errno. So no
- * lane is lent any more whose session still waits or holds what the end has cut off. */
+/* The library has stopped because a sync has failed: ends the heap, even before the leader has reported that and its errno. After this no lane
+ * is lent whose session still waits or holds a monitor. */
 static zelamiku_status note_stop(heap *of) {
     pthread_mutex_lock(&of->mutex);
     if (of->end_status == 0) of->error = EIO;
@@ -101,8 +101,8 @@ static zelamiku_status refused_of(heap *of, seat *own, zelamiku_status status, c
     return fail(of->path, status, status == ZELAMIKU_DEVICE ? of->error : 0, cause, NULL, "%s %s %u", call, what, number);
 }
 
-/* The library has refused a call, or it is at its end: it may tell a session that a sync has failed before who leads has told why. The thread
- * is busy, so that its heap has the place. */
+/* The library has refused a call, or the heap has ended: the library may report a failed sync to a session before the leader has reported its
+ * cause. The thread is busy, so its heap keeps the place. */
 COLD zelamiku_status refused(seat *own, zelamiku_status status, const char *call, const char *what, uint32_t number) {
     heap *of = place_of(own);
     count_call(of);
@@ -162,7 +162,7 @@ static zelamiku_status enter_asleep(heap *of, seat *own, uint32_t object, uint64
     return status;
 }
 
-/* The first try has answered this. A deadline that has passed lets nothing sleep. */
+/* The first try has returned this status. With a deadline that has passed nothing sleeps. */
 COLD zelamiku_status enter_slowly(seat *own, uint32_t object, zelamiku_status status, uint64_t deadline, const char *call) {
     heap *of = own->of;
     if (of == NULL) return nothing(call, NULL);
@@ -211,7 +211,7 @@ zelamiku_status zelamiku_thread_enter_until(zelamiku_thread thread, uint32_t obj
     return enter(thread, object, deadline, "enter");
 }
 
-/* Its section may have ended before, so that it isn't busy, and its heap may have ended since. */
+/* The thread's section may have ended before, so it isn't busy; its heap may have ended since. */
 __attribute__((noinline, cold)) zelamiku_status zelamiku_thread_exited(zelamiku_thread thread, uint32_t object) {
     seat *own = seat_of(thread);
     heap *of = place_of(own);
@@ -244,7 +244,7 @@ zelamiku_status zelamiku_thread_load(zelamiku_thread thread, uint32_t field, uin
     return SELDOM(status != ZELAMIKU_OK) ? refused(own, status, "load", "field", field) : ZELAMIKU_OK;
 }
 
-/* The library has taken so many records of stores to persistent fields: a round comes for the section, once it has ended. */
+/* The section has made so many records by stores to persistent fields: once it has ended, a round comes for it. */
 static inline void note_stores_of(seat *own, uint32_t records) {
     own->records += records;
     own->has_stored = 1;
@@ -283,7 +283,7 @@ zelamiku_status zelamiku_thread_give(zelamiku_thread thread, uint32_t head, uint
     return ZELAMIKU_OK;
 }
 
-/* Joins the monitor's wait set, unless there is no room for it. What holds the monitor may be what the room waits for. */
+/* Joins the monitor's wait set. Waits for room only for a few rounds: the room may depend on this section, which holds the monitor. */
 static zelamiku_status begin_wait(heap *of, seat *own, uint32_t object) {
     unsigned demands = 0;
     bool is_late = false;
@@ -337,7 +337,7 @@ zelamiku_status zelamiku_thread_wait(zelamiku_thread thread, uint32_t object) {
     return ZELAMIKU_OK;
 }
 
-/* Those that were notified wait for the monitor from now on: they are woken when it is free, and not before. */
+/* The notified lanes wait for the monitor from now on: they are woken when it is free, and not before. */
 static void put(heap *of, uint64_t lanes, uint32_t object) {
     for (uint32_t lane = 0; lanes != 0 && lane < of->lanes; lane++)
         if (lanes >> lane & 1) (void)want(of, seat_at(of, lane), object);
@@ -384,8 +384,8 @@ zelamiku_status zelamiku_thread_look(zelamiku_thread thread, uint32_t object, ze
     return status;
 }
 
-/* The seat of a handle that is lent, also at the heap's end; or NULL. Another thread may end it meanwhile, and its lane be lent anew: so look
- * again after what was read of the seat. No handle's number comes back. */
+/* The seat of a lent handle, also after the heap has ended; or NULL. Meanwhile another thread may end it and the lane may be lent anew: check
+ * again after reading the seat. No handle's number is used twice. */
 static seat *known_seat(zelamiku_thread thread) {
     seat *own = seat_of(thread);
     return thread.number != 0 && own->lent_number == thread.number ? own : NULL;
@@ -414,8 +414,8 @@ uint64_t zelamiku_thread_durable(zelamiku_thread thread) {
     return known_seat(thread) != NULL && acknowledged > before ? acknowledged - before : 0;
 }
 
-/* Looks again and again whether a round has ended since that word was seen, until that time at most. A look that took long has let somebody
- * else run: where others want the processors who looks keeps them from who makes the round, so that for a while nobody does. */
+/* Spins until a round has ended since that word was seen, until that time at most. If one look takes long, another thread has run: others want
+ * the processors, and spinning keeps them from the leader. Then nobody spins for a while. */
 static void look_for_round(heap *of, uint32_t seen, uint64_t now, uint64_t end) {
     while (of->round_bell == seen && of->awaiting < of->processors && now < end) {
         uint64_t before = now;
@@ -427,8 +427,8 @@ static void look_for_round(heap *of, uint32_t seen, uint64_t now, uint64_t end) 
     }
 }
 
-/* Sleeps until a round has ended since that word was seen. Where rounds are short, and fewer wait than there are processors, it looks for a
- * while before: to be woken takes as long as a sync of a quick disk. */
+/* Sleeps until a round has ended since that word was seen. If rounds are short, and fewer threads wait than there are processors, it spins for a
+ * while first: a wake-up takes as long as a sync of a quick disk. */
 static bool sleep_for_round(heap *of, uint32_t seen, uint64_t deadline) {
     uint64_t looks = of->rounds < of->no_spin_before ? 0 : of->spin_time, now = looks > 0 ? zelamiku_now() : 0, end = now + looks;
     if (looks > 0) look_for_round(of, seen, now, end < deadline ? end : deadline);
@@ -458,8 +458,8 @@ static zelamiku_status await_sections(heap *of, seat *own, uint64_t sections, ui
     return status;
 }
 
-/* Whether all sections of the handle can be awaited. One that is open can't: it ends after this call. One that the heap's end has cut off
- * never ends, also where its thread has yet to learn of that end, and so is busy. */
+/* Whether all sections of the handle can be awaited. An open one can't: it ends after this call. One that was cut off when the heap ended never
+ * ends, even if its thread hasn't learned that yet, and so is busy. */
 static zelamiku_status can_await_all(heap *of, const seat *own, zelamiku_thread thread) {
     zelamiku_status over = (zelamiku_status)of->end_status;
     if (own->was_cut_off || (own->is_busy && over != ZELAMIKU_OK)) return tell_end(of, over, of->error, "await");
@@ -470,7 +470,7 @@ static zelamiku_status can_await_all(heap *of, const seat *own, zelamiku_thread 
 /* The same as zelamiku_thread_await_until, in a call that is counted. */
 static zelamiku_status await_of(heap *of, seat *own, zelamiku_thread thread, uint64_t sections, uint64_t deadline, bool *is_all) {
     uint64_t ended = own->ended, before = own->earlier;
-    /* After the counts were read: else they may be those of the thread that has the lane next. */
+    /* Checked after the counts were read: otherwise they may be those of the next thread with this lane. */
     if (!is_lane_of(of, own, thread)) return nothing("await", NULL);
     if (of->end_status == ZELAMIKU_FORKED) return fail(of->path, ZELAMIKU_FORKED, 0, NULL, NULL, "await");
     if (sections > ended - before) {

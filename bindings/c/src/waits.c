@@ -1,15 +1,15 @@
-/* Who waits for whom: threads that sleep for monitors, and circles of threads that wait for each other. The heap's mutex has all of it.
+/* Who waits for whom: threads that sleep for monitors, and circles of threads that wait for each other. The heap's mutex guards all of it.
  *
- * Under the mutex what a lane wants stays, and a thread whose lane wants something is inside of an enter or a wait, so that it gives no
- * monitor back. So a circle that is found here was one at that moment, though its owners were looked at one after the other. A circle is
- * closed by a thread that begins to sleep in an enter: one that waits in a set was put down by the owner of what it wants, which was
- * running then. So each circle is seen by the look of one of its threads, once that has slept for a second. */
+ * Under the mutex what a lane wants doesn't change, and a thread whose lane wants something is inside an enter or a wait, so it frees no
+ * monitor. So a circle that is found here exists at that moment, though its owners were read one after another. The thread that closes a circle
+ * begins to sleep in an enter: one in a wait set was listed by the owner of the monitor that it wants, which was running then. So one of a
+ * circle's threads finds it, once that thread has slept for a second. */
 /* ---- who waits for whom ---- */
 
-/* While another thread sleeps for a monitor its session may be looked by. */
+/* Whose use a session has. While its thread sleeps for a monitor, others may borrow it to look at monitors. */
 enum { IN_USE = 0, RESTS = 1, IS_BORROWED = 2 };
 
-/* Sleeps as sleep_seat does; meanwhile others may look by its session. */
+/* Sleeps as sleep_seat does; meanwhile others may borrow its session. */
 static bool rest_seat(seat *own, uint64_t deadline) {
     own->session_use = RESTS;
     bool is_early = sleep_seat(own, deadline);
@@ -22,7 +22,7 @@ static bool is_borrowed(seat *other) {
     return atomic_compare_exchange_strong(&other->session_use, &resting, IS_BORROWED);
 }
 
-/* Of a lane that is lent: whether nothing of it is open. Its thread waits for the mutex then if it begins something. */
+/* For a lane that is lent: whether nothing of it is open. If so, its thread can't begin anything without the mutex. */
 static bool is_shut(seat *other) {
     other->number = 0;
     if (!other->is_busy) return true;
@@ -30,8 +30,8 @@ static bool is_shut(seat *other) {
     return false;
 }
 
-/* Under the mutex, while the heap goes on: a seat by whose session the caller may look until return_seat: of a lane that nobody has, of one
- * that sleeps for a monitor, or of one that has nothing open. NULL: all are in sections. */
+/* Under the mutex, while the heap goes on: a seat whose session the caller may use to look, until return_seat: of a lane that isn't lent, that
+ * sleeps for a monitor, or that has nothing open. NULL: all are in sections. */
 static seat *borrow_seat(heap *of) {
     for (uint32_t lane = 0; lane < of->lanes; lane++)
         if (!seat_at(of, lane)->is_lent || is_borrowed(seat_at(of, lane))) return seat_at(of, lane);
@@ -47,8 +47,8 @@ static void return_seat(seat *other) {
         other->number = other->lent_number;
 }
 
-/* Under the mutex: for each lane that wants a monitor the lane that has it, by a session that nobody else uses; NOBODY for each other one,
- * and where there is no session. */
+/* Under the mutex: for each lane that wants a monitor, the lane that has it, by a session that nobody else uses. NOBODY for all other lanes, and
+ * if there is no session. */
 static void find_owners(heap *of, seat *by, uint32_t *owners) {
     for (uint32_t lane = 0; lane < of->lanes; lane++) {
         uint32_t wanted = seat_at(of, lane)->wanted;
@@ -58,7 +58,7 @@ static void find_owners(heap *of, seat *by, uint32_t *owners) {
     }
 }
 
-/* The lanes that wait for each other, that one among them, a bit for each; 0: it waits for none that waits for it. */
+/* The lanes of the circle that this lane is in, a bit for each; 0: it is in none. */
 static uint64_t circle_of(const heap *of, const uint32_t *owners, uint32_t lane) {
     uint64_t circle = 0;
     for (uint32_t at = lane; at < of->lanes && (circle >> at & 1) == 0; at = owners[at]) {
@@ -68,7 +68,7 @@ static uint64_t circle_of(const heap *of, const uint32_t *owners, uint32_t lane)
     return 0;
 }
 
-/* Under the mutex: says who waits for whom, from that lane on. */
+/* Under the mutex: writes who waits for whom, from that lane on. */
 static void spell_circle(heap *of, const uint32_t *owners, uint32_t lane, char *text, size_t size) {
     uint32_t at = lane;
     size_t begun = 0;
@@ -81,7 +81,7 @@ static void spell_circle(heap *of, const uint32_t *owners, uint32_t lane, char *
     } while (at != lane && begun < size);
 }
 
-/* Whether the circle has a thread that wasn't told of in one. */
+/* Whether the circle has a thread that no earlier report had in a circle. */
 static bool is_untold(heap *of, uint64_t circle) {
     bool is = false;
     for (uint32_t lane = 0; lane < of->lanes; lane++)
@@ -92,7 +92,7 @@ static bool is_untold(heap *of, uint64_t circle) {
     return is;
 }
 
-/* The thread has slept for a monitor for a second: where threads wait for each other, itself among them, the log hook is told once. */
+/* The thread has slept for a monitor for a second: if it is in a circle, reports that to the log hook, once. */
 COLD void tell_circle(heap *of, seat *own) {
     uint32_t owners[ZELAMIKU_MOST_LANES];
     char text[480] = "";
@@ -109,7 +109,7 @@ COLD void tell_circle(heap *of, seat *own) {
     end_hook(of);
 }
 
-/* Sleeps for a monitor until somebody rings, or until the deadline: false after it. `look` is when it looks for a circle: once. */
+/* Sleeps for a monitor until somebody rings, or until the deadline: false after it. At `look` it checks for a circle, once. */
 static bool sleep_for_monitor(heap *of, seat *own, uint64_t *look, uint64_t deadline) {
     if (*look >= deadline) return rest_seat(own, deadline);
     if (rest_seat(own, *look)) return true;
