@@ -17,9 +17,9 @@
  * of two syncs each. Link with -lzelamiku and -pthread. docs/EMBEDDING.md is the manual.
  *
  * Statuses. Every call returns a status, whatever its arguments are. A call that fails sets a text for its thread, with path, cause and cure:
- * zelamiku_heap_message. A call returns NOTHING if a required pointer is NULL, or if the handle was never opened or has been closed. In a forked
- * child every call on a heap of the parent returns FORKED; the parent goes on. After a heap has ended each call on it returns the reason, and
- * NOTHING once another heap uses its slot:
+ * zelamiku_heap_message. A call returns NOTHING if a required pointer is NULL, if the handle was never opened, or after zelamiku_thread_end. In a
+ * forked child every call on a heap of the parent returns FORKED; the parent goes on. After a heap has ended each call on it returns the reason,
+ * and NOTHING once another heap uses its slot:
  *   CLOSED               it was closed or stopped
  *   ABANDONED            zelamiku_heap_abandon
  *   LOST                 a sync has failed, or the program has closed the heap's descriptor. What wasn't durable may be gone, though the file
@@ -76,7 +76,7 @@ extern "C" {
 /* What a call returns. zelamiku_status_text has a text of each. */
 typedef enum {
     ZELAMIKU_OK = 0,
-    ZELAMIKU_NOTHING = 1,         /* the handle was never opened, or has been closed; or a pointer is NULL */
+    ZELAMIKU_NOTHING = 1,         /* the handle was never opened, or isn't open any more; or a pointer is NULL */
     ZELAMIKU_OPEN = 2,            /* the handle to be opened is open already */
     ZELAMIKU_WRONG_KIND = 3,      /* a session where a heap is wanted, or a heap where a session is */
     ZELAMIKU_NO_MEMORY = 4,       /* there was no memory */
@@ -139,7 +139,7 @@ typedef struct {
     uint32_t capacity; /* the records that a lane's area holds */
     uint32_t threads;  /* the lanes that threads have: all of them, or all but the last one */
     uint64_t dropped;  /* the sections that recovery dropped; none of them was acknowledged */
-    uint64_t undone;   /* the fields that took an old value back */
+    uint64_t undone;   /* the fields that recovery has set back to an old value */
 } zelamiku_found;
 
 /* What recovery found, lane by lane. After a refusal: which record caused it. */
@@ -186,7 +186,7 @@ typedef struct {
 
 enum {
     ZELAMIKU_MOST_HEAPS = 256,     /* one more than may be open at once in a process */
-    ZELAMIKU_MOST_MESSAGE = 1024,  /* bytes of a message, with its end */
+    ZELAMIKU_MOST_MESSAGE = 1024,  /* bytes of a message, with its zero byte */
     ZELAMIKU_DEFAULT_LANES = 8,
     ZELAMIKU_DEFAULT_RING = 16384,
     ZELAMIKU_DEFAULT_LINGER = 5000 /* microseconds */
@@ -280,7 +280,7 @@ typedef struct {
 typedef struct {
     uint32_t lane;      /* the thread's */
     uint32_t object;    /* whose monitor it wants */
-    uint32_t owner;     /* that monitor's; ZELAMIKU_NOBODY: it is free now, or unknown, because all lanes are in sections and none sleeps */
+    uint32_t owner;     /* the lane that has it; ZELAMIKU_NOBODY: none now, or unknown, because all lanes are in sections and none sleeps */
     uint32_t in_circle; /* 1: it waits in a circle of threads, none of which can go on */
 } zelamiku_wait;
 
@@ -313,14 +313,14 @@ int zelamiku_heap_error(void);
  * what a making that was cut off has left. TOO_SMALL: it has too few bytes.
  * A new heap has a lane for each of the plan's threads, and one more for the helper; with it rounds take two syncs. With 32 threads it has 32
  * lanes, and none for the helper: rounds take four. An existing heap may have more lanes than the plan has threads: its last lane is then the
- * helper's, and all others are threads'. One with as many lanes as the plan has threads is opened too, without a lane for the helper. The file
- * doesn't record whether its last lane was the helper's. If this plan and the one before differ in that, the report omits the threads' sections
- * in that lane, or lists the helper's as UNSETTLED.
+ * helper's, and all others are threads'. One with as many lanes as the plan has threads is opened too, without a lane for the helper: rounds
+ * take four. The file doesn't record whether its last lane was the helper's. If this plan and the one before differ in that, the report omits
+ * the threads' sections in that lane, or lists the helper's as UNSETTLED.
  * A heap made by a plan with a fingerprint has one field more, the last: transient, of object 0, with the fingerprint as its first value. The
  * report doesn't count it, and programs don't use it: a store there lasts until the heap is closed, and changes no fingerprint. A heap without
  * one, with as many fields as the plan, is opened too.
- * BUSY: another process has the heap, makes one there, or has locked the file, which anyone who may read it can. Or this process has it open, by
- * this or another name: close that heap first, also if the program has closed its descriptor. Or the file was replaced meanwhile.
+ * BUSY: another process has the heap, makes one there, or has locked the file, as any program that may read it can. Or this process has it open,
+ * by this or another name: close that heap first, also if the program has closed its descriptor. Or the file was replaced meanwhile.
  * OTHER_HEAP: the file's heap isn't that of the plan: the report has the first difference.
  * NOT_FORMATTED: the file holds something else, or a heap whose first bytes were damaged; or there is no heap, and the plan says must_exist.
  * DEVICE: the file can't be opened, made, locked, read or written, or its folder can't be synced: zelamiku_heap_error has the cause.
@@ -356,8 +356,8 @@ ZELAMIKU_MUST_USE zelamiku_status zelamiku_heap_abandon(zelamiku_heap heap);
  * links lead), synced, and renamed over the file there, which is locked until then. Threads go on meanwhile. The copy has all that was durable
  * when the call began. If the process is killed, the file beside stays, and the next copy or making there reuses it.
  * DEVICE: the copy can't be written, and the path is unchanged. But if the message says that the folder can't be synced, the new copy is at the
- * path, and a power failure may bring back the file before it. NO_MEMORY. BUSY: this heap or another one is open at that path, or another one is
- * being written there. */
+ * path, and a power failure may bring back the file before it. NO_MEMORY. BUSY: this heap or another one is open at that path, or another heap or
+ * copy is being made there. */
 ZELAMIKU_MUST_USE zelamiku_status zelamiku_heap_copy(zelamiku_heap heap, const char *path);
 
 ZELAMIKU_MUST_USE zelamiku_status zelamiku_heap_stats(zelamiku_heap heap, zelamiku_stats *stats);
@@ -425,8 +425,8 @@ ZELAMIKU_MUST_USE zelamiku_status zelamiku_heap_open_on(zelamiku_heap *heap, con
 /* Hands out a lane that is free. NONE_LEFT: all are in use; `thread` is no handle. */
 ZELAMIKU_MUST_USE zelamiku_status zelamiku_thread_begin(zelamiku_thread *thread, zelamiku_heap heap);
 
-/* Returns the lane to the heap. UNFINISHED: it holds a monitor: nothing was done. After the heap has ended it returns the reason; the lane is
- * returned too. */
+/* Releases the lane. UNFINISHED: it holds a monitor: nothing was done. After the heap has ended it returns the reason; the lane is released
+ * too. */
 ZELAMIKU_MUST_USE zelamiku_status zelamiku_thread_end(zelamiku_thread thread);
 
 /* Locks the object's monitor, or locks it once more. Sleeps while another thread has it, or until a round makes room in the lane. Threads that

@@ -211,7 +211,7 @@ static void quieten_for_ask(seat *own) {
 /* Under the mutex: returns how many sections are durable, and requests the others. Whatever comes later rings. */
 static zelamiku_status ask_for_all(heap *of, seat *own, uint64_t *durable) {
     quieten_for_ask(own);
-    /* Before the sections are looked at, since what a last round acknowledges comes before it says so. */
+    /* Read before the sections: a last round writes what it acknowledges before it sets this. */
     zelamiku_status end_status = of->is_settled ? (zelamiku_status)of->end_status : ZELAMIKU_OK;
     uint64_t ended = own->ended, acknowledged = own->acknowledged, before = own->earlier;
     *durable = acknowledged > before ? acknowledged - before : 0;
