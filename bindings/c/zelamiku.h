@@ -305,12 +305,13 @@ int zelamiku_heap_error(void);
  * it is empty, has only zeros, or is a heap whose making was cut off. The file stays locked while the heap is open. `report` may be NULL; it is
  * filled in also if the call fails. After a failure `heap` is no handle.
  * A heap is made in a new file beside the path (PATH.heapctl-new, where the path's links lead). That file is locked, synced and renamed to the
- * path, and the folder is synced. If the process dies meanwhile, the path stays as it was, and the next making there reuses the file beside it.
+ * path, and the folder is synced. If the process dies meanwhile, the path stays as it was, and the next making or copy there replaces the file
+ * beside it.
  * Each opening syncs the folder of the real path, or its whole file system if the folder can't be read. After that no crash loses the file's
  * name, even if the file was renamed to the path just before.
  * The path may name a block device: a disk, a partition, a logical volume, or one on another machine (RBD, DRBD, iSCSI, the kernel's NBD). It is
- * opened with O_EXCL, so the system doesn't mount it meanwhile. A heap is made in place, as by zelamiku_heap_open_on, if the device has zeros or
- * what a making that was cut off has left. TOO_SMALL: it has too few bytes.
+ * opened with O_EXCL, so the system doesn't mount it meanwhile. A heap is made in place there, as by zelamiku_heap_open_on, whose TOO_SMALL and
+ * NOT_FORMATTED hold.
  * A new heap has a lane for each of the plan's threads, and one more for the helper; with it rounds take two syncs. With 32 threads it has 32
  * lanes, and none for the helper: rounds take four. An existing heap may have more lanes than the plan has threads: its last lane is then the
  * helper's, and all others are threads'. One with as many lanes as the plan has threads is opened too, without a lane for the helper: rounds
@@ -352,12 +353,11 @@ ZELAMIKU_MUST_USE zelamiku_status zelamiku_heap_stop(zelamiku_heap heap);
  * until that thread calls again. */
 ZELAMIKU_MUST_USE zelamiku_status zelamiku_heap_abandon(zelamiku_heap heap);
 
-/* Writes a copy of the heap, of a moment between two rounds, to the path. It is written beside the path (PATH.heapctl-new, where the path's
- * links lead), synced, and renamed over the file there, which is locked until then. Threads go on meanwhile. The copy has all that was durable
- * when the call began. If the process is killed, the file beside stays, and the next copy or making there reuses it.
+/* Writes a copy of the heap, of a moment between two rounds, to the path, as zelamiku_heap_open makes a heap: beside the path, then synced and
+ * renamed over the file there, which is locked until then. Threads go on meanwhile. The copy has all that was durable when the call began.
  * DEVICE: the copy can't be written, and the path is unchanged. But if the message says that the folder can't be synced, the new copy is at the
- * path, and a power failure may bring back the file before it. NO_MEMORY. BUSY: this heap or another one is open at that path, or another heap or
- * copy is being made there. */
+ * path, and a power failure may bring back the file before it. NO_MEMORY. BUSY: this heap or another one is open at that path, or another heap
+ * or copy is being made there. */
 ZELAMIKU_MUST_USE zelamiku_status zelamiku_heap_copy(zelamiku_heap heap, const char *path);
 
 ZELAMIKU_MUST_USE zelamiku_status zelamiku_heap_stats(zelamiku_heap heap, zelamiku_stats *stats);
@@ -395,8 +395,7 @@ uint64_t zelamiku_now(void);
  * there: a byte that is written with its durable value must survive a crash.
  *
  * Errors. While a heap is opened, an error means no heap: zelamiku_heap_open_on returns DEVICE, with the cause. Later, DEVICE doesn't end the
- * heap: the next thread that waits for a round makes the failed call again, and so does the helper, each second; the other calls follow in
- * order. LOST ends the heap; what was durable before stays.
+ * heap: the failed call is made again, as the top of this header says, and then the others, in order. LOST ends it.
  *
  * Threads. `read` and `size` are called by the thread that opens the heap; `write` and `sync` by that thread, and later by any thread that waits
  * for a round, closes or stops the heap, or by the helper. Two calls never overlap. None comes after the heap's close, stop or abandon has
