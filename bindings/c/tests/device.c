@@ -290,6 +290,13 @@ static void refusals(void) {
     held.now[100000] = 1;
     refuses(ZELAMIKU_NOT_FORMATTED, &PLAN, "it has no heap, and isn't empty");
     held.now[100000] = 0;
+    /* And so is one that no making writes there: in the header, a slot, a guard row, a cell. */
+    static const size_t NOT_OF_A_MAKING[] = {13, 79, 1120, 2165, 2160 + 16 * 4 + 6};
+    for (size_t i = 0; i < sizeof NOT_OF_A_MAKING / sizeof *NOT_OF_A_MAKING; i++) {
+        held.now[NOT_OF_A_MAKING[i]] = 0x5a;
+        refuses(ZELAMIKU_NOT_FORMATTED, &PLAN, "it has no heap, and isn't empty");
+        held.now[NOT_OF_A_MAKING[i]] = 0;
+    }
     held.now[SIZE - 1] = 1;
     begin();
     close_heap();
