@@ -33,7 +33,7 @@
  *
  * Rules. Use a thread's handle in one call at a time, except in calls whose comment says "any thread may". Make no call from a signal handler,
  * and cancel no thread inside a call. Handles are numbers: they may be copied, kept, and handed to other threads. A process uses one copy of the
- * library. A thread that opens, closes or stops a heap needs 256 kB of stack, one that copies it 64 kB, and any other one 32 kB.
+ * library. A thread that opens, closes or stops a heap needs 512 kB of stack, one that copies it 64 kB, and any other one 32 kB.
  *
  * This is C over the proved library. Nothing proves it; docs/TESTED.md says how it is tested. */
 #ifndef ZELAMIKU_H

@@ -212,19 +212,19 @@ class Disk:
 
 
 class Guest:
-    """A machine whose disk is cutdisk's. It runs the lines that it is sent. With a port of this machine, it serves by that."""
+    """A machine whose disk is cutdisk's. It runs the lines that it is sent."""
 
-    def __init__(self, parts, disk, kind, memory, port, *words):
+    def __init__(self, parts, disk, kind, memory, *words):
         self.disk, path = disk, free(f"{parts.folder}/control")
         with socket.socket(socket.AF_UNIX) as door:
             door.bind(path)
             door.listen(1)
             door.settimeout(120)
-            self.running = subprocess.Popen([*self.words(parts, kind, memory, path, port), *words], stdin=subprocess.DEVNULL)
+            self.running = subprocess.Popen([*self.words(parts, kind, memory, path), *words], stdin=subprocess.DEVNULL)
             self.port, _ = door.accept()
         self.lines = Lines(self.port)
 
-    def words(self, parts, kind, memory, control, port):
+    def words(self, parts, kind, memory, control):
         # A second processor, or a newer one, costs more in translation than it gives.
         processor = "-accel kvm -cpu host -smp 2" if parts.has_kvm else "-accel tcg,tb-size=256 -cpu Nehalem -smp 1"
         device = {
@@ -233,10 +233,7 @@ class Guest:
             "scsi": "-device virtio-scsi-pci -device scsi-hd,drive=disk,dpofua=on",
         }
         # Where the heap's host is here, it tells the disk itself.
-        told, network = f"socket,id=t,path={self.disk.told_by}", []
-        if port:
-            told = "null,id=t"
-            network = ["-netdev", f"user,id=n,restrict=on,hostfwd=tcp:127.0.0.1:{port}-:10809", "-device", "virtio-net-pci,netdev=n,romfile="]
+        told = f"socket,id=t,path={self.disk.told_by}"
         return [
             *f"qemu-system-x86_64 -M q35 {processor} -m {memory} -nodefaults -no-user-config -display none -no-reboot".split(),
             *["-kernel", parts.kernel, "-initrd", parts.initramfs, "-serial", f"file:{parts.folder}/console"],
@@ -244,7 +241,7 @@ class Guest:
             *["-append", "console=ttyS0 quiet panic=-1 mitigations=off nokaslr norandmaps no_timer_check cryptomgr.notests"],
             *["-drive", f"file=nbd:unix:{self.disk.socket},format=raw,{ATTACHED}", *device[kind].split()],
             *["-chardev", f"socket,id=c,path={control}", "-chardev", told, "-device", "virtio-serial-pci"],
-            *["-device", "virtserialport,chardev=c,name=control", "-device", "virtserialport,chardev=t,name=told", *network],
+            *["-device", "virtserialport,chardev=c,name=control", "-device", "virtserialport,chardev=t,name=told"],
         ]
 
     def line(self, seconds, asked="its start"):
@@ -349,10 +346,10 @@ class Parts:
         self.leases = f"env {' '.join(f'{name}={value}' for name, value in variables.items())} {python} -S {HERE}/leases.py"
         return sorted({python, f"{LIBRARY}/libzelamiku.so.0", f"{sysconfig.get_path('stdlib')}/os.py", *listed})
 
-    def guest(self, disk, kind, system, memory, port):
+    def guest(self, disk, kind, system, memory):
         """A machine that was just switched on. It goes on from one that was saved before it had loaded its disk's driver."""
-        words = disk, kind, memory, port
-        saved = f"{self.folder}/machine-{kind}-{memory}{'-network' if port else ''}"
+        words = disk, kind, memory
+        saved = f"{self.folder}/machine-{kind}-{memory}"
         for tries_left in (2, 1, 0):
             if not os.path.exists(saved):
                 self.save(words, saved, tries_left)

@@ -126,10 +126,10 @@ static void on_stack_of(size_t kilobytes, void *(*what)(void *)) {
 /* As much stack as zelamiku.h says is enough: for a heap that is made, and for one that is recovered. */
 static void small_stacks(void) {
     for (int opened = 0; opened < 2; opened++) {
-        on_stack_of(256, open_small);
+        on_stack_of(512, open_small);
         on_stack_of(32, add_small);
         on_stack_of(64, copy_small);
-        on_stack_of(256, close_small);
+        on_stack_of(512, close_small);
     }
 }
 
