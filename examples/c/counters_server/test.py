@@ -256,6 +256,7 @@ def rude(tried):
     server = Server(program, f"{tried.work}/rude", 3)
     witness, half, reader = Client(server), server.connect(), server.connect()
     half.sendall(request("INCR", "k:0")[:-3])
+    must(told_by(server, b"") == b"-ERR max number of clients reached\r\n", "a client too many")
     reader.settimeout(0.2)
     sent = 0
     try:
@@ -264,7 +265,6 @@ def rude(tried):
     except TimeoutError:
         pass
     must(sent < 1 << 26, "a client that doesn't read is read without an end")
-    must(told_by(server, b"") == b"-ERR max number of clients reached\r\n", "a client too many")
     must(witness.ask("INCR", "k:1") == ":1", "the witness")
     for _ in range(PATIENCE * 10):
         if told_by(server, request("GET", "k:0")) == b"$1\r\n0\r\n":
