@@ -1,23 +1,14 @@
 //! Futures of durability: many on one lane, cancelled ones, and those that see the end of their session or their heap.
-use patience::until;
-use scratch::Scratch;
-use std::future::Future;
+use common::{block_on, count, counters, run, until, Scratch};
 use std::pin::Pin;
+use std::future::Future;
 use std::sync::atomic::{AtomicUsize, Ordering::SeqCst};
 use std::sync::Arc;
 use std::task::{Context, Poll, Wake, Waker};
 use std::time::Duration;
-use tasks::{block_on, run};
-use zelamiku::service::{Durable, ErrorKind, Heap, Options, Session};
-use zelamiku::{Field, Object};
+use zelamiku::{Durable, ErrorKind, Field, Heap, Object};
 
-mod patience;
-mod scratch;
-mod tasks;
-
-fn counters(lanes: u32) -> Options {
-    Heap::options().lanes(lanes).objects(3).field(Field(0), Object(0), 0).field(Field(1), Object(1), 0).field(Field(2), Object(2), 0)
-}
+mod common;
 
 // Counts how often it wakes.
 #[derive(Default)]
@@ -37,14 +28,6 @@ fn nobody() -> Waker {
 fn poll(durable: &mut Durable, waker: &Waker) -> Poll<Result<(), ErrorKind>> {
     let answer = Pin::new(durable).poll(&mut Context::from_waker(waker));
     answer.map(|answer| answer.map_err(|error| error.kind()))
-}
-
-fn count(session: &mut Session, number: u32) {
-    let counted = session.synchronized(Object(number), |s| {
-        let count = s.load(Field(number))?;
-        s.store(Field(number), count + 1)
-    });
-    counted.unwrap();
 }
 
 // Does the work while a section is open on which all depends that is done under object 0.
@@ -95,10 +78,7 @@ fn futures_of_all_lanes_are_awaited_by_another_thread() {
         drop(send);
         let durables: Vec<_> = receive.into_iter().collect();
         assert_eq!(durables.len(), 1_600);
-        run(durables.into_iter().map(|durable| {
-            let task = async { durable.await.unwrap() };
-            Box::pin(task) as Pin<Box<dyn Future<Output = ()> + Send>>
-        }));
+        run(durables.into_iter().map(|durable| Box::pin(async { durable.await.unwrap() }) as common::Boxed));
     });
     assert_eq!(heap.stats().unwrap().sections, 1_600);
 }

@@ -1,10 +1,9 @@
 //! A section that fails is taken back, and ends as one that has stored nothing: by its work's error or panic, or by a guard that is dropped.
-use scratch::Scratch;
+use common::Scratch;
 use std::panic::{catch_unwind, resume_unwind, AssertUnwindSafe};
-use zelamiku::service::{Error, ErrorKind, Heap, Held, Options, Session};
-use zelamiku::{Field, Object, Pool, Refusal};
+use zelamiku::{Error, ErrorKind, Field, Heap, Held, Object, Options, Pool, Refusal, Session};
 
-mod scratch;
+mod common;
 
 #[derive(Clone, Copy)]
 struct Account {
@@ -121,26 +120,6 @@ fn a_transfer_that_fails_in_the_middle_changes_nothing() {
     }
 }
 
-#[test]
-fn an_error_of_a_nested_work_takes_back_the_whole_section() {
-    let scratch = Scratch::new("nested");
-    let heap = accounts().open(&scratch).unwrap();
-    let mut session = heap.session().unwrap();
-    let failed = session.synchronized(ALICE.object, |outer| {
-        outer.store(ALICE.balance, 1)?;
-        outer.store(ALICE.balance, 2)?;
-        outer.synchronized(BOB.object, |inner| {
-            inner.store(BOB.balance, 3)?;
-            inner.synchronized(ALICE.object, |again| again.store(ALICE.balance, 4))?;
-            fail(inner)
-        })
-    });
-    assert_eq!(failed.unwrap_err().refusal(), Some(Refusal::UnknownField));
-    assert_eq!(values(&mut session), [90, 110, 0]);
-    drop((session, heap));
-    assert_eq!(found_again(&scratch), [90, 110, 0]);
-}
-
 fn is_reverted<T>(answer: Result<T, Error>) -> bool {
     answer.is_err_and(|error| error.kind() == ErrorKind::Reverted)
 }
@@ -219,27 +198,6 @@ fn a_revert_of_a_guard_takes_back_what_was_stored_and_the_section_goes_on() {
     outer.exit().unwrap();
     assert_eq!(session.sections(), 1);
     assert_eq!(values(&mut session), [4, 110, 0]);
-}
-
-#[test]
-fn slots_of_a_pool_are_taken_back() {
-    let scratch = Scratch::new("slots");
-    let heap = accounts().open(&scratch).unwrap();
-    let mut session = heap.session().unwrap();
-    let first = session.synchronized(ALICE.object, |s| s.take(SLOTS)).unwrap().unwrap();
-    let failed = session.synchronized(ALICE.object, |s| {
-        s.give(SLOTS, first)?;
-        while s.take(SLOTS)?.is_some() {}
-        fail(s)
-    });
-    assert!(failed.is_err());
-    let mut guard = session.enter(ALICE.object).unwrap();
-    let mut taken = vec![first];
-    while let Some(slot) = guard.take(SLOTS).unwrap() {
-        taken.push(slot);
-    }
-    taken.sort_unstable();
-    assert_eq!(taken, [0, 1, 2, 3]);
 }
 
 #[test]
@@ -461,33 +419,4 @@ fn all_monitors_are_taken_in_one_order_each_once() {
         }
     });
     assert_eq!(heap.session().unwrap().synchronized(Object(0), |s| s.load(Field(0))).unwrap(), 2_000);
-}
-
-// How many fields a section may store, each `times` times, until it is full.
-fn fields_of_a_section(reverts: bool, times: u64) -> u32 {
-    let scratch = Scratch::new(&format!("room-{reverts}-{times}"));
-    let options = Heap::options().lanes(1).objects(1).fields(2_000, Object(0), 7).reverts(reverts);
-    let heap = options.open(&scratch).unwrap();
-    let mut session = heap.session().unwrap();
-    let mut stored = 0;
-    let full = session.synchronized(Object(0), |s| -> Result<(), Error> {
-        loop {
-            for value in 0..times {
-                s.store(Field(stored), value)?;
-            }
-            stored += 1;
-        }
-    });
-    assert_eq!(full.unwrap_err().refusal(), Some(Refusal::SectionFull));
-    let is_back = |s: &mut Held<'_>| (0..2_000).try_fold(true, |is, field| Ok::<_, Error>(is && s.load(Field(field))? == 7));
-    assert_eq!(session.synchronized(Object(0), is_back).is_ok_and(|is| is), reverts);
-    stored
-}
-
-#[test]
-fn a_section_keeps_room_for_what_takes_it_back() {
-    // 1,000 records but for the monitor's two; each field's value before is one more, once.
-    assert_eq!(fields_of_a_section(false, 1), 998);
-    assert_eq!(fields_of_a_section(true, 1), 499);
-    assert_eq!(fields_of_a_section(true, 9), 99);
 }

@@ -1,73 +1,14 @@
-//! Futures of durability on a device that fails or hangs, and the thread that wakes them.
-use patience::until;
-use scratch::Scratch;
+//! A device that fails or hangs: what futures are told, the thread that wakes them, and guards that are dropped after the heap's end.
+use common::{block_on, count, counters, run, until, value, Boxed, Scratch};
+use faulty::{alone, SYNCS_FAIL, SYNCS_HANG, WRITES_FAIL};
 use std::error::Error as _;
-use std::ffi::c_void;
-use std::future::Future;
-use std::pin::Pin;
-use std::sync::atomic::{AtomicBool, AtomicUsize, Ordering::SeqCst};
-use std::sync::{Arc, Mutex, PoisonError};
-use std::time::Duration;
-use tasks::{block_on, run};
-use zelamiku::service::{Durable, Error, ErrorKind, Heap, Options, Session};
-use zelamiku::{Field, Object};
+use std::sync::atomic::{AtomicUsize, Ordering::SeqCst};
+use std::sync::{Arc, Mutex};
+use std::time::{Duration, Instant};
+use zelamiku::{Durable, Error, ErrorKind, Field, Heap, Object, Session};
 
-mod patience;
-mod scratch;
-mod tasks;
-
-static SYNCS_FAIL: AtomicBool = AtomicBool::new(false);
-static WRITES_FAIL: AtomicBool = AtomicBool::new(false);
-static SYNCS_HANG: AtomicBool = AtomicBool::new(false);
-// A call that fails is the process's.
-static ALONE: Mutex<()> = Mutex::new(());
-
-extern "C" {
-    fn fsync(file: i32) -> i32;
-    fn pwritev(file: i32, parts: *const Part, count: i32, at: i64) -> isize;
-    fn __errno_location() -> *mut i32;
-}
-
-#[repr(C)]
-struct Part {
-    bytes: *const c_void,
-    size: usize,
-}
-
-fn fail(error: i32) -> i32 {
-    // SAFETY: the number is this thread's own.
-    unsafe { *__errno_location() = error };
-    -1
-}
-
-// In the place of the system's, of which the library asks each sync. Where it works it is the stronger one, which nothing here replaces.
-#[no_mangle]
-extern "C" fn fdatasync(file: i32) -> i32 {
-    const EIO: i32 = 5;
-    while SYNCS_HANG.load(SeqCst) {
-        std::thread::sleep(Duration::from_millis(1));
-    }
-    if SYNCS_FAIL.load(SeqCst) {
-        return fail(EIO);
-    }
-    // SAFETY: the call has no pointers.
-    unsafe { fsync(file) }
-}
-
-// The same, of each write.
-#[no_mangle]
-extern "C" fn pwrite(file: i32, bytes: *const c_void, size: usize, at: i64) -> isize {
-    const ENOSPC: i32 = 28;
-    if WRITES_FAIL.load(SeqCst) {
-        return fail(ENOSPC) as isize;
-    }
-    // SAFETY: the bytes are the caller's for this call.
-    unsafe { pwritev(file, &Part { bytes, size }, 1, at) }
-}
-
-fn options() -> Options {
-    Heap::options().lanes(2).objects(3).field(Field(0), Object(0), 5).field(Field(1), Object(1), 5).field(Field(2), Object(2), 5)
-}
+mod common;
+mod faulty;
 
 fn store(session: &mut Session, value: u64) {
     session.synchronized(Object(0), |s| s.store(Field(0), value)).unwrap();
@@ -81,8 +22,6 @@ fn stored(session: &mut Session, count: u64) -> Vec<Durable> {
     });
     stored.collect()
 }
-
-type Boxed = Pin<Box<dyn Future<Output = ()> + Send>>;
 
 // Polled after others it lets syncs go on.
 fn syncs_go_on() -> Boxed {
@@ -110,10 +49,10 @@ fn answers(durables: Vec<Durable>) -> Vec<(Durable, Result<(), Error>)> {
 #[test]
 fn ten_thousand_futures_share_a_lane() {
     const TASKS: u64 = 10_000;
-    let _alone = ALONE.lock().unwrap_or_else(PoisonError::into_inner);
+    let _alone = alone();
     let scratch = Scratch::new("async-many");
     // A lane has room for all of them, and no round comes by itself. The first round ends once each future was polled.
-    let heap = options().lanes(1).ring(65_536).capacity(65_536).linger(Duration::from_secs(3_600)).open(&scratch).unwrap();
+    let heap = counters(1).ring(65_536).capacity(65_536).linger(Duration::from_secs(3_600)).open(&scratch).unwrap();
     let session = Arc::new(Mutex::new(heap.session().unwrap()));
     let done = Arc::new(AtomicUsize::new(0));
     SYNCS_HANG.store(true, SeqCst);
@@ -122,7 +61,7 @@ fn ten_thousand_futures_share_a_lane() {
         let task = async move {
             let (number, durable) = {
                 let mut session = session.lock().unwrap();
-                session.synchronized(Object(0), |s| s.load(Field(0)).and_then(|count| s.store(Field(0), count + 1))).unwrap();
+                count(&mut session, 0);
                 (session.sections(), session.durable_async())
             };
             durable.await.unwrap();
@@ -135,14 +74,14 @@ fn ten_thousand_futures_share_a_lane() {
     assert_eq!(done.load(SeqCst) as u64, TASKS);
     let stats = heap.stats().unwrap();
     assert!(stats.sections == TASKS && stats.rounds < 20, "{stats:?}");
-    assert_eq!(session.lock().unwrap().synchronized(Object(0), |s| s.load(Field(0))).unwrap(), TASKS + 5);
+    assert_eq!(value(&mut session.lock().unwrap(), 0), TASKS + 5);
 }
 
 #[test]
 fn a_sync_that_fails_is_told_to_all_that_wait() {
-    let _alone = ALONE.lock().unwrap_or_else(PoisonError::into_inner);
+    let _alone = alone();
     let scratch = Scratch::new("async-sync");
-    let heap = options().lanes(3).open(&scratch).unwrap();
+    let heap = counters(3).open(&scratch).unwrap();
     let [mut own, mut open, mut other] = [(); 3].map(|()| heap.session().unwrap());
     store(&mut own, 6);
     block_on(own.durable_async()).unwrap();
@@ -169,9 +108,9 @@ fn a_sync_that_fails_is_told_to_all_that_wait() {
 
 #[test]
 fn a_write_that_fails_is_told_and_made_again() {
-    let _alone = ALONE.lock().unwrap_or_else(PoisonError::into_inner);
+    let _alone = alone();
     let scratch = Scratch::new("async-write");
-    let heap = options().open(&scratch).unwrap();
+    let heap = counters(2).open(&scratch).unwrap();
     let mut session = heap.session().unwrap();
     store(&mut session, 6);
     block_on(session.durable_async()).unwrap();
@@ -192,28 +131,20 @@ fn a_write_that_fails_is_told_and_made_again() {
     }
     block_on(late).unwrap();
     assert!(session.is_durable(101));
-    heap.close().unwrap();
-}
-
-#[test]
-fn a_write_that_failed_is_made_again_though_nobody_asks() {
-    let _alone = ALONE.lock().unwrap_or_else(PoisonError::into_inner);
-    let scratch = Scratch::new("async-again");
-    let heap = options().open(&scratch).unwrap();
-    let mut session = heap.session().unwrap();
+    // Also though nobody asks again.
     WRITES_FAIL.store(true, SeqCst);
-    store(&mut session, 6);
+    store(&mut session, 7);
     assert_eq!(block_on(session.durable_async()).unwrap_err().kind(), ErrorKind::Write);
     WRITES_FAIL.store(false, SeqCst);
-    until("the write is made again", || session.is_durable(1));
+    until("the write is made again", || session.is_durable(102));
 }
 
 #[test]
 fn a_stop_that_cant_write_says_what_is_lost() {
-    let _alone = ALONE.lock().unwrap_or_else(PoisonError::into_inner);
+    let _alone = alone();
     for (end, kind) in [(Heap::stop as fn(&Heap) -> _, ErrorKind::Closed), (Heap::abandon, ErrorKind::Abandoned)] {
         let scratch = Scratch::new("async-stop");
-        let heap = options().open(&scratch).unwrap();
+        let heap = counters(2).open(&scratch).unwrap();
         let mut session = heap.session().unwrap();
         store(&mut session, 6);
         session.durable().unwrap();
@@ -229,8 +160,7 @@ fn a_stop_that_cant_write_says_what_is_lost() {
         assert!(later.iter().all(|answer| answer.as_ref().is_err_and(|error| error.kind() == kind)), "{later:?}");
         assert!(session.is_durable(1) && !session.is_durable(2));
         drop((durable, session, heap));
-        let heap = options().open(&scratch).unwrap();
-        assert_eq!(heap.session().unwrap().synchronized(Object(0), |s| s.load(Field(0))).unwrap(), 6);
+        assert_eq!(value(&mut counters(2).open(&scratch).unwrap().session().unwrap(), 0), 6);
     }
 }
 
@@ -242,9 +172,9 @@ fn threads_that_wake() -> usize {
 
 #[test]
 fn one_thread_wakes_all_of_a_heap_and_ends_with_it() {
-    let _alone = ALONE.lock().unwrap_or_else(PoisonError::into_inner);
+    let _alone = alone();
     let (one, other) = (Scratch::new("async-thread"), Scratch::new("async-threads"));
-    let heaps = [options().open(&one).unwrap(), options().open(&other).unwrap()];
+    let heaps = [counters(2).open(&one).unwrap(), counters(2).open(&other).unwrap()];
     // Those of other tests may be about to end.
     until("no thread wakes", || threads_that_wake() == 0);
     for heap in &heaps {
@@ -264,5 +194,120 @@ fn one_thread_wakes_all_of_a_heap_and_ends_with_it() {
     for (at, heap) in heaps.into_iter().enumerate() {
         drop(heap);
         until("the heap's thread has ended", || threads_that_wake() == 1 - at);
+    }
+}
+
+// Of a heap whose sync fails while another session waits for it.
+fn lose(heap: &Heap) {
+    SYNCS_FAIL.store(true, SeqCst);
+    let mut other = heap.session().unwrap();
+    other.synchronized(Object(2), |s| s.store(Field(2), 7)).unwrap();
+    assert_eq!(other.durable().unwrap_err().kind(), ErrorKind::Lost);
+    SYNCS_FAIL.store(false, SeqCst);
+}
+
+// The heap ends while the guards of a section are held, which are dropped then.
+fn is_told(scratch: &Scratch, end: fn(&Heap), kind: ErrorKind, work: fn(&mut Session, &dyn Fn())) {
+    let heap = counters(2).open(scratch).unwrap();
+    let mut session = heap.session().unwrap();
+    store(&mut session, 6);
+    session.durable().unwrap();
+    work(&mut session, &|| end(&heap));
+    for _ in 0..2 {
+        assert_eq!(session.durable().unwrap_err().kind(), kind);
+        assert_eq!(session.durable_by(Instant::now()).unwrap_err().kind(), kind);
+    }
+    assert_eq!(session.enter(Object(0)).unwrap_err().kind(), kind);
+    assert_eq!(session.durable().unwrap_err().kind(), kind);
+    // What was durable is, and what was lost is no section of the session's.
+    assert_eq!((session.sections(), session.is_durable(1), session.is_durable(2)), (1, true, false));
+    drop((session, heap));
+    let heap = counters(2).open(scratch).unwrap();
+    let mut session = heap.session().unwrap();
+    assert_eq!([0, 1].map(|number| value(&mut session, number)), [6, 5]);
+}
+
+fn one_guard(session: &mut Session, end: &dyn Fn()) {
+    let mut guard = session.enter(Object(0)).unwrap();
+    guard.store(Field(0), 7).unwrap();
+    end();
+}
+
+fn nested_guards(session: &mut Session, end: &dyn Fn()) {
+    let mut outer = session.enter(Object(0)).unwrap();
+    outer.store(Field(0), 7).unwrap();
+    let mut inner = outer.enter(Object(1)).unwrap();
+    inner.store(Field(1), 7).unwrap();
+    end();
+}
+
+fn a_guard_of_which_the_end_is_told(session: &mut Session, end: &dyn Fn()) {
+    let mut guard = session.enter(Object(0)).unwrap();
+    guard.store(Field(0), 7).unwrap();
+    end();
+    assert!(guard.store(Field(0), 8).unwrap_err().kind().is_final());
+    assert!(guard.load(Field(0)).unwrap_err().kind().is_final());
+}
+
+fn an_exit_that_is_refused(session: &mut Session, end: &dyn Fn()) {
+    let mut guard = session.enter(Object(0)).unwrap();
+    guard.store(Field(0), 7).unwrap();
+    end();
+    assert!(guard.exit().unwrap_err().kind().is_final());
+}
+
+fn a_work_that_ends_well(session: &mut Session, end: &dyn Fn()) {
+    let worked = session.synchronized(Object(0), |s| {
+        s.store(Field(0), 7)?;
+        end();
+        Ok::<_, Error>(())
+    });
+    assert!(worked.unwrap_err().kind().is_final());
+}
+
+fn a_work_that_fails(session: &mut Session, end: &dyn Fn()) {
+    let worked = session.synchronized(Object(0), |s| {
+        s.store(Field(0), 7)?;
+        let error = s.load(Field(9)).unwrap_err();
+        end();
+        Err::<(), _>(error)
+    });
+    // Nothing of it stays, so the error is the work's own.
+    assert_eq!(worked.unwrap_err().kind(), ErrorKind::Refused);
+}
+
+fn a_work_that_panics(session: &mut Session, end: &dyn Fn()) {
+    let work = std::panic::AssertUnwindSafe(|| {
+        session.synchronized(Object(0), |s| {
+            s.store(Field(0), 7)?;
+            end();
+            std::panic::resume_unwind(Box::new("of this test"))
+        })
+    });
+    let worked: std::thread::Result<Result<(), Error>> = std::panic::catch_unwind(work);
+    assert!(worked.is_err());
+}
+
+#[test]
+fn a_section_whose_guard_was_dropped_at_the_heaps_end_is_told_as_lost() {
+    let _alone = alone();
+    let works = [
+        one_guard,
+        nested_guards,
+        a_guard_of_which_the_end_is_told,
+        an_exit_that_is_refused,
+        a_work_that_ends_well,
+        a_work_that_fails,
+        a_work_that_panics,
+    ];
+    for work in works {
+        let ends: [(fn(&Heap), _); 3] = [
+            (|heap| heap.stop().unwrap(), ErrorKind::Closed),
+            (|heap| heap.abandon().unwrap(), ErrorKind::Abandoned),
+            (lose, ErrorKind::Lost),
+        ];
+        for (end, kind) in ends {
+            is_told(&Scratch::new("guard-dropped"), end, kind, work);
+        }
     }
 }
