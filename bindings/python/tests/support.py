@@ -15,7 +15,7 @@ from typing import Any
 
 import zelamiku
 
-# Seconds: a test that hangs tells where, and ends. A machine may be slow, or lose its processors for a while.
+# Seconds: a test that hangs prints where, and ends. A machine may be slow, or lose its processors for a while.
 PATIENCE = 240
 # What such a test waits for at most.
 LONG = PATIENCE / 2
@@ -46,7 +46,10 @@ class OnFile(unittest.TestCase):
         faulthandler.dump_traceback_later(PATIENCE, exit=True)
 
     def open(self, **declared: Any) -> zelamiku.Heap:
-        return zelamiku.open(self.path, **(declared or {"alice": Account, "bob": Account}))
+        """A heap with alice and bob, unless these words declare other objects."""
+        if not any(isinstance(each, (type, list)) for each in declared.values()):
+            declared = {"alice": Account, "bob": Account, **declared}
+        return zelamiku.open(self.path, **declared)
 
     def values(self, heap: zelamiku.Heap) -> list[int]:
         """The balances of alice and bob."""
@@ -54,25 +57,48 @@ class OnFile(unittest.TestCase):
             return [heap.alice.balance, heap.bob.balance]
 
 
+def outcome(work: Callable[[], Any]) -> Any:
+    """What the work returns, or the exception that has ended it."""
+    try:
+        return work()
+    except BaseException as error:
+        return error
+
+
+@contextlib.contextmanager
+def beside(*works: Callable[[], Any]) -> Iterator[list[Any]]:
+    """Does each work in a thread of its own, which has ended when the block has. The list gets their outcomes."""
+    outcomes: list[Any] = []
+    threads = [threading.Thread(target=lambda work=work: outcomes.append(outcome(work))) for work in works]
+    for thread in threads:
+        thread.start()
+    try:
+        yield outcomes
+    finally:
+        for thread in threads:
+            thread.join()
+
+
+def in_threads(*works: Callable[[], Any]) -> list[Any]:
+    """The outcomes of works that run beside each other."""
+    with beside(*works) as outcomes:
+        pass
+    return outcomes
+
+
 def in_thread(work: Callable[[], Any]) -> Any:
-    """What the work answers in a thread of its own; or the exception that has ended it."""
-    answers: list[Any] = []
+    return in_threads(work)[0]
 
-    def run() -> None:
-        try:
-            answers.append(work())
-        except BaseException as error:
-            answers.append(error)
 
-    thread = threading.Thread(target=run)
-    thread.start()
-    thread.join()
-    return answers[0]
+def enter(section: AbstractContextManager[Any]) -> None:
+    """Enters the section and leaves it."""
+    with section:
+        pass
 
 
 @contextlib.contextmanager
 def held_elsewhere(section: AbstractContextManager[Any]) -> Iterator[Callable[[], None]]:
-    """Another thread is in this section until the block ends, or what it gives is called."""
+    """Another thread is in this section until the block ends, or what it yields is called."""
     entered, release = threading.Event(), threading.Event()
 
     def hold() -> None:
@@ -80,18 +106,12 @@ def held_elsewhere(section: AbstractContextManager[Any]) -> Iterator[Callable[[]
             entered.set()
             release.wait()
 
-    thread = threading.Thread(target=in_thread, args=(hold,))
-    thread.start()
-    entered.wait()
-
-    def let_go() -> None:
-        release.set()
-        thread.join()
-
-    try:
-        yield let_go
-    finally:
-        let_go()
+    with beside(hold):
+        entered.wait()
+        try:
+            yield release.set
+        finally:
+            release.set()
 
 
 @contextlib.contextmanager
@@ -104,5 +124,6 @@ def bob_in_alice(heap: zelamiku.Heap) -> Iterator[None]:
 
 
 def in_process(text: str, *words: str, **how: Any) -> subprocess.CompletedProcess[str]:
-    """Runs a program's text with these words in a process of its own."""
+    """Runs a program's text, with alice's and bob's class before it, in a process of its own."""
+    text = "import os, sys, zelamiku\nclass Account(zelamiku.Object):\n    balance = zelamiku.Field(first=100)\n" + text
     return subprocess.run([sys.executable, "-c", text, *words], capture_output=True, text=True, timeout=PATIENCE, check=False, **how)

@@ -9,21 +9,20 @@ from pathlib import Path
 from support import OnFile, in_process
 
 CASE = """
-import asyncio, errno, os, sys, zelamiku
+import asyncio, errno
 from pathlib import Path
-class Account(zelamiku.Object):
-    balance = zelamiku.Field(first=100)
 heap = zelamiku.open(sys.argv[1], alice=Account, bob=Account)
 fault = {what: Path(os.environ["FAULTS"] + "." + what) for what in ("sync", "write")}
 def pay(amount):
     with heap.synchronized(heap.alice):
         heap.alice.balance += amount
-def caught(call):
-    try:
-        return call()
-    except zelamiku.Error as error:
-        cause = error.__cause__ or error.__context__
-        return type(error).__name__, errno.errorcode[cause.errno] if isinstance(cause, OSError) else None
+def show(*calls):
+    for call in calls:
+        try:
+            print(call())
+        except zelamiku.Error as error:
+            cause = error.__cause__ or error.__context__
+            print(type(error).__name__, errno.errorcode[cause.errno] if isinstance(cause, OSError) else None)
 pay(1)
 heap.durable()
 """
@@ -31,34 +30,29 @@ heap.durable()
 WRITES = """
 fault["write"].touch()
 pay(10)
-print(caught(heap.durable), caught(heap.durable), caught(lambda: asyncio.run(heap.durable_async())), caught(heap.close))
+show(heap.durable, heap.durable, lambda: asyncio.run(heap.durable_async()), heap.close)
 fault["write"].unlink()
-print(heap.durable(), heap.stats().troubles > 0)
-heap.close()
+show(heap.durable, lambda: heap.stats().troubles > 0, heap.close)
 """
 
 STOPS = """
 fault["write"].touch()
 pay(10)
-print(caught(getattr(heap, sys.argv[2])), caught(heap.durable), caught(lambda: pay(1)), heap.close())
-fault["write"].unlink()
+show(getattr(heap, sys.argv[2]), heap.durable, lambda: pay(1), heap.close)
 """
 
 SYNCS = """
 fault["sync"].touch()
 pay(10)
-print(caught(heap.durable), caught(lambda: asyncio.run(heap.durable_async())), caught(lambda: pay(1)), caught(heap.close))
-heap.close()
-fault["sync"].unlink()
+show(heap.durable, lambda: asyncio.run(heap.durable_async()), lambda: pay(1), heap.close, heap.close)
 """
 
 COPIES = """
 for what in ("write", "sync"):
     fault[what].touch()
-    print(caught(lambda: heap.copy_to(sys.argv[1] + ".copy")), end=" ")
+    show(lambda: heap.copy_to(sys.argv[1] + ".copy"))
     fault[what].unlink()
-print(heap.copy_to(sys.argv[1] + ".copy"))
-heap.close()
+show(lambda: heap.copy_to(sys.argv[1] + ".copy"), heap.close)
 """
 
 
@@ -72,34 +66,24 @@ class Faults(OnFile):
         source = str(Path(__file__).with_name("faults.c"))
         subprocess.run(["cc", "-Wall", "-Wextra", "-shared", "-fPIC", source, "-o", cls.faults, "-ldl"], check=True)
 
-    def told(self, case: str, *words: str) -> str:
-        how = {**os.environ, "LD_PRELOAD": self.faults, "FAULTS": str(self.folder / "fault")}
-        told = in_process(CASE + case, self.path, *words, env=how)
-        self.assertEqual((told.returncode, told.stderr), (0, ""))
-        return told.stdout
-
-    def test_a_write_that_fails_is_made_again(self):
-        failed = ("WriteFailed", "ENOSPC")
-        self.assertEqual(self.told(WRITES), f"{failed} {failed} {failed} {failed}\nTrue True\n")
-        with self.open() as heap:
-            self.assertEqual(self.values(heap), [111, 100])
-
-    def test_a_stop_whose_write_fails_is_the_end(self):
-        failed = ("SyncFailed", "ENOSPC")
-        for end, later in (("stop", ("Closed", None)), ("abandon", ("Abandoned", None))):
-            self.assertEqual(self.told(STOPS, end), f"{failed} {later} {later} None\n")
-            with self.open() as heap:
-                self.assertEqual(self.values(heap), [101, 100])
-            os.remove(self.path)
-
-    def test_a_sync_that_fails_is_the_end(self):
-        failed = ("SyncFailed", "EIO")
-        self.assertEqual(self.told(SYNCS), f"{failed} {failed} {failed} {failed}\n")
-        with self.open() as heap:
-            self.assertIn(self.values(heap), ([101, 100], [111, 100]))
-
-    def test_a_copy_that_fails_is_told(self):
-        self.assertEqual(self.told(COPIES), f"{('CopyFailed', 'ENOSPC')} {('CopyFailed', 'EIO')} None\n")
+    def test_what_fails_is_reported_with_the_systems_number(self):
+        write, sync = "WriteFailed ENOSPC", "SyncFailed EIO"
+        # A write that fails is made again; one of a stop is the end, and so is a sync.
+        cases = [
+            (WRITES, "", [write] * 4 + ["True", "True", "None"], [[111, 100]]),
+            (STOPS, "stop", ["SyncFailed ENOSPC", "Closed None", "Closed None", "None"], [[101, 100]]),
+            (STOPS, "abandon", ["SyncFailed ENOSPC", "Abandoned None", "Abandoned None", "None"], [[101, 100]]),
+            (SYNCS, "", [sync] * 4 + ["None"], [[101, 100], [111, 100]]),
+            (COPIES, "", ["CopyFailed ENOSPC", "CopyFailed EIO", "None", "None"], [[101, 100]]),
+        ]
+        for number, (case, word, lines, balances) in enumerate(cases):
+            with self.subTest(case + word):
+                self.path = str(self.folder / f"{number}.heap")
+                how = {**os.environ, "LD_PRELOAD": self.faults, "FAULTS": f"{self.path}.fault"}
+                ran = in_process(CASE + case, self.path, word, env=how)
+                self.assertEqual((ran.returncode, ran.stderr, ran.stdout.splitlines()), (0, "", lines))
+                with self.open() as heap:
+                    self.assertIn(self.values(heap), balances)
 
 
 if __name__ == "__main__":

@@ -64,10 +64,9 @@ class Words(OnFile):
             heap.seats.slots.take()
 
     def run_with(self, *words):
-        told = subprocess.run(
-            [sys.executable, "-B", "-m", "zelamiku", *words], cwd=self.folder, capture_output=True, text=True, timeout=PATIENCE, check=False
-        )
-        return told.returncode, told.stdout, told.stderr
+        command = [sys.executable, "-B", "-m", "zelamiku", *words]
+        ran = subprocess.run(command, cwd=self.folder, capture_output=True, text=True, timeout=PATIENCE, check=False)
+        return ran.returncode, ran.stdout, ran.stderr
 
     def refused(self, text, *words):
         before = sorted(os.listdir(self.folder))

@@ -1,17 +1,17 @@
-"""A server of named leases with fencing tokens, over HTTP. No crash loses what it has answered.
+"""A server of named leases with fencing tokens, over HTTP. It replies once no crash can lose what it has done.
 
     python3 examples/python/leases FILE [--port PORT] [--existing]
 
     curl -X POST   'localhost:8000/leases/nightly?holder=7&seconds=30'    acquires: 200 with the token; 409 while another holder has it
-    curl -X PUT    'localhost:8000/leases/nightly?token=1&seconds=30'     renews: 200; 404 where that token doesn't hold it
+    curl -X PUT    'localhost:8000/leases/nightly?token=1&seconds=30'     renews: 200; 404 if that token doesn't hold it
     curl -X DELETE 'localhost:8000/leases/nightly?token=1'                releases: 200, 404
     curl           'localhost:8000/leases'                                all that are held
 
-A holder is a number of 64 bits that the client chooses. A client that got no answer, since the server was killed, asks again with the same
-number, and is answered the token that it has. 400 tells what is wrong with a request, 503 that it may be made again later.
+A holder is a number of 64 bits that the client chooses. A client that got no reply, because the server was killed, asks again with the same
+number, and gets the same token. 400 says what is wrong with a request; after 503 it may be made again later.
 
-With --existing the file has to have leases already. Start it so from the second time on: on a volume that isn't mounted a new file would
-begin with token 1 again, and whoever compares tokens would take an old holder for the last one.
+With --existing the file must have leases already. Use it from the second start on: if the file's volume isn't mounted, a new file would begin
+with token 1 again, and an old holder would pass for the last one.
 """
 from __future__ import annotations
 
@@ -36,7 +36,7 @@ MOST_SECONDS = 86_400
 
 
 class Server(ThreadingMixIn, HTTPServer):
-    """Answers requests by so many threads."""
+    """Handles requests by so many threads."""
 
     request_queue_size = 128
 
@@ -57,47 +57,37 @@ class Handler(BaseHTTPRequestHandler):
     server: Server
 
     def do_POST(self) -> None:
-        self._answer(lambda: self._held_or(HTTPStatus.CONFLICT, self._leases.acquire(self._name(), self._number("holder"), self._seconds())))
+        self._reply(lambda: _lease_or(HTTPStatus.CONFLICT, self.server.leases.acquire(self._name(), self._number("holder"), self._seconds())))
 
     def do_PUT(self) -> None:
-        self._answer(lambda: self._held_or(HTTPStatus.NOT_FOUND, self._leases.renew(self._name(), self._number("token"), self._seconds())))
+        self._reply(lambda: _lease_or(HTTPStatus.NOT_FOUND, self.server.leases.renew(self._name(), self._number("token"), self._seconds())))
 
     def do_DELETE(self) -> None:
         def release():
-            is_released = self._leases.release(self._name(), self._number("token"))
-            return (HTTPStatus.OK if is_released else HTTPStatus.NOT_FOUND), {}
+            return HTTPStatus.OK if self.server.leases.release(self._name(), self._number("token")) else HTTPStatus.NOT_FOUND, {}
 
-        self._answer(release)
+        self._reply(release)
 
     def do_GET(self) -> None:
-        self._answer(lambda: (HTTPStatus.OK, [dataclasses.asdict(lease) for lease in self._leases.all()]))
+        self._reply(lambda: (HTTPStatus.OK, [dataclasses.asdict(lease) for lease in self.server.leases.all()]))
 
-    def _answer(self, work) -> None:
+    def _reply(self, work) -> None:
         try:
             status, content = work()
-            # What is answered may rest on what another thread has done just now, so a refusal waits too.
-            self._leases.durable()
+            # A refusal waits too: it may rest on what another thread has just done.
+            self.server.leases.durable()
         except ValueError as error:
             status, content = HTTPStatus.BAD_REQUEST, {"error": str(error)}
-        except (Full, zelamiku.Refused) as error:
-            status, content = HTTPStatus.SERVICE_UNAVAILABLE, {"error": str(error) or "all leases are held"}
-        except zelamiku.Stopped as error:
+        except (Full, zelamiku.Refused, zelamiku.Stopped) as error:
             status, content = HTTPStatus.SERVICE_UNAVAILABLE, {"error": str(error)}
-            self.server.shutdown()
+            if isinstance(error, zelamiku.Stopped):
+                self.server.shutdown()
         body = json.dumps(content).encode()
         self.send_response(status)
         self.send_header("Content-Type", "application/json")
         self.send_header("Content-Length", str(len(body)))
         self.end_headers()
         self.wfile.write(body)
-
-    @staticmethod
-    def _held_or(otherwise: HTTPStatus, lease: Lease | None):
-        return (HTTPStatus.OK, dataclasses.asdict(lease)) if lease is not None else (otherwise, {})
-
-    @property
-    def _leases(self) -> Leases:
-        return self.server.leases
 
     def _name(self) -> str:
         parts = urlsplit(self.path).path.split("/")
@@ -108,7 +98,7 @@ class Handler(BaseHTTPRequestHandler):
     def _word(self, key: str) -> str:
         words = parse_qs(urlsplit(self.path).query).get(key, [])
         if len(words) != 1:
-            raise ValueError(f"{key}=.. is wanted, once")
+            raise ValueError(f"{key}=.. must be given once")
         return words[0]
 
     def _number(self, key: str) -> int:
@@ -124,18 +114,22 @@ class Handler(BaseHTTPRequestHandler):
         return seconds
 
     def log_message(self, *_: object) -> None:
-        """One line for each request is too much."""
+        """Logs nothing: one line for each request is too much."""
+
+
+def _lease_or(otherwise: HTTPStatus, lease: Lease | None):
+    return (HTTPStatus.OK, dataclasses.asdict(lease)) if lease is not None else (otherwise, {})
 
 
 def main() -> None:
-    words = argparse.ArgumentParser(description="a server of named leases with fencing tokens")
-    words.add_argument("file")
-    words.add_argument("--port", type=int, default=8000)
-    words.add_argument("--existing", action="store_true", help="don't make the file where there is none")
-    told = words.parse_args()
-    with zelamiku.open(told.file, table=Table, lanes=WORKERS + 1, create=not told.existing) as heap:
+    parser = argparse.ArgumentParser(description="a server of named leases with fencing tokens")
+    parser.add_argument("file")
+    parser.add_argument("--port", type=int, default=8000)
+    parser.add_argument("--existing", action="store_true", help="the file must have leases already")
+    words = parser.parse_args()
+    with zelamiku.open(words.file, table=Table, lanes=WORKERS + 1, create=not words.existing) as heap:
         leases = Leases(heap)
-        with Server(told.port, leases) as server:
+        with Server(words.port, leases) as server:
             signal.signal(signal.SIGTERM, lambda *_: threading.Thread(target=server.shutdown).start())
             print(f"http://127.0.0.1:{server.server_port}/leases has {len(leases.all())} leases", flush=True)
             server.serve_forever(poll_interval=0.1)

@@ -1,8 +1,8 @@
 """Named leases with fencing tokens, kept in a heap.
 
-A lease is held by a number of its holder's choice, until it is released or its time is over. Whoever acquires it gets a token. No token is
-given twice, and each is greater than all before it: what a holder writes elsewhere carries it, so that a holder whose time was over is known
-there. All that is kept here survives a crash, but for the clock: a lease that is found has its whole time again.
+A holder, a number that the client chooses, has a lease until it releases it or its time is over, and gets a token. No token is given twice, and
+each is greater than all before it. What a holder writes elsewhere carries the token, and so an old holder is recognized there. A crash loses
+nothing but the clock: after an opening each lease has its whole time again.
 """
 from __future__ import annotations
 
@@ -14,18 +14,18 @@ import zelamiku
 SLOTS = 1_000
 NAME_WORDS = 6
 NAME_BYTES = 8 * NAME_WORDS
-# A section has 1,000 records, and a slot that is given back costs three, and as many where it is taken back.
+# A section has 1,000 records. A slot that it frees costs three, and three more if the section is reverted.
 MOST_SWEPT = 100
 
 
 class Table(zelamiku.Object):
-    """All leases. Each that is held has a slot, and its fields lie at the slot's index."""
+    """All leases. One that is held has a slot, and its fields are at the slot's index."""
 
     last_token = zelamiku.Field()
     slots = zelamiku.Pool(SLOTS)
     name = zelamiku.Array(zelamiku.Field(), SLOTS * NAME_WORDS)
     token = zelamiku.Array(zelamiku.Field(), SLOTS)
-    """0 where the slot is free."""
+    """0 if the slot is free."""
     holder = zelamiku.Array(zelamiku.Field(), SLOTS)
     time = zelamiku.Array(zelamiku.Field(), SLOTS)
     """Nanoseconds for which it is held."""
@@ -46,15 +46,18 @@ class Lease:
 class Full(Exception):
     """All slots are taken."""
 
+    def __str__(self) -> str:
+        return "all leases are held"
+
 
 class Leases:
-    """The leases of a heap. Threads share it. What they are answered is durable once :meth:`durable` has returned."""
+    """The leases of a heap. Threads share it. What a call has done or seen is durable once :meth:`durable` has returned."""
 
     def __init__(self, heap: zelamiku.Heap) -> None:
         self._heap = heap
         self._table: Table = heap.table
-        # Which slot a name has. Whoever holds the table's monitor uses it. A section changes it last: an exception takes back what the section
-        # has stored in the heap, and knows nothing of a dictionary.
+        # The slot of each name, for the thread that has the monitor. A section changes it last: an exception reverts what the section has stored
+        # in the heap, but no dictionary.
         self._slot_of: dict[str, int] = {}
         with heap.synchronized(self._table):
             now = time.monotonic_ns()
@@ -64,7 +67,7 @@ class Leases:
                     self._table.until[slot] = now + self._table.time[slot]
 
     def acquire(self, name: str, holder: int, seconds: float) -> Lease | None:
-        """The lease, where nobody else holds it. A holder that has it already keeps its token, so one that got no answer asks again.
+        """The lease, or None while another holder has it. A holder that has it already keeps its token.
 
         ValueError: the name has no bytes, or more than 48. :class:`Full`.
         """
@@ -89,7 +92,7 @@ class Leases:
             return lease
 
     def renew(self, name: str, token: int, seconds: float) -> Lease | None:
-        """The lease, for so long from now on; None where it isn't held by this token."""
+        """The lease, for so long from now on; None if this token doesn't hold it."""
         with self._heap.synchronized(self._table):
             slot = self._slot_of.get(name)
             if slot is None or self._table.token[slot] != token or not self._is_held(slot):
@@ -97,7 +100,7 @@ class Leases:
             return self._extended(name, slot, seconds)
 
     def release(self, name: str, token: int) -> bool:
-        """Gives the lease back; whether it was held by this token."""
+        """Releases the lease; whether this token held it."""
         with self._heap.synchronized(self._table):
             slot = self._slot_of.get(name)
             if slot is None or self._table.token[slot] != token:
@@ -112,10 +115,10 @@ class Leases:
             return [self._lease(name, slot) for name, slot in self._slot_of.items() if self._is_held(slot)]
 
     def durable(self) -> None:
-        """Sleeps until no crash loses what this thread was answered, and what that came of."""
+        """Sleeps until no crash can lose what this thread has done, and seen."""
         self._heap.durable()
 
-    # ---- what stands below is called while the monitor is held ----
+    # ---- the thread has the monitor ----
 
     def _name(self, slot: int) -> str:
         words = (self._table.name[slot * NAME_WORDS + index] for index in range(NAME_WORDS))
@@ -126,7 +129,7 @@ class Leases:
 
     def _extended(self, name: str, slot: int, seconds: float) -> Lease:
         length = round(seconds * 1e9)
-        # One that is the same costs the log nothing.
+        # A value that stays costs the log nothing.
         if self._table.time[slot] != length:
             self._table.time[slot] = length
         self._table.until[slot] = time.monotonic_ns() + length
@@ -136,7 +139,7 @@ class Leases:
         return Lease(name, self._table.token[slot], (self._table.until[slot] - time.monotonic_ns()) / 1e9)
 
     def _taken(self) -> tuple[int, list[str]]:
-        """A slot, and the names of leases that it has freed for it."""
+        """A slot, and the names of the leases that were freed for it, whose time was over."""
         slot = self._table.slots.take()
         if slot is not None:
             return slot, []

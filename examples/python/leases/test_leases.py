@@ -1,4 +1,4 @@
-"""What the table of leases and the server answer."""
+"""The table of leases, and the server's replies."""
 import http.client
 import itertools
 import json
@@ -18,13 +18,12 @@ sys.path.insert(0, str(HERE))
 import table  # noqa: E402
 from table import MOST_SWEPT, NAME_BYTES, SLOTS, Full, Leases, Table  # noqa: E402
 
-
-# Seconds, in which a server that doesn't hang has answered or ended.
+# Seconds, in which a server that doesn't hang has replied or ended.
 PATIENCE = 240
 
 
 class Clock:
-    """In place of the module `time`: it goes on by what is slept alone, so that it doesn't matter how long a test takes."""
+    """In place of the module `time`: only sleeping moves it, so it doesn't matter how long a test takes."""
 
     def __init__(self) -> None:
         self.now = 1_000_000_000
@@ -55,10 +54,9 @@ class Tables(OnFile):
         with self.open() as heap:
             leases = Leases(heap)
             first = leases.acquire("one", 7, 60)
-            self.assertEqual((first.name, first.token), ("one", 1))
-            self.assertEqual(first.seconds, 60)
+            self.assertEqual((first.name, first.token, first.seconds), ("one", 1, 60))
             self.assertIsNone(leases.acquire("one", 8, 60))
-            # Who asks again has it.
+            # A holder that asks again keeps its token.
             self.assertEqual(leases.acquire("one", 7, 30).token, 1)
             self.assertEqual(leases.acquire("two", 8, 60).token, 2)
             self.assertEqual(sorted(lease.name for lease in leases.all()), ["one", "two"])
@@ -66,24 +64,18 @@ class Tables(OnFile):
                 self.assertIsNone(leases.renew("one", wrong, 60))
                 self.assertFalse(leases.release("one", wrong))
             self.assertEqual(leases.renew("one", 1, 90).token, 1)
-            self.assertIsNone(leases.renew("none", 1, 60))
             self.assertTrue(leases.release("one", 1))
             self.assertFalse(leases.release("one", 1))
             self.assertIsNone(leases.renew("one", 1, 60))
-            self.assertEqual(leases.acquire("one", 7, 60).token, 3)
-
-    def test_one_whose_time_is_over_goes_to_the_next(self):
-        with self.open() as heap:
-            leases = Leases(heap)
-            leases.acquire("one", 7, 0.05)
+            # Its time is over: another holder gets it, by another token.
+            self.assertEqual(leases.acquire("one", 7, 0.05).token, 3)
             self.clock.sleep(0.06)
-            self.assertEqual(leases.all(), [])
-            self.assertIsNone(leases.renew("one", 1, 60))
-            self.assertEqual(leases.acquire("one", 8, 60).token, 2)
-            self.assertIsNone(leases.renew("one", 1, 60))
-            leases.acquire("two", 7, 0.05)
-            self.clock.sleep(0.06)
-            self.assertEqual(leases.acquire("two", 7, 60).token, 4)
+            self.assertIsNone(leases.renew("one", 3, 60))
+            self.assertEqual([lease.name for lease in leases.all()], ["two"])
+            self.assertEqual(leases.acquire("one", 8, 60).token, 4)
+            for name in ("", "x" * (NAME_BYTES + 1), "ä" * 25, "a\0b"):
+                with self.assertRaises(ValueError):
+                    leases.acquire(name, 1, 60)
 
     def test_an_opening_finds_leases_with_their_whole_time(self):
         names = ["a", "ä" * 24, "x" * NAME_BYTES, "a/b c"]
@@ -96,18 +88,9 @@ class Tables(OnFile):
             self.assertEqual({round(lease.seconds, 6) for lease in leases.all()}, {0.2})
         with self.open() as heap:
             leases = Leases(heap)
-            found = {lease.name: lease for lease in leases.all()}
-            self.assertEqual({name: lease.token for name, lease in found.items()}, {name: token for token, name in enumerate(names[1:], 2)})
-            self.assertEqual({lease.seconds for lease in found.values()}, {0.5})
+            found = {lease.name: (lease.token, lease.seconds) for lease in leases.all()}
+            self.assertEqual(found, {name: (token, 0.5) for token, name in enumerate(names[1:], 2)})
             self.assertEqual(leases.acquire("a", 1, 60).token, 5)
-
-    def test_wrong_names(self):
-        with self.open() as heap:
-            leases = Leases(heap)
-            for name in ("", "x" * (NAME_BYTES + 1), "ä" * 25, "a\0b"):
-                with self.assertRaises(ValueError):
-                    leases.acquire(name, 1, 60)
-            self.assertEqual(leases.all(), [])
 
     def test_slots_of_those_whose_time_is_over_are_used_again(self):
         with self.open() as heap:
@@ -121,8 +104,6 @@ class Tables(OnFile):
                 leases.acquire("one more", 1, 60)
             self.assertEqual(len(leases.all()), SLOTS)
             self.assertLess(MOST_SWEPT, SLOTS // 2)
-        with self.open() as heap:
-            self.assertEqual(len(Leases(heap).all()), SLOTS)
 
 
 class Broken(Exception):
@@ -160,51 +141,53 @@ class Reverts(OnFile):
                 self.assertGreaterEqual(number, 1)
                 self.assertNotEqual(leases._slot_of, before)
                 self.assertEqual(Leases(heap)._slot_of, leases._slot_of)
-
-    def test_and_where_slots_of_those_whose_time_is_over_are_freed(self):
-        with self.open() as heap:
-            leases = Leases(heap)
+            # And where slots are freed of those whose time is over.
             for number in range(SLOTS):
-                leases.acquire(f"name {number}", 1, 0.001)
-            self.clock.sleep(0.002)
+                if len(leases._slot_of) < SLOTS:
+                    leases.acquire(f"name {number}", 1, 0.001)
+            self.clock.sleep(61)
             for number in (0, MOST_SWEPT // 2, MOST_SWEPT - 1, MOST_SWEPT, MOST_SWEPT + 7):
                 self.assertTrue(self.broken_at(number, lambda: leases.acquire("one more", 8, 60)))
                 self.assertEqual(len(leases._slot_of), SLOTS)
-                # An opening would find all of them.
-                with heap.synchronized(heap.table):
-                    self.assertEqual([slot for slot in range(SLOTS) if not heap.table.token[slot]], [])
+                self.assertEqual(Leases(heap)._slot_of, leases._slot_of)
+                self.clock.sleep(61)
             self.assertIsNotNone(leases.acquire("one more", 8, 60))
             self.assertEqual(len(leases._slot_of), SLOTS - MOST_SWEPT + 1)
 
 
 class Servers(OnFile):
-    def test_one_of_leases_that_are_there_makes_no_file(self):
-        words = [sys.executable, str(HERE), self.path, "--port", "0", "--existing"]
-        told = subprocess.run(words, capture_output=True, text=True, timeout=PATIENCE, check=False)
-        self.assertEqual((told.returncode, told.stdout), (1, ""))
-        self.assertIn(f"leases: {self.path}: there is no heap", told.stderr)
-        self.assertFalse(Path(self.path).exists())
-        for _ in range(2):
-            # The first one makes it.
-            server = subprocess.Popen(words if Path(self.path).exists() else words[:-1], stdout=subprocess.PIPE, text=True)
-            self.addCleanup(server.communicate)
-            self.assertIn("has 0 leases", server.stdout.readline())
-            server.terminate()
-            self.assertEqual(server.wait(PATIENCE), 0)
-
-    def test_requests(self):
-        server = subprocess.Popen([sys.executable, str(HERE), self.path, "--port", "0"], stdout=subprocess.PIPE, text=True)
+    def started(self, *words: str) -> tuple[subprocess.Popen[str], str]:
+        server = subprocess.Popen([sys.executable, str(HERE), self.path, "--port", "0", *words], stdout=subprocess.PIPE, text=True)
         self.addCleanup(server.communicate)
         self.addCleanup(server.terminate)
-        port = int(server.stdout.readline().split("/")[2].split(":")[1])
+        return server, server.stdout.readline()
+
+    def ended(self, server: subprocess.Popen[str]) -> int:
+        server.terminate()
+        return server.wait(PATIENCE)
+
+    def test_one_of_leases_that_are_there_makes_no_file(self):
+        words = [sys.executable, str(HERE), self.path, "--port", "0", "--existing"]
+        ran = subprocess.run(words, capture_output=True, text=True, timeout=PATIENCE, check=False)
+        self.assertEqual((ran.returncode, ran.stdout), (1, ""))
+        self.assertIn(f"leases: {self.path}: there is no heap", ran.stderr)
+        self.assertFalse(Path(self.path).exists())
+        for more in ((), ("--existing",)):
+            server, line = self.started(*more)
+            self.assertIn("has 0 leases", line)
+            self.assertEqual(self.ended(server), 0)
+
+    def test_requests(self):
+        server, line = self.started()
+        port = int(line.split("/")[2].split(":")[1])
 
         def ask(method, path):
             connection = http.client.HTTPConnection("127.0.0.1", port, timeout=PATIENCE)
             connection.request(method, path)
-            answer = connection.getresponse()
-            told = answer.status, json.loads(answer.read())
+            response = connection.getresponse()
+            reply = response.status, json.loads(response.read())
             connection.close()
-            return told
+            return reply
 
         status, lease = ask("POST", "/leases/a%20b?holder=7&seconds=3600")
         self.assertEqual((status, lease["name"], lease["token"]), (200, "a b", 1))
@@ -212,27 +195,15 @@ class Servers(OnFile):
         self.assertEqual(ask("PUT", "/leases/a%20b?token=1&seconds=3600")[0], 200)
         self.assertEqual(ask("PUT", "/leases/a%20b?token=2&seconds=3600")[0], 404)
         self.assertEqual([lease["name"] for lease in ask("GET", "/leases")[1]], ["a b"])
-        for path in (
-            "/leases/x?holder=7",
-            "/leases/x?seconds=7",
-            "/leases/x?holder=x&seconds=7",
-            "/leases/x?holder=-1&seconds=7",
-            f"/leases/x?holder={2**64}&seconds=7",
-            "/leases/x?holder=7&seconds=0",
-            "/leases/x?holder=7&seconds=nan",
-            "/leases/x?holder=7&holder=8&seconds=7",
-            "/leases/?holder=7&seconds=7",
-            "/leases/x/y?holder=7&seconds=7",
-            "/other/x?holder=7&seconds=7",
-            "/leases/%ff?holder=7&seconds=7",
-        ):
+        wrong = ["x?holder=7", "x?seconds=7", "x?holder=x&seconds=7", "x?holder=-1&seconds=7", f"x?holder={2**64}&seconds=7", "x?holder=7&seconds=0"]
+        wrong += ["x?holder=7&seconds=nan", "x?holder=7&holder=8&seconds=7", "?holder=7&seconds=7", "x/y?holder=7&seconds=7", "%ff?holder=7&seconds=7"]
+        for path in wrong:
             with self.subTest(path=path):
-                status, told = ask("POST", path)
-                self.assertEqual((status, list(told)), (400, ["error"]))
+                status, reply = ask("POST", f"/leases/{path}")
+                self.assertEqual((status, list(reply)), (400, ["error"]))
         self.assertEqual(ask("DELETE", "/leases/a%20b?token=1"), (200, {}))
         self.assertEqual(ask("DELETE", "/leases/a%20b?token=1"), (404, {}))
-        server.terminate()
-        self.assertEqual(server.wait(PATIENCE), 0)
+        self.assertEqual(self.ended(server), 0)
 
 
 if __name__ == "__main__":
