@@ -11,7 +11,7 @@
 set -eu
 program=$(realpath "$1")
 if [ -z "${HAS_NAMESPACE:-}" ]; then
-    lacks() { echo "LEFT OUT: no $1: what a power cut leaves of a heap's name wasn't tried"; exit 0; }
+    lacks() { echo "LEFT OUT: no $1: what a power cut leaves of a heap's name wasn't tried"; exit 77; }
     [ "$(id -u)" -eq 0 ] || lacks root
     for tool in strace mkfs.ext4 losetup unshare; do command -v "$tool" >/dev/null || lacks "$tool"; done
     strace -o /dev/null true 2>/dev/null || lacks "strace of other processes"
@@ -28,7 +28,7 @@ mkfs.ext4 -q -F image
 # With this interval nothing but a sync makes a name durable.
 mount -o loop,commit=900 image disk 2>errors || {
     echo "LEFT OUT: $(cat errors): what a power cut leaves of a heap's name wasn't tried"
-    exit 0
+    exit 77
 }
 tried=0
 

@@ -1,0 +1,240 @@
+# The tests of the host's side, over the library that tools/c-library leaves.
+#
+#     make -k -j2 check           what the gate runs: c cpp rust python examples
+#     make -k c                   the C: its headers, README's program, and tests/NAME.c with the flags of each NAME.FLAGS of TESTS
+#     make device.asan            one of them
+#     make -k tsan                those of threads under ThreadSanitizer, by the functions and by the inlined calls
+#     make helgrind               the counters in C under valgrind, and the same with a race, which has to be reported
+#     make -k KILLS=100 kills     the examples, each killed so often by `kill -9` (8)
+#     make LIBS=FOLDER ..         over the library of another folder
+#
+# Each target is a step, run by tools/step: it prints `passed: NAME`, or what went wrong and `FAILED: NAME`, or `LEFT OUT:` and what isn't there.
+# What a step makes lies in out/host/NAME. How fast the machine is decides nothing; what hasn't ended in MINUTES hangs, and has failed.
+C := bindings/c
+export LIBS ?= $(CURDIR)/crates/zelamiku/out/host
+export OUT ?= $(CURDIR)/out/host
+export KILLS ?= 8
+export MINUTES ?= 15
+export ZELAMIKU_LIBS := $(LIBS)
+export PYTHONPATH := $(CURDIR)/bindings/python
+export PYTHONDONTWRITEBYTECODE := 1
+export CARGO_TARGET_DIR ?= $(OUT)/target
+
+# Each test of C with the flags by which the gate tries it.
+TESTS := altered.plain file.plain pool.plain refused_calls.plain stale.plain threads.plain threads.inline wrong_calls.asan \
+    revert.asan revert.inline revert.tsan event.asan event.tsan places.asan places.tsan device.asan device.tsan
+THREADED := $(foreach it,threads revert event,$(it).tsan $(it).called-tsan) places.tsan device.tsan
+FLAGS.plain := -O2
+FLAGS.inline := -O2 -DINLINE
+FLAGS.asan := -O2 -g -fsanitize=address,undefined
+FLAGS.tsan := -O1 -g -fsanitize=thread -DINLINE
+FLAGS.called-tsan := -O1 -g -fsanitize=thread
+FLAGS.cov := -O0 -g -w --coverage -fprofile-update=atomic -Wl,--wrap=_exit $(OUT)/exits.c
+# Tests that haven't the scheduler's C in them; and words that a program is given behind its folder.
+ALONE := wrong_calls places device
+WORDS.revert.tsan := threads
+WORDS.revert.called-tsan := threads
+WORDS.device.tsan := threads
+WORDS.places.tsan := 3
+COVERED := $(patsubst %,%.cov,$(sort $(basename $(TESTS))) threads.inline revert.inline)
+STEPS := headers readme_c shared other_layout objects names server classes readme_cpp readme_rust cargo unittest leases lanes lease_kills readme_python pip kills nbd
+
+.ONESHELL:
+.SILENT:
+.PHONY: check c cpp rust python examples tsan cov helgrind tests $(TESTS) $(THREADED) $(COVERED) $(STEPS)
+SHELL := tools/step
+.SHELLFLAGS = $@
+
+check: c cpp rust python examples
+c: headers readme_c shared other_layout objects names $(TESTS)
+cpp: classes readme_cpp
+rust: readme_rust cargo
+python: unittest leases lanes lease_kills readme_python pip
+examples: kills server nbd
+tsan: $(THREADED)
+cov: $(COVERED)
+
+$(sort $(TESTS) $(THREADED) $(COVERED)):
+	needs cc
+	own=$(if $(filter $(firstword $(subst ., ,$@)),$(ALONE)),$(C)/zelamiku_threads.c)
+	cc -std=gnu11 -Wall -Wextra -Werror $(if $(findstring inline.cov,$@),-DINLINE) $(FLAGS$(suffix $@)) $(C)/tests/$(firstword $(subst ., ,$@)).c $$own -I $(C) $(LIBS)/libzelamiku.a -pthread -o $$work/program
+	$$work/program $$work/in $(WORDS.$@)
+
+# Each header by itself.
+headers:
+	needs cc
+	needs c++
+	for header in $(C)/*.h; do
+	    for language in c-c99 c-c11 c++-c++11 c++-c++20; do
+	        printf '#ifndef _GNU_SOURCE\n#define _GNU_SOURCE\n#endif\n#include "%s"\nint main(void) { zelamiku_handle h = ZELAMIKU_NONE; return h.is_open; }\n' "$$PWD/$$header" |
+	            c++ "-std=$${language#*-}" -Wall -Wextra -Werror -fsyntax-only -x "$${language%%-*}" -
+	    done
+	done
+
+# README's programs, as they are typed: each makes the heap, then opens it, and goes on where nothing is left to transfer.
+readme_c:
+	needs cc
+	readme c >$$work/readme.c
+	cc -O2 -Wall -Wextra -Werror $$work/readme.c -I $(C) $(LIBS)/libzelamiku.a -pthread -o $$work/program
+	twelve_times $$work/program
+	[ "$$(cat $$work/told)" = "$$balances" ]
+
+readme_cpp:
+	readme cpp >$$work/readme.cpp
+	for cpp in g++ clang++; do
+	    has $$cpp || continue
+	    $$cpp -std=c++17 -O2 $(CPPFLAGS) $$work/readme.cpp -I $(C) $(LIBS)/libzelamiku.a -pthread -o $$work/program
+	    twelve_times $$work/program
+	    [ "$$(cat $$work/told)" = "$$balances" ]
+	done
+CPPFLAGS := -Wall -Wextra -Wpedantic -Wshadow -Wconversion -Werror
+
+# It prints nothing; the program in C, which has the same heap, tells the balances.
+readme_rust: readme_c
+	needs cargo
+	mkdir -p $$work/src
+	readme rust >$$work/src/main.rs
+	grep -q 'session.durable' $$work/src/main.rs
+	printf '[package]\nname = "readme"\nversion = "0.1.0"\nedition = "2021"\n[dependencies]\nzelamiku = { path = "%s/bindings/rust" }\n[workspace]\n' "$$PWD" >$$work/Cargo.toml
+	(cd $$work && cargo build --offline --quiet)
+	twelve_times $(CARGO_TARGET_DIR)/debug/readme
+	[ "$$(cd $$work/in && $(OUT)/readme_c/program)" = "0 100" ]
+
+readme_python:
+	needs_python
+	readme python >$$work/readme.py
+	grep -q 'heap.durable()' $$work/readme.py
+	for balances in "90, 110" "80, 120" "70, 130" "60, 140" "50, 150" "40, 160" "30, 170" "20, 180" "10, 190" "0, 200" "0, 200" "0, 200"; do
+	    (cd $$work/in && python3 ../readme.py && python3 -c "
+	import zelamiku
+	class Account(zelamiku.Object):
+	    balance = zelamiku.Field(first=100)
+	with zelamiku.open('accounts.heap', alice=Account, bob=Account, lanes=8) as heap, heap.synchronized(heap.alice, heap.bob):
+	    found = [heap.alice.balance, heap.bob.balance]
+	    assert found == [$$balances], found")
+	done
+
+# A program that is linked with the shared object, which shows no names but its own.
+shared:
+	needs cc
+	ln -sf $(LIBS)/libzelamiku.so.0 $$work/libzelamiku.so.0
+	readme c >$$work/readme.c
+	cc $$work/readme.c -I $(C) -L $$work -Wl,-rpath,$$work -l:libzelamiku.so.0 -o $$work/program
+	twelve_times $$work/program
+	[ "$$(cat $$work/told)" = "$$balances" ]
+	[ -z "$$(nm -D --defined-only $$work/libzelamiku.so.0 | awk '$$3 !~ /^zelamiku_/')" ]
+
+# A second copy of the library in a process, and forks: linked with the shared object, and with the archive, whose table of lanes the copy sees.
+objects:
+	needs cc
+	cp $(LIBS)/libzelamiku.so.0 $$work/
+	cp $(LIBS)/libzelamiku.so.0 $$work/copy.so
+	for linked in "-L $$work -Wl,-rpath,$$work -l:libzelamiku.so.0" "-rdynamic $(LIBS)/libzelamiku.a"; do
+	    cc -std=gnu11 -O2 -Wall -Wextra -Werror $(C)/tests/objects.c -I $(C) $$linked -pthread -ldl -o $$work/program
+	    rm -rf $$work/in
+	    mkdir $$work/in
+	    $$work/program $$work/in $$work/copy.so
+	done
+
+# A program has a layout of the library's compiled in: by headers of another one it doesn't link, with the archive or with the shared object.
+other_layout:
+	needs cc
+	cp $(C)/*.h $$work
+	sed -i 's/^\(#define ZELAMIKU_SEATS zelamiku_seats_\)[0-9]*$$/\1another/' $$work/zelamiku_inline.h
+	readme c >$$work/in/readme.c
+	for library in libzelamiku.a libzelamiku.so.0; do
+	    cc -O2 $$work/in/readme.c -I $(C) -L $(LIBS) "-l:$$library" -pthread -o $$work/program
+	    if cc -O2 $$work/in/readme.c -I $$work -L $(LIBS) "-l:$$library" -pthread -o $$work/program 2>$$work/error; then exit 1; fi
+	    grep -q zelamiku_seats_another $$work/error
+	done
+
+# What a power cut leaves of a heap's name: it says what it needs.
+names:
+	needs cc
+	cc -std=gnu11 -O2 -Wall -Wextra -Werror $(C)/tests/names.c -I $(C) $(LIBS)/libzelamiku.a -pthread -o $$work/program
+	$(C)/tests/names.sh $$work/program
+
+# zelamiku.hpp by each compiler: by the inlined calls, by the functions, and with the sanitizers, by which the scheduler is compiled too.
+classes:
+	for cpp in g++ clang++; do
+	    has $$cpp || continue
+	    for flags in "-O2" "-O2 -std=c++20 -DZELAMIKU_NO_INLINE" "-O1 -g -fsanitize=address,undefined" "-O1 -g -fsanitize=thread"; do
+	        own=
+	        case "$$flags" in *sanitize*)
+	            # Clang's runtime of these may be missing (Debian: libclang-rt-14-dev).
+	            echo 'int main() {}' | $$cpp $$flags -x c++ - -o $$work/probe || { echo "LEFT OUT: $$cpp has no $${flags##*-f}"; continue; }
+	            own=$$work/scheduler.o
+	            $$cpp -x c -std=gnu11 -w $$flags -I $(C) -c $(C)/zelamiku_threads.c -o $$own
+	        esac
+	        $$cpp -std=c++17 $$flags $(CPPFLAGS) $(C)/tests/classes.cpp $$own -I $(C) $(LIBS)/libzelamiku.a -pthread -o $$work/program
+	        rm -rf $$work/in
+	        mkdir $$work/in
+	        $$work/program $$work/in
+	    done
+	done
+
+cargo:
+	needs cargo
+	cd bindings/rust
+	cargo test --offline --quiet
+
+unittest leases: TESTS_OF.unittest := bindings/python/tests
+unittest leases: TESTS_OF.leases := examples/python/leases
+unittest leases:
+	needs_python
+	python3 -W error::ResourceWarning -m unittest discover --verbose -s $(TESTS_OF.$@)
+
+lanes:
+	needs_python
+	tools/tests lanes
+
+lease_kills:
+	needs_python
+	tools/tests --tries $(KILLS) -k Leases examples
+
+# What the examples' kills are judged by stands in tests/test_examples.py.
+kills:
+	needs_python
+	tools/tests --tries $(KILLS) -k Killed examples
+
+# The wheel has the library, and the same bytes each time. By pip, without the network: then the package needs nothing else.
+pip: readme_python
+	needs_python
+	python3 -c 'import ensurepip' || { echo "LEFT OUT: no ensurepip (Debian: python3-venv): an installation by pip wasn't tried"; exit 77; }
+	python3 bindings/python/packing.py $$work/wheels
+	python3 bindings/python/packing.py $$work/again
+	cmp $$work/wheels/*.whl $$work/again/*.whl
+	python3 -m venv $$work/venv
+	unset ZELAMIKU_LIBS PYTHONPATH
+	for package in bindings/python $$work/wheels/*.whl; do
+	    ZELAMIKU_LIBS=$(LIBS) $$work/venv/bin/pip install --quiet --no-index --force-reinstall "$$package"
+	    (cd $$work/in && ../venv/bin/python $(OUT)/readme_python/readme.py && ../venv/bin/python -c 'import zelamiku.library; print(zelamiku.library.library().path)') >$$work/path
+	    grep "^$$work/venv/.*/zelamiku/libzelamiku.so.0$$" $$work/path
+	done
+
+server:
+	needs_python
+	examples/c/counters_server/test.py --few --seed 1 --kills $(KILLS)
+
+# Two lives of a counter on one export.
+nbd:
+	needs cc
+	needs nbdkit
+	printf '#include <libnbd.h>\n' | cc -E -x c - >$$work/probe || { echo "LEFT OUT: no libnbd (Debian: libnbd-dev)"; exit 77; }
+	cc -std=gnu11 -O2 -Wall -Wextra -Werror examples/c/nbd.c -I $(C) $(LIBS)/libzelamiku.a -lnbd -pthread -o $$work/nbd
+	nbdkit -U - memory 4M --run "'$$work/nbd' \$$unixsocket 100 && '$$work/nbd' \$$unixsocket 50" >$$work/told
+	[ "$$(tr '\n' ' ' <$$work/told)" = "100 150 " ]
+
+# By tools/helgrind.supp. A counter outside of every monitor is the race.
+helgrind:
+	needs valgrind
+	sed -e 's/^static void \*work(/static uint64_t planted;\n\n&/' -e 's/^\( *\)must(zelamiku_thread_exit(w->thread, w->own)/\1planted++;\n&/' examples/c/counters.c >$$work/planted.c
+	cp examples/c/counters.c $$work/
+	for it in counters planted; do
+	    cc -std=gnu11 -O1 -g -DHELGRIND $$work/$$it.c $(C)/zelamiku_threads.c -I $(C) $(LIBS)/libzelamiku.a -pthread -o $$work/$$it
+	    valgrind --tool=helgrind --fair-sched=try --suppressions=tools/helgrind.supp --error-exitcode=99 --log-file=$$work/$$it.log $$work/$$it $$work/$$it.heap 15 >$$work/$$it.told || echo "$$it: $$?"
+	done >$$work/told
+	awk '/^total/ { wrong += $$2 != $$4 + $$6 + $$8 + $$10 } /^acknowledged/ { all = $$2 } END { exit wrong || !all }' $$work/counters.told
+	grep -q 'Possible data race' $$work/planted.log
+	grep -q planted $$work/planted.log
+	[ "$$(cat $$work/told)" = "planted: 99" ]
