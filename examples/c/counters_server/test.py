@@ -13,7 +13,7 @@ Needs cc and Python alone. The library must be there (tools/c-library, or ZELAMI
     kills    kill -9 under 100 clients (300 kills, 6 with --few): no acknowledged count is lost, no MSET is there by half. The control, a server
              that is changed to answer early, must lose some
     rate     only if it is named: durable INCRs a second by redis-benchmark, beside a redis-server with appendfsync=always. Each sync of both
-             is a sleep of 2 ms (examples/c/peers_syncs.c). Medians of three rounds, as a table
+             is a sleep of 2 ms (tools/benches/syncs.c). Medians of three rounds, as a table
 
 The last line counts the parts; the exit status is 1 if one has failed. A time is only waited for to end what hangs (PATIENCE).
 """
@@ -476,7 +476,7 @@ def rate_of(address, count, depth):
 def rate(tried):
     must(shutil.which("redis-server") and shutil.which("redis-benchmark"), "no redis-server or no redis-benchmark: nothing was measured")
     library = f"{tried.work}/syncs.so"
-    subprocess.run(["cc", "-O2", "-shared", "-fPIC", f"{TOP}/examples/c/peers_syncs.c", "-o", library], check=True)
+    subprocess.run(["cc", "-O2", "-shared", "-fPIC", f"{TOP}/tools/benches/syncs.c", "-o", library], check=True)
     env = {"LD_PRELOAD": library, "SYNCS": f"{tried.work}/syncs", "SYNCS_TAKE": "2000"}
     keys, rows, seen = [f"k:{n:012}" for n in range(10000)], [(c, d) for d in (1, 16) for c in (1, 50, 500, 1000)], {}
     for number in range(3):
