@@ -21,7 +21,7 @@ class FaultTrial(Trial):
     def try_all(self):
         self.prepare()
         self.guest.run("umount /mnt")
-        self.end = base = self.disk.count()
+        self.end = base = self.disk.ask("count")
         if self.run.torn > 2:
             self.tear_the_image_alone()
         # A failure that was asked for may never come.
@@ -42,14 +42,14 @@ class FaultTrial(Trial):
             self.await_told()
         time.sleep(self.chance.uniform(0.05, 0.4))
         self.fail_once()
-        self.opened = self.disk.count()
+        self.opened = self.disk.ask("count")
         promised, printed = self.open_again()
-        self.recovered = self.disk.count()
+        self.recovered = self.disk.ask("count")
         if self.chance.random() < 0.6:
             self.begin()
             time.sleep(self.chance.uniform(0.05, 0.4))
             self.guest.run("end_programs")
-        self.end = self.disk.count()
+        self.end = self.disk.ask("count")
         self.lines = []
         self.take_lines()
         if self.guest.run("umount /mnt")[0] != 0:
@@ -68,8 +68,7 @@ class FaultTrial(Trial):
             self.guest.run(f"end_programs; umount /mnt; {self.mount()}")
         self.disk.ask("fail", kind, *(self.chance.choice(it) for it in ((0, 0, 1, 2, 3, 5, 8, 13), (1, 1, 1, 2, 5, 999), self.modes(kind))))
         self.guest.run(self.again() if is_later else f"{WAIT}; end_programs")
-        self.counts["failures"] += self.disk.ask("failed") != ["0"]
-        self.disk.ask("fail", "none", 0, 0, "kept")
+        self.counts["failures"] += self.disk.ask("fail", "none") > 0
 
     def modes(self, kind):
         return {"write": ("lost", "half"), "flush": ("kept", "lost"), "read": ("lost",)}[kind]
@@ -88,7 +87,7 @@ class FaultTrial(Trial):
 
     def note_refused(self, text):
         """Where there is a heap, no failure that is over makes its opening refuse it."""
-        known = Known(self.disk.told(self.opened))
+        known = Known(self.disk.ask("told", self.opened))
         if self.is_made or known.told:
             self.note("states", Verdict(f"refused after a failure: {text}"), known, "the opening", state=(self.end, "kept", 0, 0, 1, 0))
 
@@ -97,12 +96,12 @@ class FaultTrial(Trial):
         floor, cuts = (), [self.opened]
         for begin, end in ((self.opened, self.recovered), (self.recovered, self.end)):
             if begin < end:
-                cuts += [end, *self.moments(STATES - 1, begin, end, [it for it in self.disk.flushes() if begin < it <= end])]
+                cuts += [end, *self.moments(STATES - 1, begin, end, [it for it in self.disk.ask("flushes") if begin < it <= end])]
         for i, cut in enumerate(cuts):
             policy = ("lost", 0, 0, 1, 0) if i == 0 else self.policy()
-            self.counts["volatile"] += self.disk.ask("state", cut, *policy)[1] != "0"
+            self.counts["volatile"] += self.disk.ask("state", cut, *policy) > 0
             has_told = promised and cut >= self.recovered
-            told = self.disk.told(cut)
+            told = self.disk.ask("told", cut)
             least = tuple(map(max, floor, promised[: self.work.parts + 1])) if has_told and floor else floor
             known = Known(told, self.is_made or bool(told), least, promised if has_told and cut == self.recovered else ())
             verdict = self.try_look("states", known, f"cut {cut} of {self.opened}, {self.recovered}, {self.end}, {policy}", state=(cut, *policy))

@@ -1,6 +1,7 @@
-"""The guests of tools/power-cuts: their disk (cutdisk.c), what they are made of, and a machine whose power can be cut."""
+"""The guests of tools/power-cuts: their disk (cutdisk.py), what they are made of, and a machine whose power can be cut."""
 import contextlib
 import copy
+import ctypes
 import glob
 import json
 import lzma
@@ -23,7 +24,7 @@ PROGRAM, BANK, LIBRARY = f"{TOP}/crates/heapctl/out/heapctl", f"{TOP}/crates/ban
 PATHS = f"{os.environ.get('PATH', '')}:/usr/sbin:/sbin"
 ATTACHED = "if=none,id=disk,cache=none,discard=unmap,werror=report,rerror=report"  # a guest is told of an error
 LONGEST = 900  # seconds, in which a command ends: cargo's is the longest
-PATIENCE = 120  # seconds, in which cutdisk answers, and what was killed ends
+PATIENCE = 120  # seconds, in which the disk answers, and what was killed ends
 SIZE = 320  # megabytes of the disk: the least that mkfs.xfs takes
 # By its name: the kind that is mounted, and what makes it. Blocks below a page show what a page hides, which is written whole.
 SYSTEMS = {
@@ -42,6 +43,7 @@ WANTED = {
     "cc": "gcc",
     "cpio": "cpio",
     "modprobe": "kmod",
+    "nbdkit": "nbdkit nbdkit-plugin-python",
 }
 # What a guest's Python takes beside the modules of its program.
 TAKEN = "import sys, leases, encodings.ascii, encodings.latin_1\nfor it in sys.modules.values(): print(getattr(it, '__file__', None) or '')"
@@ -87,6 +89,18 @@ def must_run(*words, **how):
         raise Wrong(f"{' '.join(words)} hasn't ended in {LONGEST} s: {where}") from None
     must(running.returncode == 0, f"{words[0]} has failed: {errors[-2000:]}")
     return printed
+
+
+def until(is_so, wrong):
+    end = time.monotonic() + PATIENCE
+    while not is_so():
+        must(time.monotonic() < end, wrong)
+        time.sleep(0.02)
+
+
+def is_below_a_disk():
+    """The memory that this process asks for is never got by writing to the disk that it answers for (PR_SET_IO_FLUSHER, as root)."""
+    ctypes.CDLL(None).prctl(57, 1, 0, 0, 0)
 
 
 def must_end(running, name):
@@ -171,48 +185,35 @@ class Lines:
 
 
 class Disk:
-    """cutdisk, which is asked line by line."""
+    """cutdisk.py below nbdkit. `ask` calls its methods."""
 
     def __init__(self, folder, seed):
-        self.socket, self.told_by = f"{folder}/disk", f"{folder}/told"
-        self.clear()
-        words = [f"{folder}/cutdisk", self.socket, self.told_by, str(SIZE), str(seed)]
-        self.running = subprocess.Popen(words, stdin=subprocess.PIPE, stdout=subprocess.PIPE, bufsize=0)
-        self.lines = Lines(self.running.stdout)
-        must(self.lines.next(PATIENCE) == "ok", "cutdisk doesn't begin")
-
-    def clear(self):
-        """No file has the names of its sockets."""
-        free(self.socket)
-        free(self.told_by)
+        self.socket, self.told_by, control = free(f"{folder}/disk"), free(f"{folder}/told"), free(f"{folder}/disk.control")
+        os.mkfifo(self.told_by)
+        words = f"nbdkit --foreground --exit-with-parent --log=null --threads 64 --unix {self.socket} python {HERE}/cutdisk.py".split()
+        words += [f"control={control}", f"told={self.told_by}", f"size={SIZE << 20}", f"seed={seed}"]
+        self.running = subprocess.Popen(words, preexec_fn=is_below_a_disk)
+        self.client = socket.socket(socket.AF_UNIX)
+        until(lambda: self.client.connect_ex(control) == 0, "the disk doesn't begin")
+        self.client.settimeout(PATIENCE)
+        self.lines = self.client.makefile()
 
     def ask(self, *words):
-        must(self.running.poll() is None, "cutdisk has ended")
-        self.running.stdin.write((" ".join(map(str, words)) + "\n").encode())
-        answer = self.lines.next(PATIENCE)
-        must(answer is not None, f"cutdisk has ended, or not answered in {PATIENCE} s, at {words}: {self.standing()}")
-        must(answer.split()[:1] == ["ok"], f"cutdisk answers {answer} at {words}")
-        return answer.split()[1:]
+        self.client.sendall(json.dumps(words).encode() + b"\n")
+        with contextlib.suppress(TimeoutError):
+            if answer := self.lines.readline():
+                return json.loads(answer)
+        raise Wrong(f"the disk has ended, or not answered in {PATIENCE} s, at {words}: {self.standing()}")
 
     def standing(self):
         return standing(below(self.running.pid))
 
-    def count(self):
-        return int(self.ask("count")[0])
-
-    def flushes(self):
-        return list(map(int, self.ask("flushes")))
-
-    def told(self, cut):
-        """The last number that was told of each key before the cut."""
-        return {key: int(value) for key, value in (it.split("=") for it in self.ask("told", cut))}
-
     def end(self):
-        must_end(self.running, "cutdisk")
+        must_end(self.running, "the disk")
 
 
 class Guest:
-    """A machine whose disk is cutdisk's. It runs the lines that it is sent."""
+    """A machine with that disk. It runs the lines that it is sent."""
 
     def __init__(self, parts, disk, kind, memory, *words):
         self.disk, path = disk, free(f"{parts.folder}/control")
@@ -232,15 +233,13 @@ class Guest:
             "512e": "-device virtio-blk-pci,drive=disk,physical_block_size=4096",
             "scsi": "-device virtio-scsi-pci -device scsi-hd,drive=disk,dpofua=on",
         }
-        # Where the heap's host is here, it tells the disk itself.
-        told = f"socket,id=t,path={self.disk.told_by}"
         return [
             *f"qemu-system-x86_64 -M q35 {processor} -m {memory} -nodefaults -no-user-config -display none -no-reboot".split(),
             *["-kernel", parts.kernel, "-initrd", parts.initramfs, "-serial", f"file:{parts.folder}/console"],
             # Programs lie at the same place each time, so that they aren't translated anew.
             *["-append", "console=ttyS0 quiet panic=-1 mitigations=off nokaslr norandmaps no_timer_check cryptomgr.notests"],
             *["-drive", f"file=nbd:unix:{self.disk.socket},format=raw,{ATTACHED}", *device[kind].split()],
-            *["-chardev", f"socket,id=c,path={control}", "-chardev", told, "-device", "virtio-serial-pci"],
+            *["-chardev", f"socket,id=c,path={control}", "-chardev", f"file,id=t,path={self.disk.told_by}", "-device", "virtio-serial-pci"],
             *["-device", "virtserialport,chardev=c,name=control", "-device", "virtserialport,chardev=t,name=told"],
         ]
 
@@ -252,7 +251,7 @@ class Guest:
 
     def standing(self):
         """What is known of a machine that doesn't answer."""
-        return f"{standing(below(self.running.pid))}; cutdisk: {self.disk.standing()}"
+        return f"{standing(below(self.running.pid))}; the disk: {self.disk.standing()}"
 
     def send(self, line):
         self.port.sendall(line.encode() + b"\n")
@@ -287,9 +286,10 @@ class Guest:
             self.port.close()
 
     def cut(self):
-        """The power fails."""
+        """The power fails. What was asked by now has come to the disk."""
+        self.disk.ask("stop")
         self.end()
-        self.disk.ask("gone")
+        must(self.disk.ask("gone"), "what was the machine's holds its disk")
 
 
 class Parts:
@@ -300,7 +300,6 @@ class Parts:
         must(is_built, "heapctl or the library isn't there: rt ci, then tools/c-library")
         self.folder, self.has_kvm, self.is_doubted = folder, has_kvm, True
         flags = ["-std=gnu11", "-O2", "-Wall", "-Wextra", "-Werror"]
-        must_run("cc", *flags, f"{HERE}/cutdisk.c", "-o", f"{folder}/cutdisk")
         must_run("cc", *flags, f"{HERE}/unmended.c", "-o", f"{folder}/unmended")
         linked = ["-I", f"{TOP}/bindings/c", f"{LIBRARY}/libzelamiku.a", "-pthread"]
         for name in ("counts", "sections"):
@@ -322,7 +321,6 @@ class Parts:
         own = copy.copy(self)
         own.folder = f"{self.folder}/{number}"
         os.mkdir(own.folder)
-        os.link(f"{self.folder}/cutdisk", f"{own.folder}/cutdisk")
         return own
 
     def name(self):

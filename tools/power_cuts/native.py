@@ -1,6 +1,6 @@
 """Machines of tools/power-cuts that are none: programs run under this machine's own kernel, in a root and namespaces of their own.
 
-Their disk is cutdisk's file, mounted by FUSE, behind a loop device. A cut ends the programs, and what the kernel writes from then on is in no
+Their disk is mounted as a file by nbdfuse, and lies behind a loop device. A cut ends the programs, and what the kernel writes from then on is in no
 record: what is in its caches is lost, as if the machine had lost its power. The kernel itself goes on, and so does all else that runs.
 """
 import glob
@@ -8,9 +8,9 @@ import os
 import socket
 import subprocess
 
-from machines import HERE, Disk, Guest, Lines, Parts, is_installed, must, must_run, standing
+from machines import HERE, SIZE, Guest, Lines, Parts, is_below_a_disk, is_installed, must, must_end, must_run, standing, until
 
-WANTED = ("losetup", "unshare", "busybox", "mkfs.ext4", "cc", "cpio")
+WANTED = ("losetup", "unshare", "busybox", "mkfs.ext4", "cc", "cpio", "nbdkit", "nbdfuse")
 
 
 def lacking():
@@ -26,33 +26,16 @@ def has_system(name):
         return name == "none" or any(line.split()[-1] == name for line in file)
 
 
-class FuseDisk(Disk):
-    """cutdisk, mounted by FUSE."""
-
-    def __init__(self, folder, seed):
-        with open(f"{folder}/disk", "wb"):
-            pass
-        if not os.path.exists(f"{folder}/told"):
-            os.mkfifo(f"{folder}/told")
-        super().__init__(folder, seed)
-
-    def clear(self):
-        """The names stand for what is mounted there, and for a FIFO."""
-
-    def end(self):
-        """What still waits for the disk gets an error, so that it ends."""
-        try:
-            must_run("umount", "--force", "--lazy", self.socket)
-        finally:
-            super().end()
-
-
 class Programs(Guest):
     """Processes that are taken for a machine."""
 
     def __init__(self, parts, disk):
-        self.disk = disk
-        self.loop = must_run("losetup", "--find", "--show", "--direct-io=on", disk.socket).strip()
+        self.disk, self.file = disk, f"{parts.folder}/mounted"
+        with open(self.file, "wb"):
+            pass
+        self.mounted = subprocess.Popen(["nbdfuse", self.file, f"nbd+unix:///?socket={disk.socket}"], preexec_fn=is_below_a_disk)
+        until(lambda: os.path.getsize(self.file) == SIZE << 20, "the disk isn't mounted")
+        self.loop = must_run("losetup", "--find", "--show", "--direct-io=on", self.file).strip()
         self.port, theirs = socket.socketpair()
         words = ["unshare", "--mount", "--pid", "--fork", "--kill-child", f"{HERE}/native", parts.root, self.loop, disk.told_by]
         with theirs:
@@ -70,17 +53,12 @@ class Programs(Guest):
         return f"{super().standing()}; waiting for a disk: {standing(waiting)}"
 
     def end(self):
+        """The loop device ends once the file system is let go of, and the mount with it."""
         try:
             super().end()
         finally:
             must_run("losetup", "--detach", self.loop)
-
-    def cut(self):
-        """What was asked by now has come to the disk. The loop device ends once the file system is let go of."""
-        try:
-            self.disk.ask("stop")
-        finally:
-            super().cut()
+            must_run("umount", "--lazy", self.file)
 
 
 class NativeParts(Parts):
@@ -93,9 +71,6 @@ class NativeParts(Parts):
         os.mkdir(f"{self.root}.over")
         with open(packed, "rb") as file:
             must_run("cpio", "-idm", "--quiet", stdin=file, cwd=self.root)
-
-    def disk(self, seed):
-        return FuseDisk(self.folder, seed)
 
     def guest(self, disk, kind, system, memory, port):
         """Nothing but the disk tells these machines apart."""

@@ -132,7 +132,7 @@ class Trial:
         self.guest.run(f"{left_out}{self.command(self.work.run)} >/run.txt 2>&1 &")
 
     def await_told(self):
-        self.until(lambda: self.disk.told(2**63).keys() - {"made"}, "nothing is told")
+        self.until(lambda: self.disk.ask("told", None).keys() - {"made"}, "nothing is told")
 
     def until(self, is_so, text):
         until = time.monotonic() + PATIENCE
@@ -153,29 +153,26 @@ class Trial:
     def take_lines(self):
         """The accounts of sections that this record has, after those of the ones before."""
         if self.work.has_history:
-            path = f"{self.parts.folder}/history"
-            self.disk.ask("history", path)
-            with open(path, encoding="utf-8") as file:
-                self.lines += file.read().splitlines()
+            self.lines += self.disk.ask("history")
             self.lives = history.lives_of(self.lines)
 
     def record(self, seconds):
         """Lets the work run, and cuts the power."""
         self.prepare()
-        self.start = self.disk.count()
+        self.start = self.disk.ask("count")
         self.begin()
         if self.work.tells:
             self.await_told()
         time.sleep(seconds * self.chance.uniform(0.7, 1.3))
-        self.until(lambda: self.disk.count() > self.start + RECORDED, "little is written")
+        self.until(lambda: self.disk.ask("count") > self.start + RECORDED, "little is written")
         self.cut()
         self.disk.ask("delay", 0)
-        self.end = self.disk.count()
-        self.flushes = [it for it in self.disk.flushes() if it > self.start]
+        self.end = self.disk.ask("count")
+        self.flushes = [it for it in self.disk.ask("flushes") if it > self.start]
         self.take_lines()
 
     def policy(self):
-        """What a cut keeps of the volatile writes, in the words of cutdisk."""
+        """What a cut keeps of the volatile writes, in the words of cutdisk.py."""
         name = self.chance.choice(["lost", "kept", "prefix", "one", "butone", *7 * ["subset"]])
         grain, percent = self.chance.choice([0, 512, 512, 4096]), self.chance.choice([10, 30, 50, 50, 70, 90])
         return name, grain, percent, self.chance.getrandbits(40), self.run.torn
@@ -266,8 +263,7 @@ class Trial:
         known.floor, known.same = tuple(known.floor), tuple(known.same)
         self.lives = history.lives_of(kept["lines"])
         self.disk.ask("open", f"{folder}/disk")
-        for at in range(0, len(kept["unreadable"]), 200):
-            self.disk.ask("unreadable", *kept["unreadable"][at : at + 200])
+        self.disk.ask("unreadable", *kept["unreadable"])
         return self.judged(self.look(kept["is_reversed"]), known)
 
     def tear_the_image_alone(self):
@@ -281,12 +277,12 @@ class Trial:
 
     def end_of_making(self):
         """Until when the heap is made, and a little longer."""
-        told = (it for it in self.flushes if self.disk.told(it).keys() - {"made"})
+        told = (it for it in self.flushes if self.disk.ask("told", it).keys() - {"made"})
         return next(told, self.end) if self.work.tells else min(self.end, self.start + 200)
 
     def try_states(self, number, stops=False):
         """Looks at so many states of the record. With `stops` only until one is wrong."""
-        self.disk.ask("lie", self.start if self.run.lies else 2**63)
+        self.disk.ask("lie", self.start if self.run.lies else math.inf)
         if self.run.torn > 2 and self.run.system != "none":
             self.tear_the_image_alone()
         end = self.end_of_making() if self.run.is_first else self.end
@@ -296,8 +292,8 @@ class Trial:
         for i, cut in enumerate(moments):
             if is_over():
                 return
-            policy, told = self.policy(), self.disk.told(cut)
-            self.counts["volatile"] += self.disk.ask("state", cut, *policy)[1] != "0"
+            policy, told = self.policy(), self.disk.ask("told", cut)
+            self.counts["volatile"] += self.disk.ask("state", cut, *policy) > 0
             known = Known(told, self.is_made or bool(told or floor), floor)
             verdict = self.try_look("states", known, f"cut {cut}, {policy}", i % 2 == 1, (cut, *policy))
             if stops and verdict.wrong:
@@ -310,13 +306,13 @@ class Trial:
         for i, cut in enumerate(self.moments((number + 7) // 8, self.start, self.end, self.flushes)):
             if is_over():
                 return
-            told = self.disk.told(cut)
+            told = self.disk.ask("told", cut)
             self.switched_on()
             self.disk.ask("state", cut, *self.policy())
             self.disk.ask("deeper")
             known = Known(told, self.is_made or bool(told))
             first = self.judged(self.look(i % 2 == 1), known)
-            end, flushes = self.disk.count(), self.disk.flushes()
+            end, flushes = self.disk.ask("count"), self.disk.ask("flushes")
             if not first.heap or first.wrong:
                 self.note("in recovery", first, known, f"cut {cut}, the first recovery", i % 2 == 1)
                 end = 0
@@ -328,15 +324,15 @@ class Trial:
 
     def leave(self, told):
         """The disk has what the cut leaves, and `told` what was told by then."""
-        end = self.disk.count()
-        told.update({key: max(value, told.get(key, 0)) for key, value in self.disk.told(end).items()})
+        end = self.disk.ask("count")
+        told.update({key: max(value, told.get(key, 0)) for key, value in self.disk.ask("told", end).items()})
         self.take_lines()
         self.disk.ask("state", end, *self.policy())
 
     def try_true_cuts(self, number):
         """The record's own cut, and so many more of the disk that it leaves, one in three of them in mount and recovery."""
         self.cut_if_on()
-        told, floor = self.disk.told(self.end), ()
+        told, floor = self.disk.ask("told", self.end), ()
         self.disk.ask("state", self.end, *self.policy())
         for i in range(number + 1):
             if is_over():
