@@ -2,24 +2,30 @@
 
 The counters' totals and the bank's balances are always those of whole sections, and never less than what was told as acknowledged. The
 queue of jobs is killed twice as often: no job that was put is lost, and none is done twice. The lease server has 16 clients, who hold it to
-its word (examples/python/leases/kill.py). Syncs: the bank and the queue meet TRIES syncs that fail, by which a run ends, and as many that
+its word. Syncs: the bank and the queue meet TRIES syncs that fail, by which a run ends, and as many that
 hang: nothing is acknowledged meanwhile, and nothing is lost that was. Of two runs whose sync hangs one goes on in time.
 
 The library is that of tools/c-library, or in the folder ZELAMIKU_LIBS.
 """
 import collections
+import http.client
+import itertools
+import json
 import os
+import random
 import re
 import shutil
 import signal
+import socket
 import subprocess
 import sys
 import tempfile
+import threading
 import time
 import unittest
 from pathlib import Path
 
-from .harness import COUNTS, TOP, WITHIN, needs_cc, tries
+from .harness import COUNTS, SEED, TOP, WITHIN, needs_cc, tries
 
 LIBS = Path(os.environ.get("ZELAMIKU_LIBS", TOP / "crates/zelamiku/out/host"))
 needs_archive = unittest.skipUnless((LIBS / "libzelamiku.a").exists(), "no libzelamiku.a (tools/c-library makes it)")
@@ -227,14 +233,121 @@ class Killed(Examples):
         self.killed(self.built_in_rust("examples/rust/jobs", "jobs"), Jobs(), by_hundredths, 2 * tries(4), ("0",))
 
 
+class Held:
+    """Of the lease server: what all its clients were answered. A client that got no answer asks again."""
+
+    def __init__(self):
+        self.given, self.held, self.greatest, self.lock = {}, {}, 0, threading.Lock()
+
+    def acquired(self, name, holder, token, floor):
+        """`floor` is the greatest token that was answered before this one was first asked for."""
+        with self.lock:
+            assert self.given.setdefault(token, (name, holder)) == (name, holder), f"token {token} of {name} was given to {self.given[token]} too"
+            assert token > floor, f"token {token} of {name} was asked for after {floor} was answered"
+            assert name not in self.held, f"{name} is held by token {self.held[name]} and by {token}"
+            self.greatest, self.held[name] = max(self.greatest, token), token
+
+    def turn(self, ask, name, holder, renewals):
+        """A client acquires, renews and releases; `ask` gives the status, the answer, and whether it was cut off before. Whether it had the lease."""
+        floor = self.greatest
+        status, answer, _ = ask("POST", f"/leases/{name}?holder={holder}&seconds=3600")
+        if status == 409:
+            return False
+        assert status == 200, f"acquiring {name} was answered {status}: {answer}"
+        token = answer["token"]
+        self.acquired(name, holder, token, floor)
+        for _ in range(renewals):
+            status, answer, _ = ask("PUT", f"/leases/{name}?token={token}&seconds=3600")
+            assert (status, answer.get("token")) == (200, token), f"renewing {name}, held by {token}, was answered {status}: {answer}"
+        with self.lock:
+            del self.held[name]
+        status, answer, was_cut_off = ask("DELETE", f"/leases/{name}?token={token}")
+        # A try before may have released it, and been cut off.
+        assert status == 200 or (status == 404 and was_cut_off), f"releasing {name} by token {token} was answered {status}: {answer}"
+        return True
+
+    def found(self, line, held):
+        """What a server tells first. What was held before it was started it has to find."""
+        assert " has " in line, f"the server didn't start: {line}"
+        assert int(line.split()[2]) >= held, f"{held} leases were held, and {line}"
+
+
 @needs_shared
-class Leases(Examples):
+class Leases(unittest.TestCase):
     def test_leases_in_python(self):
+        """One kill in four comes at a random moment of the start."""
+        chance, held, self.is_over, self.wrong = random.Random(SEED), Held(), threading.Event(), []
+        with tempfile.TemporaryDirectory() as folder, socket.socket() as port:
+            # (a port that the system gives to no connection: else a client may connect to itself while there is no server)
+            while port.connect_ex(("127.0.0.1", number := chance.randrange(20_000, 32_000))) == 0:
+                pass
+            clients = [threading.Thread(target=self.be_client, args=(it, number, held)) for it in range(16)]
+            for it in clients:
+                it.start()
+            try:
+                for kill in range(tries(4) + 1):
+                    self.serve(folder, number, held, "last" if kill == tries(4) else "early" if kill % 4 == 0 else "", chance, clients)
+            finally:
+                self.is_over.set()
+        self.assertEqual(self.wrong, [])
+        self.assertGreater(len(held.given), 0, "nothing was acquired, so nothing was tested")
+        COUNTS["examples"].update({"kills of leases": tries(4), "leases acquired": len(held.given)})
+
+    def serve(self, folder, port, held, when, chance, clients):
+        """A server until it is killed; the last one ends by itself, once its clients have."""
         env = {**os.environ, "ZELAMIKU_LIBS": str(LIBS), "PYTHONPATH": f"{TOP}/bindings/python", "PYTHONDONTWRITEBYTECODE": "1"}
-        words = [sys.executable, f"{TOP}/examples/python/leases/kill.py", "--kills", str(tries(4)), "--clients", "16"]
-        ran = subprocess.run(words, env=env, capture_output=True, text=True, check=False)
-        self.assertEqual(ran.returncode, 0, ran.stdout + ran.stderr)
-        COUNTS["examples"].update({"kills of leases": tries(4)})
+        words = [sys.executable, f"{TOP}/examples/python/leases", f"{folder}/leases.heap", "--port", str(port)]
+        # Releases come only while a server answers.
+        count = len(held.held)
+        server = subprocess.Popen(words, env=env, stdout=subprocess.PIPE, stderr=subprocess.PIPE, text=True)
+        try:
+            if when != "early":
+                held.found(server.stdout.readline(), count)
+            if when == "last":
+                self.is_over.set()
+                for it in clients:
+                    it.join(WITHIN)
+                self.assertFalse(any(it.is_alive() for it in clients), f"a client wasn't answered in {WITHIN} s")
+                server.terminate()
+                self.assertEqual(server.wait(WITHIN), 0)
+            time.sleep(chance.uniform(0, 0.5))
+            self.assertTrue(when == "last" or server.poll() is None, "the server has ended by itself")
+        finally:
+            server.kill()
+            told = server.communicate()[1]
+        self.assertEqual((told, self.wrong), ("", []))
+
+    def be_client(self, number, port, held):
+        chance = random.Random(f"{SEED} {number}")
+        try:
+            for turn in itertools.count():
+                if self.is_over.is_set():
+                    return
+                name = chance.choice(["shared-0", "shared-1", "shared-2", f"of-{number}", f"of-{number}-{turn}"])
+                held.turn(lambda *words: self.ask(port, *words), name, number << 32 | turn, chance.randrange(4))
+        except Exception as wrong:
+            self.wrong.append(f"client {number}: {wrong!r}")
+
+    def ask(self, port, method, path):
+        """Until it is answered."""
+        was_cut_off = False
+        while True:
+            connection = http.client.HTTPConnection("127.0.0.1", port, timeout=WITHIN / 2)
+            try:
+                connection.request(method, path)
+                answer = connection.getresponse()
+                body = json.loads(answer.read())
+                if answer.status != 503:
+                    return answer.status, body, was_cut_off
+            except ConnectionRefusedError:
+                time.sleep(0.05)  # nothing was asked
+                continue
+            except (OSError, http.client.HTTPException, ValueError):
+                pass
+            finally:
+                connection.close()
+            was_cut_off = True
+            time.sleep(0.01)
 
 
 # Of the bank, and of the queue with its consumers.

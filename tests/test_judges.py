@@ -2,18 +2,15 @@
 
 Histories (tools/power_cuts/history.py) are judged for each subset of the sections of a life. Two or three threads take monitors in an order that
 a seed chooses. A heap must pass exactly where its sections are a closed set: the first ones of each thread, and of each monitor those that took it
-first. The other judges are those of tools/power-cuts (trials.py), of the examples that are killed (test_examples.py), and of the lease server
-(examples/python/leases/kill.py).
+first. The other judges are those of tools/power-cuts (trials.py), and of the examples that are killed (test_examples.py).
 """
-import importlib.util
 import itertools
 import random
 import sys
 import unittest
-from unittest import mock
 
 from .harness import COUNTS, TOP
-from .test_examples import Jobs, Totals, Transfers
+from .test_examples import Held, Jobs, Totals, Transfers
 
 sys.path.insert(0, f"{TOP}/tools/power_cuts")
 import history  # noqa: E402
@@ -147,36 +144,34 @@ class Judges(unittest.TestCase):
                 self.refused("power cuts", why in found, (printed, known, why, found))
 
     def test_leases(self):
-        spec = importlib.util.spec_from_file_location("leases_kill", f"{TOP}/examples/python/leases/kill.py")
-        leases = importlib.util.module_from_spec(spec)
-        spec.loader.exec_module(leases)
         # Leases that were acquired before, and one that mustn't be: its name, holder, token, and the last token before it was asked for.
         for name, holder, token, floor in (("a", 2, 2, 1), ("b", 2, 1, 0), ("b", 2, 2, 2)):
-            truth = leases.Truth()
-            truth.acquired("a", 1, 1, 0)
-            with self.assertRaises(leases.Wrong):
-                truth.acquired(name, holder, token, floor)
+            held = Held()
+            held.acquired("a", 1, 1, 0)
+            with self.assertRaises(AssertionError):
+                held.acquired(name, holder, token, floor)
             self.refused("leases", True, "")
-        truth.releases("a")
-        truth.acquired("a", 3, 3, 2)
-        # A server that finds so many leases at each start, where one is held.
-        for count in (1, 0):
-            server = mock.Mock(**{"stdout.readline.return_value": f"it has {count} leases", "poll.return_value": None})
-            with mock.patch.object(leases, "started", return_value=server):
-                if count:
-                    leases.kill_often(None, 0, 2, truth, random.Random(1))
-                    continue
-                with self.assertRaises(leases.Wrong):
-                    leases.kill_often(None, 0, 2, truth, random.Random(1))
-                self.refused("leases", True, "")
-        # Answers of a server to a client that acquires, renews and releases.
-        for answers in ([(500, {})], [(200, {"token": 1}), (404, {})], [(200, {"token": 1}), (200, {"token": 2})], [(200, {"token": 1}), (404, {}), "released"]):
-            client, left = leases.Client(1, 0, leases.Truth(), 1), list(answers)
-            renews = 0 if left[-1] == "released" else 1
-            client._random.randrange = lambda _, count=renews: count  # noqa: SLF001
-            client._ask = lambda *_, left=left: left.pop(0)  # noqa: SLF001
-            with self.assertRaises(leases.Wrong):
-                client._turn("a", 1)  # noqa: SLF001
+        # Answers of a server to a client that acquires, renews so often and releases: status, token, and whether the request was cut off before.
+        one = (200, {"token": 1}, False)
+        for renewals, answers, is_right in (
+            (1, [(409, {}, False)], True),
+            (1, [one, one, (404, {}, True)], True),
+            (0, [(500, {}, False)], False),
+            (1, [one, (404, {}, False)], False),
+            (1, [one, (200, {"token": 2}, False)], False),
+            (0, [one, (404, {}, False)], False),
+        ):
+            left = list(answers)
+            if is_right:
+                Held().turn(lambda *_: left.pop(0), "a", 1, renewals)
+                continue
+            with self.assertRaises(AssertionError):
+                Held().turn(lambda *_: left.pop(0), "a", 1, renewals)
+            self.refused("leases", True, "")
+        Held().found("it has 1 leases", 1)
+        for line in ("it has 0 leases", "no port"):
+            with self.assertRaises(AssertionError):
+                Held().found(line, 1)
             self.refused("leases", True, "")
 
     def test_histories(self):

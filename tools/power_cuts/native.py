@@ -72,7 +72,7 @@ class NativeParts(Parts):
         with open(packed, "rb") as file:
             must_run("cpio", "-idm", "--quiet", stdin=file, cwd=self.root)
 
-    def guest(self, disk, kind, system, memory, port):
+    def guest(self, disk, kind, system, memory):
         """Nothing but the disk tells these machines apart."""
         return Programs(self, disk)
 
