@@ -43,7 +43,7 @@ WANTED = {
     "cc": "gcc",
     "cpio": "cpio",
     "modprobe": "kmod",
-    "nbdkit": "nbdkit nbdkit-plugin-python",
+    "nbdkit": "nbdkit-plugin-python",
 }
 # What a guest's Python takes beside the modules of its program.
 TAKEN = "import sys, leases, encodings.ascii, encodings.latin_1\nfor it in sys.modules.values(): print(getattr(it, '__file__', None) or '')"
@@ -121,7 +121,9 @@ def maker_of(system):
 
 
 def is_installed(command):
-    return shutil.which(command, path=PATHS) is not None
+    """`nbdkit` has to have its plug-in for Python."""
+    has_plugin = lambda: subprocess.run(["nbdkit", "python", "--dump-plugin"], capture_output=True, check=False).returncode == 0
+    return shutil.which(command, path=PATHS) is not None and (command != "nbdkit" or has_plugin())
 
 
 def kernels():

@@ -33,7 +33,8 @@ class Programs(Guest):
         self.disk, self.file = disk, f"{parts.folder}/mounted"
         with open(self.file, "wb"):
             pass
-        self.mounted = subprocess.Popen(["nbdfuse", self.file, f"nbd+unix:///?socket={disk.socket}"], preexec_fn=is_below_a_disk)
+        words = ["nbdfuse", self.file, f"nbd+unix:///?socket={disk.socket}"]
+        self.mounted = subprocess.Popen(words, preexec_fn=is_below_a_disk, stderr=subprocess.DEVNULL)
         until(lambda: os.path.getsize(self.file) == SIZE << 20, "the disk isn't mounted")
         self.loop = must_run("losetup", "--find", "--show", "--direct-io=on", self.file).strip()
         self.port, theirs = socket.socketpair()

@@ -1,17 +1,26 @@
-"""Each call of `heapctl` to the system refused in turn, and what that leaves.
+"""Words of `heapctl` whose calls to the system fail, or that are killed, and what they leave.
 
-Each case is run whole once. Then it is run again and again: with its first allocation refused, with its second, and so on (by a library
-that is loaded before); with each call that opens, locks, sizes, reads, writes, syncs, renames or removes a file failing; killed at each of
-these calls; with each thread refused (by `strace -e inject=`, which counts each kind of call of each thread by itself); and, where the
-image lies in two places on sectors, killed at each call while each sector that was written since the file's last sync gets other bytes.
+Each case is run whole once, and then again and again:
+
+    closed   with each of the seven combinations of standard streams closed, where the next file that is opened has the number of one: it is refused
+             before it opens anything (docs/SCRIPTS.md, "The program's fault texts")
+    full     on a disk that is full but for each number of pages from none to more than it takes
+    malloc   with its first allocation refused, with its second, and so on (by a library that is loaded before)
+    call     with each call that opens, locks, sizes, reads, writes, syncs, renames or removes a file failing (by `strace -e inject=`, which counts
+             each kind of call of each thread by itself)
+    kill     killed at each of these calls
+    thread   with each thread refused
+    damage   where the image lies in two places on sectors: killed at each call while each sector that was written since the file's last sync gets
+             other bytes
+
 Without TRIES it is the first call, the second, the fourth, the eighth and so on.
 
-Each run ends by itself in time, with status 0 and the whole output or with another status, something told on standard error (but
-for `--help`) and a beginning of the output. Where a case has an image, each run begins on a copy of it, and afterwards recovery, or an
-upgrade where the image began with version 1, gives one of the heaps that the case allows, and where a run over it has printed anything, the
-one that it leaves; where workers were on it, each in which the total is the sum of what they counted each for itself. Beside it no file is
-left, but by a kill.
+Each run ends by itself in time, with status 0 and the whole output or with another status, something told on standard error (but for `--help`) and a
+beginning of the output. Where a case has an image, each run begins on a copy of it, and afterwards recovery, or an upgrade where the image began
+with version 1, gives one of the heaps that the case allows, and where a run over it has printed anything, the one that it leaves; where workers
+were on it, each in which the total is the sum of what they counted each for itself. Beside it no file is left, but by a kill.
 """
+import itertools
 import os
 import random
 import re
@@ -21,7 +30,7 @@ import subprocess
 import unittest
 from collections import namedtuple
 
-from .harness import HEAPCTL, InFolder, SCHEMA, TOP, each, heap_of, left_open, made_old, needs_cc, placed, Ran, run
+from .harness import HEAPCTL, InFolder, SCHEMA, Ran, bytes_of, each, heap_of, left_open, made_old, mounted, needs_cc, needs_mounts, placed, run
 
 FILES = "open,openat,flock,lseek,read,write,pread64,pwrite64,fsync,fdatasync,ftruncate,rename,renameat,renameat2,unlink,unlinkat"
 THREADS = "clone,clone3"
@@ -100,35 +109,34 @@ def is_counted(least):
     return lambda heap: heap is not None and heap[0] == sum(heap[1:]) and min(heap[1:]) >= least
 
 
-def over_images(suffix, **how):
-    image = lambda name: {"image": f"{name}{suffix}", **how}
-    return {
-        f"show{suffix}": Case("show --image {image}", allows=[UNDONE], **image("left")),
-        f"dump{suffix}": Case("dump --image {image}", allows=[UNDONE], **image("left")),
-        f"set{suffix}": Case("set --image {image} f0=5", allows=[UNDONE, SET], told=SET, **image("left")),
-        f"run{suffix}": Case("run --image {image}", OVER, allows=[UNDONE, SET], told=SET, **image("left")),
-        f"recover{suffix}": Case("recover --image {image}", allows=[UNDONE], **image("left")),
-        f"upgrade{suffix}": Case("upgrade --image {image}", allows=[UNDONE], **image("old")),
-        f"drive{suffix}": Case(f"{DRIVE} --image {{image}}", allows=is_counted(3), **image("driven")),
-    }
-
-
+CLOSED = [which for count in (1, 2, 3) for which in itertools.combinations((0, 1, 2), count)]
+PAGE, PAGES = 4096, 128
 CASES = {
     "script": Case("", SCRIPT),
-    "run": Case("run", (TOP / "crates/heapctl/stdin").read_text()),
     "help": Case("--help"),
-    "help-word": Case("help"),
+    "version": Case("--version"),
     "format": Case(FORMAT, allows=[None, [10, 20]]),
+    "format-there": Case(FORMAT, image="driven-there", allows=lambda heap: heap == [10, 20] or is_counted(3)(heap)),
+    "show": Case("show --image {image}", image="left-there", allows=[UNDONE]),
     "dot": Case("show --image {image} --dot", image="left-there", allows=[UNDONE]),
-    "dump-names": Case("dump --image {image} --schema {schema}", image="left-there", allows=[UNDONE]),
+    "dump": Case("dump --image {image} --schema {schema}", image="left-there", allows=[UNDONE]),
     "get": Case("get --image {image} f0 f1", image="left-there", allows=[UNDONE]),
+    "set-there": Case("set --image {image} f0=5", "", "left-there", [UNDONE, SET], SET),
+    "run": Case("run --image {image}", OVER, "left-there", [UNDONE, SET], SET),
     "run-crash": Case("run --image {image} --schema {schema}", f"{OVER}crash lost back 1\nshow\n", "left-there", [UNDONE, SET], SET),
+    "recover": Case("recover --image {image}", image="left-there", allows=[UNDONE]),
+    "upgrade": Case("upgrade --image {image}", image="old-there", allows=[UNDONE]),
     "drive": Case(DRIVE),
     "drive-new": Case(f"{DRIVE} --image {{image}}", allows=lambda heap: heap is None or is_counted(0)(heap)),
-    **over_images("-there"),
+    "drive-there": Case(f"{DRIVE} --image {{image}}", image="driven-there", allows=is_counted(3)),
     "format-placed": Case(f"{FORMAT} --sectors 4096", allows=[None, [10, 20]], sectors=4096),
-    **over_images("-placed", sectors=512),
+    "set-placed": Case("set --image {image} f0=5", "", "left-placed", [UNDONE, SET], SET, 512),
+    "recover-placed": Case("recover --image {image}", image="left-placed", allows=[UNDONE], sectors=512),
+    "upgrade-placed": Case("upgrade --image {image}", image="old-placed", allows=[UNDONE], sectors=512),
+    "drive-placed": Case(f"{DRIVE} --image {{image}}", image="driven-placed", allows=is_counted(3), sectors=512),
 }
+# They write what is there, so that a fault may leave other bytes.
+IN_PLACE = ("recover", "upgrade", "drive-there", "drive-new")
 
 
 def flying(log):
@@ -166,15 +174,8 @@ def damage(log, sector):
                     file.write(random.randbytes(sector))
 
 
-@needs_cc
-@unittest.skipUnless(shutil.which("strace"), "no strace (Debian: strace)")
-@each(CASES)
-class RefusedCalls(InFolder):
-    def setUp(self):
-        super().setUp()
-        self.shim, self.told, self.log = self.folder / "shim.so", self.folder / "told", self.folder / "log"
-        self.KNOWN = {"schema", "shim.so", "told", "log", "image", "image~"}
-        subprocess.run(["cc", "-O1", "-shared", "-fPIC", "-x", "c", "-", "-o", self.shim], input=SHIM.encode(), check=True)
+class Faults(InFolder):
+    KNOWN = {"schema", "shim.so", "told", "log", "image", "image~", "disk"}
 
     def image_of(self, name):
         """Those with which cases begin."""
@@ -189,6 +190,87 @@ class RefusedCalls(InFolder):
             content = left_open(self.made())
             content = made_old(content) if name == "old" else content
         return placed(content) if where == "placed" else content
+
+    def fault_of_end(self, case, ran, whole):
+        if ran.status is None or ran.status < 0:
+            return ran
+        if ran.status == 0:
+            return None if ran.out == whole else "it told success with another output"
+        if not ran.told and "help" not in case.words:
+            return f"status {ran.status}, and nothing is told"
+        return None if whole.startswith(ran.out) else "its output is no beginning of the whole"
+
+    def fault_of_left(self, case, ran):
+        if case.allows is None:
+            return None
+        by = "upgrade" if case.words.startswith("upgrade") else "recover"
+        heap = heap_of(self.image, by)
+        if not (case.allows(heap) if callable(case.allows) else heap in case.allows):
+            return f"{by} gives {heap}" if self.image.exists() else "the image is gone"
+        if case.told and ran.out and heap != case.told:
+            return f"it printed {ran.out[:40]!r}, and {by} gives {heap}"
+        again = heap_of(self.image, "recover") if by == "upgrade" else heap
+        return None if again == heap else f"recovery after the upgrade gives {again}"
+
+
+@each(CASES)
+class Closed(Faults):
+    def check(self, _, case):
+        before = self.image_of(case.image)
+        for closed in CLOSED:
+            self.put(before)
+            ran = self.play(case.words, case.stdin, closed=closed)
+            # What it tells goes to standard error, where that is open.
+            is_so = ran.status == 1 and ran.out == "" and ran.told.splitlines()[:1] in ([], ["heapctl: fault"])
+            wrong = f"{ran}, and the image was changed" if bytes_of(self.image) != before else None if is_so else f"not refused: {ran}"
+            self.fault(wrong, closed=closed)
+            self.count(runs=1)
+
+
+@needs_mounts
+@each({name: CASES[name] for name in ("format", "format-there", "set-there", "run", "recover", "upgrade", "drive-new", "drive-there")})
+class Full(Faults):
+    def check(self, name, case):
+        before, disk, done = self.image_of(case.image), self.folder / "disk", 0
+        disk.mkdir()
+        with mounted(disk, "-t", "tmpfs", "-o", f"size={PAGES * PAGE}", "none"):
+            self.image = disk / "image"
+            for pages in range(36):
+                wrong, is_done = self.once(name, case, before, disk, pages)
+                self.fault(wrong, pages=pages)
+                self.count(runs=1)
+                done += is_done
+        self.assertGreater(done, 0, "there was never room, so nothing was tested")
+
+    def once(self, name, case, before, disk, pages):
+        """What is wrong with a run on a disk with so many free pages, or None; and whether it was done."""
+        for path in disk.iterdir():
+            path.unlink()
+        self.put(before)
+        with open(disk / "filler", "wb", buffering=0) as file:
+            for _ in range(os.statvfs(disk).f_bavail - pages):
+                file.write(bytes(PAGE))
+        ran = self.play(case.words, case.stdin)
+        (disk / "filler").unlink()
+        left = {path.name for path in disk.iterdir()} - {"image", "image~"}
+        first, second = (*ran.told.splitlines(), "", "")[:2]
+        if left or ran.status == 0:
+            return f"{left} is left beside" if left else self.fault_of_left(case, ran), ran.status == 0
+        if ran.status != 1 or first != "heapctl: fault" or "No space left" not in second or str(self.image) not in second:
+            return ran, False
+        if name not in IN_PLACE and bytes_of(self.image) != before:
+            return "the image was changed", False
+        return self.fault_of_left(case, ran), False
+
+
+@needs_cc
+@unittest.skipUnless(shutil.which("strace"), "no strace (Debian: strace)")
+@each(CASES)
+class Refused(Faults):
+    def setUp(self):
+        super().setUp()
+        self.shim, self.told, self.log = self.folder / "shim.so", self.folder / "told", self.folder / "log"
+        subprocess.run(["cc", "-O1", "-shared", "-fPIC", "-x", "c", "-", "-o", self.shim], input=SHIM.encode(), check=True)
 
     def check(self, name, case):
         before = self.image_of(case.image)
@@ -242,24 +324,3 @@ class RefusedCalls(InFolder):
         if not self.was_refused:
             return wrong or False
         return wrong or not is_killed and self.litter() or self.fault_of_left(case, ran) or None
-
-    def fault_of_end(self, case, ran, whole):
-        if ran.status is None or ran.status < 0:
-            return ran
-        if ran.status == 0:
-            return None if ran.out == whole else "it told success with another output"
-        if not ran.told and "help" not in case.words:
-            return f"status {ran.status}, and nothing is told"
-        return None if whole.startswith(ran.out) else "its output is no beginning of the whole"
-
-    def fault_of_left(self, case, ran):
-        if case.allows is None:
-            return None
-        by = "upgrade" if case.words.startswith("upgrade") else "recover"
-        heap = heap_of(self.image, by)
-        if not (case.allows(heap) if callable(case.allows) else heap in case.allows):
-            return f"{by} gives {heap}" if self.image.exists() else "the image is gone"
-        if case.told and ran.out and heap != case.told:
-            return f"it printed {ran.out[:40]!r}, and {by} gives {heap}"
-        again = heap_of(self.image, "recover") if by == "upgrade" else heap
-        return None if again == heap else f"recovery after the upgrade gives {again}"
