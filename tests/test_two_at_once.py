@@ -45,7 +45,7 @@ class TwoAtOnce(InFolder):
     def check(self, _, names):
         self.schema.write_text(WORKERS)
         left, _ = self.left_by_a_kill()
-        refusals, some = 0, tries(20)
+        refusals, some = 0, tries(6)
         for number in range(some):
             order = names if number % 2 else names[::-1]
             wrong, refused = self.tried(order, left if number % 4 else None, number % 5 == 0)
