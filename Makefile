@@ -192,10 +192,10 @@ lease_kills:
 	needs_python
 	tools/tests --tries $(KILLS) -k Leases examples
 
-# What the examples' kills are judged by stands in tests/test_examples.py.
+# What the examples' kills, and their syncs that fail or hang, are judged by stands in tests/test_examples.py.
 kills:
 	needs_python
-	tools/tests --tries $(KILLS) -k Killed examples
+	tools/tests --tries $(KILLS) -k Killed -k Syncs examples
 
 # The wheel has the library, and the same bytes each time. By pip, without the network: then the package needs nothing else.
 pip: readme_python
