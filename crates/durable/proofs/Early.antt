@@ -7,7 +7,7 @@ use Rattle.image_parts.specs.declared.layout.Layout.{Layout}
 use Rattle.heap_model.specs.Past.{Past}
 use Rattle.durable.specs.Calls.{MakeAll, ShowsAfterSome}
 use Rattle.durable.specs.Moments.{LeftBetween, LeftUpTo}
-use Rattle.durable.specs.Store.{ShowsStep, Shows, ShowsLogged, ShowsSettled, ShowsTrimmed, ShowsAcknowledged, doubt_in}
+use Rattle.durable.specs.Store.{ShowsStep, Shows, ShowsLogged, ShowsSettled, ShowsTrimmed, doubt_in}
 use Rattle.durable.specs.declared.doubt.Doubt.{Doubt}
 use Rattle.durable.specs.declared.doubt.Doubt.TheVariants.{Nothing}
 use Rattle.durable.specs.declared.store_call.StoreCall.{StoreCall}
@@ -65,7 +65,6 @@ no_doubt l s p w image (Shows shown) = Shows shown
 no_doubt l s p w image (ShowsLogged doubt shown) = absurd cc
 no_doubt l s p w image (ShowsSettled doubt clean cut stable shown) = absurd cc
 no_doubt l s p w image (ShowsTrimmed doubt shown) = absurd cc
-no_doubt l s p w image (ShowsAcknowledged doubt clean cut stable shown) = absurd cc
 
 same_doubt : (l : Layout) (s : Setting) (p : Past) (image : List ℕ) (calls : List StoreCall) (n : ℕ) (call : StoreCall) → n ≤ length calls →
     ShowsStep l s p (doubt_in (slice_get calls n)) image → ShowsStep l s p (doubt_in (slice_get (calls ++ call ∷ []) n)) image

@@ -15,5 +15,4 @@ pub mod Ending
 pub mod AllKept
 pub mod Closing
 pub mod Trimming
-pub mod Acknowledged
 pub mod Running

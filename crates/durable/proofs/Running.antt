@@ -17,12 +17,11 @@ use Rattle.store_image.specs.Consistent.{IsConsistent}
 use Rattle.store_image.specs.declared.committed.Committed.{Committed}
 use Rattle.store_image.proofs.Stands.{none_logged, shows_always}
 use Rattle.store_memory.specs.Fresh.{IsOfLanes}
-use Rattle.durable.specs.declared.doubt.Doubt.TheVariants.{Acknowledging}
 use Rattle.durable.specs.declared.store_call.StoreCall.{StoreCall}
 use Rattle.durable.specs.declared.store_call.StoreCall.TheVariants.{Apply, Settle, Trim}
 use Rattle.durable.specs.Calls.{IsClean, MakeAll, Makes, ShowsAfterSome}
 use Rattle.durable.specs.Runs.{HasRun, IsCut, IsLeftBy}
-use Rattle.durable.specs.Store.{Known, Parts, HasPast, ShowsStep, Shows, ShowsLogged, ShowsSettled, ShowsTrimmed, ShowsAcknowledged, doubt_in}
+use Rattle.durable.specs.Store.{Known, Parts, HasPast, ShowsStep, Shows, ShowsLogged, ShowsSettled, ShowsTrimmed, doubt_in}
 use Rattle.durable.proofs.Early.{no_doubt}
 use Rattle.durable.proofs.Playing.{made_more}
 use Rattle.durable.proofs.Showing.{past_settle, past_trim}
@@ -143,46 +142,6 @@ module _ (x y : Known) (s : Setting) (p : Past) (d e : Device) (layout : y.layou
     is_cut = cut;
     whole = λ runs. absurd (let no : true ≡ false = sym off ∙ runs in cc);
     shown = shows_first call [] shown;
-  }) (still y.has_failed) why
-
-  -- a settling with the trim behind it
-  shows_both : LeavesOnly d e (ShowsStep x.layout s p Acknowledging) → LeavesOnly d e (ShowsAfterSome y.layout s p (Settle ∷ Trim ∷ []))
-  shows_both shown = subst (λ (l : Layout). LeavesOnly d e (ShowsAfterSome l s p (Settle ∷ Trim ∷ []))) (sym layout)
-      (weaker d e (ShowsStep x.layout s p Acknowledging) (ShowsAfterSome x.layout s p (Settle ∷ Trim ∷ [])) shows shown)
-    where
-      shows : (image : List ℕ) → ShowsStep x.layout s p Acknowledging image → ShowsAfterSome x.layout s p (Settle ∷ Trim ∷ []) image
-      shows image (Shows shown) = record { n = 0; within = omega arith; then = p; made = refl; is = has.past; of_lanes = lanes_of x s p d has; shows = Shows shown }
-      shows image (ShowsLogged doubt shown) = absurd cc
-      shows image (ShowsSettled doubt clean cut stable shown) = absurd cc
-      shows image (ShowsTrimmed doubt shown) = absurd cc
-      shows image (ShowsAcknowledged doubt clean cut stable shown) = record {
-        n = 2;
-        within = omega arith;
-        then = after_trim (after_settle p cut);
-        made = (after_settle p cut, (cut, clean, stable, refl), (after_trim (after_settle p cut), refl, refl));
-        is = past_trim s (after_settle p cut) (past_settle s p cut has.past stable);
-        of_lanes = lanes_of x s p d has;
-        shows = Shows shown;
-      }
-
-  pub ran_both : (cut : ℕ → ℕ) (failed : Bool) → IsClean s p → IsStable (actions p.logged) cut → LeavesOnly d e (ShowsStep x.layout s p Acknowledging) → HasRun y.layout s p d (after_trim (after_settle p cut)) e failed
-  ran_both cut failed clean stable shown = record {
-    calls = Settle ∷ Trim ∷ [];
-    made = (after_settle p cut, (cut, clean, stable, refl), (after_trim (after_settle p cut), refl, refl));
-    cut_off = [];
-    is_cut = tt;
-    whole = λ runs. refl;
-    shown = shows_both shown;
-  }
-
-  pub ran_both_refused : (y.has_failed ≡ true) ⊎ (e ≡ d) → LeavesOnly d e (ShowsStep x.layout s p Acknowledging) → HasRun y.layout s p d p e y.has_failed
-  ran_both_refused why shown = ⊎_elim (λ off. record {
-    calls = [];
-    made = refl;
-    cut_off = Settle ∷ Trim ∷ [];
-    is_cut = tt;
-    whole = λ runs. absurd (let no : true ≡ false = sym off ∙ runs in cc);
-    shown = shows_both shown;
   }) (still y.has_failed) why
 
 -- a call that is refused by no fault leaves the device

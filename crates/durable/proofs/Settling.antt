@@ -1,4 +1,4 @@
--- What a settling says of any past of its store, whether a trim goes with it or not.
+-- What a settling says of any past of its store.
 use Rattle.std.proofs.Common.{◌≡◌, ◌-◌, ◌^◌, ℕ, true, false, List, Option, sym, subst}
 use Rattle.std.specs.Prelude.{slice_index, MatchOption}
 use Rattle.std.specs.Option.{is_some}

@@ -15,7 +15,7 @@ use Rattle.undo_log.specs.StandsFor.{StandsFor}
 use Rattle.heap_model.specs.Past.{Past, IsPast, applied, after_log, after_settle, after_trim}
 use Rattle.store_memory.specs.Fresh.{IsOfLanes}
 use Rattle.store_image.specs.KeptHeap.{kept_heap, StandsForCut}
-use Rattle.durable.specs.Store.{Known, HasPast, ShowsStep, Shows, ShowsLogged, ShowsSettled, ShowsTrimmed, ShowsAcknowledged, StandsForStep, Stands, StandsSettled, StandsAcknowledged}
+use Rattle.durable.specs.Store.{Known, HasPast, ShowsStep, Shows, ShowsLogged, ShowsSettled, ShowsTrimmed, StandsForStep, Stands, StandsSettled}
 use Rattle.durable.specs.declared.doubt.Doubt.{Doubt}
 use Rattle.store_image.proofs.Growing.{kept_grown}
 use Rattle.durable.proofs.Pasts.{past_log}
@@ -69,9 +69,6 @@ shown_stands l s p w is of image (ShowsLogged doubt shown) =
     Stands (record { heap = subst (StandsFor l image) (logged_heap l s p is) after.heap; sections = after.sections })
 shown_stands l s p w is of image (ShowsSettled doubt clean cut stable shown) =
     StandsSettled doubt clean cut stable (stands l s (after_settle p cut) (past_settle s p cut is stable) (λ k from. undone_beyond l.lanes k p.logged (of_lanes_before l.lanes p.fresh p.logged of) from) image shown)
-shown_stands l s p w is of image (ShowsAcknowledged doubt clean cut stable shown) =
-    StandsAcknowledged doubt clean cut stable
-    (stands l s (after_trim (after_settle p cut)) (past_trim s (after_settle p cut) (past_settle s p cut is stable)) (λ k from. undone_beyond l.lanes k p.logged (of_lanes_before l.lanes p.fresh p.logged of) from) image shown)
 shown_stands l s p w is of image (ShowsTrimmed doubt shown) =
     Stands (stands l s (after_trim p) (past_trim s p is) (λ k from. undone_beyond l.lanes k p.logged (of_lanes_before l.lanes p.fresh p.logged of) from) image shown)
 

@@ -14,7 +14,7 @@ use Rattle.heap_model.specs.Past.{Past, IsTrimmed}
 use Rattle.heap_model.specs.declared.store_error.StoreError.{StoreError}
 use Rattle.heap_model.specs.declared.store_error.StoreError.TheVariants.{Failed, Worn, Unwritten, Fault}
 use Rattle.durable.specs.Calls.{RefusesHome, RefusesLog, RefusesTrim}
-use Rattle.durable.specs.Steps.{Acknowledges, Applies, Commits, GoesHome, Logs, Trims, Writes}
+use Rattle.durable.specs.Steps.{Applies, Commits, GoesHome, Logs, Settles, Trims, Writes}
 use Rattle.durable.specs.Store.{Known, Parts, HasPast}
 use Rattle.durable.specs.declared.doubt.Doubt.{Doubt}
 
@@ -28,13 +28,11 @@ home_from {D} {device} {z} {x} {y} {answer} is goes = subst (λ (w : Parts D). G
 pub home_both : {D : Type 0} {device : D → Device} {z x : Parts D} {answer : Result Home StoreError} → z ≡ x → GoesHome device z z answer → GoesHome device x x answer
 home_both {D} {device} {z} {x} {answer} is goes = subst (λ (w : Parts D). GoesHome device w w answer) is goes
 
-pub acknowledged_from : {D : Type 0} {device : D → Device} {call : Doubt} {after : Past → (ℕ → ℕ) → Past} {z x y : Parts D} {answer : Result (Unit {0}) StoreError} → z ≡ x →
-    Acknowledges device call after z y answer → Acknowledges device call after x y answer
-acknowledged_from {D} {device} {call} {after} {z} {x} {y} {answer} is told = subst (λ (w : Parts D). Acknowledges device call after w y answer) is told
+pub settles_from : {D : Type 0} {device : D → Device} {z x y : Parts D} {answer : Result (Unit {0}) StoreError} → z ≡ x → Settles device z y answer → Settles device x y answer
+settles_from {D} {device} {z} {x} {y} {answer} is settles = subst (λ (w : Parts D). Settles device w y answer) is settles
 
-pub acknowledged_both : {D : Type 0} {device : D → Device} {call : Doubt} {after : Past → (ℕ → ℕ) → Past} {z x : Parts D} {answer : Result (Unit {0}) StoreError} → z ≡ x →
-    Acknowledges device call after z z answer → Acknowledges device call after x x answer
-acknowledged_both {D} {device} {call} {after} {z} {x} {answer} is told = subst (λ (w : Parts D). Acknowledges device call after w w answer) is told
+pub settles_both : {D : Type 0} {device : D → Device} {z x : Parts D} {answer : Result (Unit {0}) StoreError} → z ≡ x → Settles device z z answer → Settles device x x answer
+settles_both {D} {device} {z} {x} {answer} is settles = subst (λ (w : Parts D). Settles device w w answer) is settles
 
 pub trims_from : {D : Type 0} {device : D → Device} {z x y : Parts D} {answer : Result (Unit {0}) StoreError} → z ≡ x → Trims device z y answer → Trims device x y answer
 trims_from {D} {device} {z} {x} {y} {answer} is trims = subst (λ (w : Parts D). Trims device w y answer) is trims
@@ -130,8 +128,8 @@ module _ {D : Type 0} (device : D → Device) (x : Parts D) where
     sequence = refl;
   }
 
-  pub acknowledged_failed : (call : Doubt) (after : Past → (ℕ → ℕ) → Past) → x.known.has_failed ≡ true → Acknowledges device call after x x (Err Failed)
-  acknowledged_failed call after off = record {
+  pub settles_failed : x.known.has_failed ≡ true → Settles device x x (Err Failed)
+  settles_failed off = record {
     writes = commits_none failed_other;
     ok = λ s p cut has stable. tt;
     answer = λ s p has. off;

@@ -12,7 +12,7 @@ use Rattle.image_parts.specs.declared.layout.Layout.{Layout}
 use Rattle.durable.specs.Calls.{AnswersHome, IsClean, RefusesApply, RefusesHome, RefusesLog, RefusesSettle, RefusesTrim, after_home_step}
 use Rattle.durable.specs.Store.{Parts, HasPast, ShowsStep}
 use Rattle.durable.specs.declared.doubt.Doubt.{Doubt}
-use Rattle.durable.specs.declared.doubt.Doubt.TheVariants.{Nothing, Logging, Settling, Trimming, Acknowledging}
+use Rattle.durable.specs.declared.doubt.Doubt.TheVariants.{Nothing, Logging, Settling, Trimming}
 use Rattle.store_image.specs.Consistent.{ShowsPast}
 use Rattle.store_image.specs.KeptHeap.{StandsForCut, StandsForEither}
 use Rattle.store_image.specs.Sequences.{ShowsUpTo}
@@ -98,7 +98,7 @@ pub record Applies {D : Type 0} (device : D → Device) (x y : Parts D) (lane : 
   -- The layout of the image stays.
   pub layout : y.known.layout ≡ x.known.layout
 
--- `log_step` and `log_at_once`: what was applied becomes durable.
+-- `log_step`: what was applied becomes durable.
 pub record Logs {D : Type 0} (device : D → Device) (x y : Parts D) (result : Result ℕ StoreError) : Type 0 where
   -- It is a call that commits a control.
   pub writes : Commits device Logging x y result
@@ -133,12 +133,12 @@ pub record GoesHome {D : Type 0} (device : D → Device) (x y : Parts D) (result
   -- The control's sequence stays.
   pub sequence : y.known.committed.sequence ≡ x.known.committed.sequence
 
--- `settle` and `settle_and_trim`: the stable cut of what is logged is acknowledged. `after` is what the call makes of the past and that cut.
-pub record Acknowledges {D : Type 0} (device : D → Device) (call : Doubt) (after : Past → (ℕ → ℕ) → Past) (x y : Parts D) (result : Result (Unit {0}) StoreError) : Type 0 where
+-- `settle`: the stable cut of what is logged is acknowledged.
+pub record Settles {D : Type 0} (device : D → Device) (x y : Parts D) (result : Result (Unit {0}) StoreError) : Type 0 where
   -- It is a call that commits a control.
-  pub writes : Commits device call x y result
-  -- After a success, the stable cut of all that is logged is acknowledged, and with `settle_and_trim` forgotten.
-  pub ok : (s : Setting) (p : Past) (cut : ℕ → ℕ) → IsPastOf device x s p → IsStable (actions p.logged) cut → OnOk result (IsPastOf device y s (after p cut))
+  pub writes : Commits device Settling x y result
+  -- After a success, the stable cut of all that is logged is acknowledged.
+  pub ok : (s : Setting) (p : Past) (cut : ℕ → ℕ) → IsPastOf device x s p → IsStable (actions p.logged) cut → OnOk result (IsPastOf device y s (after_settle p cut))
   -- It succeeds only if no field is dirty; each refusal has its own reason.
   pub answer : (s : Setting) (p : Past) → IsPastOf device x s p
       → MatchResult result (λ done. (x.known.has_failed ≡ false) × IsClean s p) (RefusesSettle x.known s p)
@@ -147,14 +147,6 @@ pub record Acknowledges {D : Type 0} (device : D → Device) (call : Doubt) (aft
       → x.known.committed.sequence ≡ 2 ^ 64 - 1 → IsErrOf result Worn
   -- Each new image stands for the heap of the sections acknowledged before, or for that of the stable cut.
   pub any_moment : StandsForOneOf device x y
-
--- `settle`: the acknowledged sections stay in the log.
-abbrev pub Settles : {D : Type 0} → (device : D → Device) → (x y : Parts D) → Result (Unit {0}) StoreError → Type 0
-Settles device x y result = Acknowledges device Settling after_settle x y result
-
--- `settle_and_trim`: the acknowledged sections are forgotten too.
-abbrev pub SettlesAndTrims : {D : Type 0} → (device : D → Device) → (x y : Parts D) → Result (Unit {0}) StoreError → Type 0
-SettlesAndTrims device x y result = Acknowledges device Acknowledging (λ p cut. after_trim (after_settle p cut)) x y result
 
 -- `trim`: the acknowledged sections are forgotten.
 pub record Trims {D : Type 0} (device : D → Device) (x y : Parts D) (result : Result (Unit {0}) StoreError) : Type 0 where

@@ -16,7 +16,7 @@ use Rattle.store_memory.specs.Remembers.{Remembers}
 use Rattle.store_memory.specs.Sections.{Logged, TellsSections}
 use Rattle.store_image.specs.declared.committed.Committed.{Committed}
 use Rattle.durable.specs.declared.doubt.Doubt.{Doubt}
-use Rattle.durable.specs.declared.doubt.Doubt.TheVariants.{Nothing, Logging, Settling, Trimming, Acknowledging}
+use Rattle.durable.specs.declared.doubt.Doubt.TheVariants.{Nothing, Logging, Settling, Trimming}
 use Rattle.durable.specs.declared.store_call.StoreCall.{StoreCall}
 use Rattle.durable.specs.declared.store_call.StoreCall.TheVariants.{Apply, Log, Home as HomeStep, Settle, Trim}
 
@@ -62,19 +62,17 @@ doubt_in (Some HomeStep) = Nothing
 doubt_in (Some Settle) = Settling
 doubt_in (Some Trim) = Trimming
 
--- The image shows the past; or, where the logging is in doubt, what that makes of it; or, where a settling or a trim is, what that does, or both at once.
+-- The image shows the past; or, where the logging is in doubt, what that makes of it; or, where a settling or a trim is, what that does.
 pub data ShowsStep (l : Layout) (s : Setting) (p : Past) (w : Doubt) (image : List ℕ) : Type 0 where
   Shows : ShowsPast l s p image → ShowsStep l s p w image
   ShowsLogged : w ≡ Logging → ShowsPast l s (after_log p) image → ShowsStep l s p w image
   ShowsSettled : w ≡ Settling → IsClean s p → (cut : ℕ → ℕ) → IsStable (actions p.logged) cut → ShowsPast l s (after_settle p cut) image → ShowsStep l s p w image
   ShowsTrimmed : w ≡ Trimming → ShowsPast l s (after_trim p) image → ShowsStep l s p w image
-  ShowsAcknowledged : w ≡ Acknowledging → IsClean s p → (cut : ℕ → ℕ) → IsStable (actions p.logged) cut → ShowsPast l s (after_trim (after_settle p cut)) image → ShowsStep l s p w image
 
 -- The image stands for the heap of the acknowledged cut; or, where a settling is in doubt, of the stable one.
 pub data StandsForStep (l : Layout) (s : Setting) (p : Past) (w : Doubt) (image : List ℕ) : Type 0 where
   Stands : StandsForCut l s p.logged p.cut image → StandsForStep l s p w image
   StandsSettled : w ≡ Settling → IsClean s p → (cut : ℕ → ℕ) → IsStable (actions p.logged) cut → StandsForCut l s p.logged cut image → StandsForStep l s p w image
-  StandsAcknowledged : w ≡ Acknowledging → IsClean s p → (cut : ℕ → ℕ) → IsStable (actions p.logged) cut → StandsForCut l s p.logged cut image → StandsForStep l s p w image
 
 -- The store has this past: what it knows tells of it, and its device agrees. After a fault the device is only known to show
 -- the past, or what the call that met the fault makes of it.

@@ -11,6 +11,4 @@ pub enum Doubt {
     Settling,
     /// Whether what is acknowledged is trimmed. The heap is the same.
     Trimming,
-    /// Whether the stable cut is acknowledged and trimmed, both at once.
-    Acknowledging,
 }

@@ -1,9 +1,11 @@
-//! The store (Atlas, OOPSLA 2014): what it remembers of the records applied, and the steps that make them durable.
+//! The store of scripts, step by step (Atlas, OOPSLA 2014): what it remembers of the records applied, and the steps that make them
+//! durable.
+//!
+//! A running heap stands on the store of `store_rounds`. This one plays scripts, and makes the image of each heap.
 //!
 //! [`Store::format`] makes an image, [`Store::adopt`] takes it over. [`Store::apply`] is told the records of each lane,
 //! [`Store::log_step`] makes them durable, [`Store::home_step`] brings a logged value to its home cell, and
-//! [`Store::settle`] acknowledges the stable cut; [`Store::trim`] forgets what is acknowledged. A helper's round makes
-//! [`Store::log_at_once`] and [`Store::settle_and_trim`], which do the same with fewer syncs.
+//! [`Store::settle`] acknowledges the stable cut; [`Store::trim`] forgets what is acknowledged.
 //!
 //! At every moment of every call, each image that a crash may leave stands for the heap of the acknowledged cut. While the store settles,
 //! it stands for that of the old cut or of the new one. [`Store::play`] makes a list of calls, so that this is one theorem.
@@ -14,7 +16,6 @@ mod doubt;
 mod format;
 mod meeting;
 mod play;
-mod rounds;
 mod rows;
 mod store;
 mod store_call;

@@ -19,7 +19,7 @@ use heap_model::{FieldId, Lane, Record, StoreError};
 use image::{GuardRow, Layout, Recovered, RecoveredParts};
 use std::alloc::{AllocError, Global};
 use std::marker::Model;
-use store_image::{Committed, Home, Syncs, is_trimmed, log_records, settle, trim, write_home};
+use store_image::{Committed, Home, is_trimmed, log_records, settle, trim, write_home};
 use store_memory::{Applied, LoggedSections};
 
 /// A heap whose sections survive a crash whole or not at all, on a device of its own.
@@ -27,8 +27,8 @@ use store_memory::{Applied, LoggedSections};
 /// It is told the lanes' records as they come ([`apply`](Store::apply)), makes them durable ([`log_step`](Store::log_step)), writes
 /// logged values home ([`home_step`](Store::home_step)) and acknowledges the stable cut ([`settle`](Store::settle)). What is acknowledged may be
 /// forgotten ([`trim`](Store::trim)), so that its memory and its area of the device last for ever. Whatever a crash leaves of its
-/// device, at any moment of any call, stands for the heap of the acknowledged cut, or while it settles ([`settle`](Store::settle),
-/// [`settle_and_trim`](Store::settle_and_trim)) for that of the old one or of the new one. It writes nothing but its image, and of
+/// device, at any moment of any call, stands for the heap of the acknowledged cut, or while it settles for that of the old one or of the
+/// new one. It writes nothing but its image, and of
 /// that neither header nor guard rows. All its memory is taken by [`adopt`](Store::adopt).
 ///
 /// Contracts see what it knows as plain data beside its device, and say which pasts it has: what it was told, and what
@@ -128,13 +128,6 @@ impl<D: Disk> Store<D> {
     pub fn log_step(&mut self) -> Result<u64, StoreError>
         ensures { Logs D.device self.old self.new result }
     {
-        self.log_by(Syncs::Apart)
-    }
-
-    // Makes all applied records durable, by these syncs.
-    pub(crate) fn log_by(&mut self, syncs: Syncs) -> Result<u64, StoreError>
-        ensures { Logs D.device self.old self.new result }
-    {
         if self.has_failed {
             return Err(StoreError::Failed);
         }
@@ -144,7 +137,6 @@ impl<D: Disk> Store<D> {
             &self.layout,
             &mut self.committed,
             &self.applied,
-            syncs,
         ) {
             Ok(count) => {
                 self.sections.push_all(fresh);

@@ -8,11 +8,12 @@ use Rattle.heap_model.specs.Past.{Past, IsPast}
 use Rattle.durable.specs.Calls.{MakeAll, Makes}
 use Rattle.durable.specs.Store.{Known}
 use Rattle.durable.specs.declared.store_call.StoreCall.{StoreCall}
+use Rattle.durable.specs.declared.doubt.Doubt.TheVariants.{Settling}
 use Rattle.durable.specs.declared.store_call.StoreCall.TheVariants.{Apply, Log, Settle, Trim}
 use Rattle.durable.specs.declared.store_call.StoreCall.TheVariants.{Home as HomeStep}
 use Rattle.durable.proofs.Showing.{logged_heap}
 use Rattle.law_survival.specs.Unsettled.{HasNoSettling, UnsettledLaw}
-use Rattle.law_survival.specs.WholeRun.{IsSettling, MayAcknowledge, Next, Before}
+use Rattle.law_survival.specs.WholeRun.{IsSettling, Next, Before}
 use Rattle.law_survival.proofs.WholeRuns.{grows_by}
 
 -- what is acknowledged, and its heap
@@ -45,7 +46,7 @@ none_next n [] none is = absurd (let no : None ≡ Some Settle = is in cc)
 none_next zero (call ∷ calls) none is = none.0 (let same : Some call ≡ Some Settle = is in cc)
 none_next (suc n) (call ∷ calls) none is = none_next n calls none.1 is
 
-no_settling : (x : Known) (calls : List StoreCall) (n : ℕ) → HasNoSettling calls → (x.has_failed ≡ true → MayAcknowledge x.doubt → ⊥) → IsSettling x calls n → ⊥
+no_settling : (x : Known) (calls : List StoreCall) (n : ℕ) → HasNoSettling calls → (x.has_failed ≡ true → x.doubt ≡ Settling → ⊥) → IsSettling x calls n → ⊥
 no_settling x calls n none sure (Next is) = none_next n calls none is
 no_settling x calls n none sure (Before first failed doubt) = sure failed doubt
 

@@ -16,9 +16,9 @@ use Rattle.store_image.specs.KeptHeap.{kept_heap}
 use Rattle.heap_model.specs.Past.{Past, IsPast, applied, after_log, after_settle, after_trim}
 use Rattle.durable.specs.Store.{Known, HasPast, ShowsStep, doubt_in}
 use Rattle.durable.specs.declared.doubt.Doubt.{Doubt}
-use Rattle.durable.specs.declared.doubt.Doubt.TheVariants.{Nothing, Settling, Acknowledging}
+use Rattle.durable.specs.declared.doubt.Doubt.TheVariants.{Nothing, Settling}
 use Rattle.store_image.proofs.Stands.{shows_always}
-use Rattle.durable.specs.Store.ShowsStep.{Shows, ShowsLogged, ShowsSettled, ShowsTrimmed, ShowsAcknowledged}
+use Rattle.durable.specs.Store.ShowsStep.{Shows, ShowsLogged, ShowsSettled, ShowsTrimmed}
 use Rattle.store_image.specs.declared.home.Home.TheVariants.{Wrote, Done}
 use Rattle.durable.specs.declared.store_call.StoreCall.{StoreCall}
 use Rattle.durable.specs.declared.store_call.StoreCall.TheVariants.{Apply, Log, Settle, Trim}
@@ -31,7 +31,7 @@ use Rattle.law_survival.specs.Again.{AreCutOff, Attempt, CurrentOnLaw, HasStudyL
 use Rattle.recover.specs.Recovery.{IsRecovery, IsTooOld, RefusesOf, RefusesRecovery}
 use Rattle.recover.specs.Reading.{RefusesImage}
 use Rattle.recover.specs.Study.{IsStudyOf, held_by}
-use Rattle.law_survival.specs.WholeRun.{IsSettling, MayAcknowledge, Next, Before, Survives, CannotRecover, MayBeLeft}
+use Rattle.law_survival.specs.WholeRun.{IsSettling, Next, Before, Survives, CannotRecover, MayBeLeft}
 use Rattle.recover_heap.specs.declared.error.RecoverError.{RecoverError}
 use Rattle.recover_heap.specs.declared.error.RecoverError.TheVariants.{Fault, NotFormatted, BadHeader, TooSmall, NoControl, BadControl, OldVersion, Worn, BadRecord, IllegalLog, NoMemory}
 use Rattle.recover.specs.declared.report.Report.{Report}
@@ -49,19 +49,6 @@ settles (Some HomeStep) is = absurd cc
 settles (Some Settle) is = refl
 settles (Some Trim) is = absurd cc
 
--- no call leaves both in doubt at once
-settles_too : (o : Option StoreCall) → doubt_in o ≡ Acknowledging → o ≡ Some Settle
-settles_too None is = absurd cc
-settles_too (Some (Apply l r)) is = absurd cc
-settles_too (Some Log) is = absurd cc
-settles_too (Some HomeStep) is = absurd cc
-settles_too (Some Settle) is = absurd cc
-settles_too (Some Trim) is = absurd cc
-
-settles_by : (o : Option StoreCall) → MayAcknowledge (doubt_in o) → o ≡ Some Settle
-settles_by o (inl is) = settles o is
-settles_by o (inr is) = settles_too o is
-
 -- the image shows what the first n calls make of the past, or what is in doubt then; only a settling that was cut off leaves a settling in doubt
 pub record ShowsSome (x : Known) (s : Setting) (p : Past) (calls : List StoreCall) (image : List ℕ) : Type 0 where
   pub n : ℕ
@@ -71,11 +58,11 @@ pub record ShowsSome (x : Known) (s : Setting) (p : Past) (calls : List StoreCal
   pub is : IsPast s then
   pub of_lanes : IsOfLanes x.layout.lanes (applied then)
   pub doubt : Doubt
-  pub settling : MayAcknowledge doubt → IsSettling x calls n
+  pub settling : doubt ≡ Settling → IsSettling x calls n
   pub shows : ShowsStep x.layout s then doubt image
 
 -- before the first call
-shows_first : (x : Known) (s : Setting) (p : Past) (calls : List StoreCall) (old : Device) (image : List ℕ) → HasPast x s p old → (w : Doubt) → (MayAcknowledge w → IsSettling x calls 0) → ShowsStep x.layout s p w image →
+shows_first : (x : Known) (s : Setting) (p : Past) (calls : List StoreCall) (old : Device) (image : List ℕ) → HasPast x s p old → (w : Doubt) → (w ≡ Settling → IsSettling x calls 0) → ShowsStep x.layout s p w image →
     ShowsSome x s p calls image
 shows_first x s p calls old image has w settling shown = record {
   n = 0;
@@ -95,7 +82,7 @@ shows_either : (x : Known) (s : Setting) (p : Past) (calls : List StoreCall) (ol
 shows_either x s p calls old image has = ⊎_elim
     (λ before. elim x.has_failed as (λ (b : Bool). x.has_failed ≡ b → ShowsSome x s p calls image) [
       | true ↦ λ failed. shows_first x s p calls old image has x.doubt (λ w. Before refl failed w) (has.images image (left_now old image before))
-      | false ↦ λ serves. shows_first x s p calls old image has Nothing (λ w. ⊎_elim (λ is. absurd cc) (λ is. absurd cc) w) (Shows (shows_always x.layout s p x.committed old (has.agrees serves) image (left_now old image before)))
+      | false ↦ λ serves. shows_first x s p calls old image has Nothing (λ is. absurd cc) (Shows (shows_always x.layout s p x.committed old (has.agrees serves) image (left_now old image before)))
     ] refl)
     (λ shown. record {
       n = shown.n;
@@ -105,7 +92,7 @@ shows_either x s p calls old image has = ⊎_elim
       is = shown.is;
       of_lanes = shown.of_lanes;
       doubt = doubt_in (slice_get calls shown.n);
-      settling = λ w. Next (settles_by (slice_get calls shown.n) w);
+      settling = λ w. Next (settles (slice_get calls shown.n) w);
       shows = shown.shows;
     })
 
@@ -116,7 +103,7 @@ shows_some x s p calls old new image has leaves left = shows_either x s p calls 
 
 -- the cut is the acknowledged one, or where a settling is in doubt the stable one
 abbrev pub KeepsEither : Setting → Past → Doubt → (ℕ → ℕ) → Type 0
-KeepsEither s p w cut = (cut ≡ p.cut) ⊎ (MayAcknowledge w × IsClean s p × IsStable (actions p.logged) cut)
+KeepsEither s p w cut = (cut ≡ p.cut) ⊎ ((w ≡ Settling) × IsClean s p × IsStable (actions p.logged) cut)
 
 -- such an image is one that a store of some past leaves, whose acknowledged cut is the one before or the stable one
 pub record Left (l : Layout) (s : Setting) (p : Past) (w : Doubt) (image : List ℕ) : Type 0 where
@@ -141,17 +128,7 @@ left_by l s p w image is of (ShowsLogged doubt shown) = record {
 left_by l s p w image is of (ShowsSettled doubt clean cut stable shown) = record {
   past = after_settle p cut;
   is = record { past = past_settle s p cut is stable; lanes = λ k from. undone_beyond l.lanes k p.logged (of_lanes_before l.lanes p.fresh p.logged of) from; shows = shown };
-  acknowledged = inr (inl doubt, clean, stable);
-  heap = refl;
-}
-left_by l s p w image is of (ShowsAcknowledged doubt clean cut stable shown) = record {
-  past = after_trim (after_settle p cut);
-  is = record {
-    past = past_trim s (after_settle p cut) (past_settle s p cut is stable);
-    lanes = λ k from. undone_beyond l.lanes k p.logged (of_lanes_before l.lanes p.fresh p.logged of) from;
-    shows = shown;
-  };
-  acknowledged = inr (inr doubt, clean, stable);
+  acknowledged = inr (doubt, clean, stable);
   heap = refl;
 }
 left_by l s p w image is of (ShowsTrimmed doubt shown) = record {

@@ -3,10 +3,11 @@ use Rattle.std.specs.Prelude.{ℕ, ◌≡◌, ◌≢◌, ◌<◌, true, List, []
 use Rattle.heap_model.specs.Setting.{Setting}
 use Rattle.durable.specs.Store.{Known}
 use Rattle.durable.specs.declared.store_call.StoreCall.{StoreCall}
+use Rattle.durable.specs.declared.doubt.Doubt.TheVariants.{Settling}
 use Rattle.durable.specs.declared.store_call.StoreCall.TheVariants.{Settle}
 use Rattle.store_image.specs.KeptHeap.{kept_heap}
 use Rattle.heap_model.specs.Past.{Past, IsPast}
-use Rattle.law_survival.specs.WholeRun.{MayAcknowledge, Survives}
+use Rattle.law_survival.specs.WholeRun.{Survives}
 
 -- none of the calls is a settling
 abbrev pub HasNoSettling : List StoreCall → Type 0
@@ -21,4 +22,4 @@ pub record KeepsBefore (x : Known) (s : Setting) (p : Past) (heap : List ℕ) (k
 -- So it is after calls with no settling, unless the store had failed in one before.
 abbrev pub UnsettledLaw : Type 0
 UnsettledLaw = (x : Known) (s : Setting) (p : Past) (calls : List StoreCall) (heap : List ℕ) (kept : ℕ → ℕ) → IsPast s p → HasNoSettling calls
-    → (x.has_failed ≡ true → MayAcknowledge x.doubt → ⊥) → Survives x s p calls heap kept → KeepsBefore x s p heap kept
+    → (x.has_failed ≡ true → x.doubt ≡ Settling → ⊥) → Survives x s p calls heap kept → KeepsBefore x s p heap kept

@@ -4,8 +4,7 @@ use Rattle.heap_model.specs.Setting.{Setting}
 use Rattle.heap_model.specs.Sections.{actions}
 use Rattle.heap_model.specs.Cuts.{IsWhole, IsClosed, IsStable}
 use Rattle.block_disk.specs.Device.{Device, LeftSince}
-use Rattle.durable.specs.declared.doubt.Doubt.{Doubt}
-use Rattle.durable.specs.declared.doubt.Doubt.TheVariants.{Settling, Acknowledging}
+use Rattle.durable.specs.declared.doubt.Doubt.TheVariants.{Settling}
 use Rattle.durable.specs.declared.store_call.StoreCall.{StoreCall}
 use Rattle.durable.specs.declared.store_call.StoreCall.TheVariants.{Settle}
 use Rattle.durable.specs.Calls.{IsClean, MakeAll}
@@ -20,14 +19,10 @@ use Rattle.recover.specs.Recovery.{IsWorn}
 abbrev pub MayBeLeft : (old new : Device) → List ℕ → Type 0
 MayBeLeft old new image = LeftSince (length old.past) new image
 
--- what is in doubt is whether the stable cut is acknowledged
-abbrev pub MayAcknowledge : Doubt → Type 0
-MayAcknowledge w = (w ≡ Settling) ⊎ (w ≡ Acknowledging)
-
 -- A settling was cut off after the first n calls: the next of them is one, or the store had failed in one before the first.
 pub data IsSettling (x : Known) (calls : List StoreCall) (n : ℕ) : Type 0 where
   Next : slice_get calls n ≡ Some Settle → IsSettling x calls n
-  Before : n ≡ 0 → x.has_failed ≡ true → MayAcknowledge x.doubt → IsSettling x calls n
+  Before : n ≡ 0 → x.has_failed ≡ true → x.doubt ≡ Settling → IsSettling x calls n
 
 -- The cut is the acknowledged one. Only where a settling was cut off, with no field dirty, may it be the stable one.
 abbrev pub KeepsCut : Known → Setting → (calls : List StoreCall) → (n : ℕ) → Past → (cut : ℕ → ℕ) → Type 0

@@ -3,7 +3,6 @@ mod altered;
 mod crashes;
 mod faults;
 mod larger;
-mod rounds;
 mod runs;
 mod upgrades;
 

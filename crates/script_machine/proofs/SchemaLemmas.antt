@@ -22,7 +22,7 @@ use Rattle.image_parts.proofs.Reading.{guards_are_read, one_layout}
 use Rattle.heap_model.specs.Past.{Past, after_log, after_settle, after_trim, no_past}
 use Rattle.store_image.specs.Consistent.{HasParts}
 use Rattle.durable.specs.Store.{FitsImage, Parts, ShowsStep}
-use Rattle.durable.specs.Store.ShowsStep.{Shows, ShowsLogged, ShowsSettled, ShowsTrimmed, ShowsAcknowledged}
+use Rattle.durable.specs.Store.ShowsStep.{Shows, ShowsLogged, ShowsSettled, ShowsTrimmed}
 use Rattle.durable.specs.declared.doubt.Doubt.{Doubt}
 use Rattle.script_monitors.specs.Table.{Table, setting_in}
 use Rattle.recover.specs.Reading.{HasFront}
@@ -96,7 +96,6 @@ shown_fits a first l p w image fits begins (Shows shown) = parts_fit a first l p
 shown_fits a first l p w image fits begins (ShowsLogged doubt shown) = let q = after_log p in parts_fit a first l q.logged q.base q.cut image fits begins shown.parts
 shown_fits a first l p w image fits begins (ShowsSettled doubt clean cut stable shown) = let q = after_settle p cut in parts_fit a first l q.logged q.base q.cut image fits begins shown.parts
 shown_fits a first l p w image fits begins (ShowsTrimmed doubt shown) = let q = after_trim p in parts_fit a first l q.logged q.base q.cut image fits begins shown.parts
-shown_fits a first l p w image fits begins (ShowsAcknowledged doubt clean cut stable shown) = let q = after_trim (after_settle p cut) in parts_fit a first l q.logged q.base q.cut image fits begins shown.parts
 
 -- a call of the store leaves it so
 pub called_of : (a : Table) (first : ℕ → ℕ) (p : Past) (w : Doubt) (x : Parts Memory) (y : Memory) → Tells x (setting_from a first) p → x.known.has_failed ≡ false

@@ -19,7 +19,7 @@ use Rattle.store_memory.specs.Fresh.{IsOfLanes}
 use Rattle.heap_model.specs.Past.{Past, applied, after_settle}
 use Rattle.store_image.specs.KeptHeap.{kept_heap, StandsForCut, StandsForEither}
 use Rattle.durable.specs.Store.{Parts, ShowsStep}
-use Rattle.durable.specs.Store.ShowsStep.{Shows, ShowsLogged, ShowsSettled, ShowsTrimmed, ShowsAcknowledged}
+use Rattle.durable.specs.Store.ShowsStep.{Shows, ShowsLogged, ShowsSettled, ShowsTrimmed}
 use Rattle.durable.specs.declared.doubt.Doubt.{Doubt}
 use Rattle.durable.specs.declared.doubt.Doubt.TheVariants.{Nothing, Logging, Settling, Trimming}
 use Rattle.recover.specs.Reading.{Holds}
@@ -68,7 +68,6 @@ header_of l s p w image (Shows shown) = shown.parts.header
 header_of l s p w image (ShowsLogged doubt shown) = shown.parts.header
 header_of l s p w image (ShowsSettled doubt clean cut stable shown) = shown.parts.header
 header_of l s p w image (ShowsTrimmed doubt shown) = shown.parts.header
-header_of l s p w image (ShowsAcknowledged doubt clean cut stable shown) = shown.parts.header
 
 same_answer : (x y : Slot × Control) → (let a : Result (Slot × Control) ControlError = Ok x in a ≡ Ok y) → x ≡ y
 same_answer x y is = cc

@@ -13,7 +13,6 @@ pub mod Pending
 pub mod Acknowledging
 pub mod Rewriting
 pub mod Freeing
-pub mod Round
 pub mod Sequences
 pub mod Within
 pub mod Taking

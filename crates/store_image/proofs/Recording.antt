@@ -11,7 +11,7 @@ use Rattle.block_disk.specs.Device.{Range, Device, SameOutside, synced}
 use Rattle.block_disk.specs.Images.{Always, ImageBut, IsApart, LeavesOnly}
 use Rattle.block_disk.proofs.Images.{after_sync, always_now, and_then, besides_none, besides_survives, image_now, leaves_synced, now_too, weaker}
 use Rattle.image_parts.specs.Cells.{HasCell}
-use Rattle.image.specs.Commit.{IsSteady, OldOrNew, OldOrTurned, slots_range}
+use Rattle.image.specs.Commit.{IsSteady, OldOrNew}
 use Rattle.image_parts.specs.Control.{AreRows, control_of}
 use Rattle.image_parts.specs.Layout.{cell_at}
 use Rattle.image_parts.specs.Rows.{IsRow}
@@ -34,7 +34,6 @@ use Rattle.store_image.specs.Steps.{MayLog}
 use Rattle.store_image.specs.declared.committed.Committed.{Committed}
 use Rattle.store_image.proofs.Appending.{front_apart, live_apart}
 use Rattle.store_image.proofs.Committing.{commit_leaves, commit_parts, commit_cells, commit_size}
-use Rattle.store_image.proofs.Pending.{pending_cells, pending_parts, pending_shows}
 use Rattle.undo_log.proofs.Back.{length_undo}
 use Rattle.store_image.proofs.Counting.{same_sum, lanes_sum}
 use Rattle.store_image.proofs.Growing.{dropped_more, kept_grown, newer_dropped, value_grown, undo_append, places_grown, live_grown, has_append}
@@ -287,58 +286,6 @@ module _ (l : Layout) (s : Setting) (p : Past) (c : Committed) (d : Device) (fre
             clean = λ f below. elim (p.is_dirty f) as (λ b. p.is_dirty f ≡ b → (if b then true else has_store f p.fresh) ≡ false → s.is_logged f ≡ true → HasCell l f d3.now.bytes (value s.first f q.logged)) [
               | true ↦ λ was now kept. absurd (let no : true ≡ false = now in cc)
               | false ↦ λ was now kept. cells f below (value s.first f q.logged)
-                  (subst (HasCell l f d.now.bytes) (sym (value_grown s.first p.fresh p.logged f now)) (may.consistent.clean f below was kept))
-            ] refl;
-          }
-
-      -- a commit that makes the records durable by itself
-      pub steady_one : IsSteady l d1 c.slot old
-      steady_one = steady_stays l d d1 c.slot old rs (front 64 2096 (omega arith)) may.consistent.steady but
-
-      -- with whatever sequence
-      module _ (has : HasFresh l c.rows fresh l.lanes d.now.bytes d1.now.bytes) (sequence : ℕ) (d3 : Device) (committing : LeavesOnly d1 d3 (OldOrTurned l d1 c.slot old (control_of sequence rows))) where
-        abbrev next : Control
-        next = control_of sequence rows
-
-        parts_each : Always d1 (HasParts l s p.logged p.base p.cut)
-        parts_each image left = in_append image (but image left)
-
-        parts_then : HasParts l s q.logged q.base q.cut d1.now.bytes
-        parts_then = parts_next has (synced d1) refl
-
-        shown_at_once : LeavesOnly d1 d3 (λ image. ShowsPast l s p image ⊎ ShowsPast l s q image)
-        shown_at_once = pending_shows l s c.slot old next (refl, refl) d1 p may.consistent.tells parts_each q tells_new parts_then d3 committing
-
-        -- whatever the commit answers
-        pub at_once_shows : LeavesOnly d d3 (ShowsEither l s p q)
-        at_once_shows = and_then d d1 d3 (ShowsEither l s p q) append_shows shown_at_once
-
-        pub at_once_leaves : LeavesOnly d d3 P
-        at_once_leaves = and_then d d1 d3 P append_leaves
-            (weaker d1 d3 (λ image. ShowsPast l s p image ⊎ ShowsPast l s q image) P (λ image either. ⊎_elim (λ one. to_heap image one) (λ two. to_heap_after image two) either) shown_at_once)
-
-        module _ (rest : d3.now.pending ≡ []) (same : SameOutside (slots_range ∷ []) d1.now.bytes d3.now.bytes) where
-          cells_then : (f : ℕ) → f < l.fields → (v : ℕ) → HasCell l f d.now.bytes v → HasCell l f d3.now.bytes v
-          cells_then f below v holds =
-              pending_cells l s c.slot old next (refl, refl) d1 p may.consistent.tells parts_each q tells_new parts_then d3 committing rest same f v
-              (cell_survives l f v rs (front (cell_at l f) 8 (omega arith)) d.now.bytes d1.now.bytes holds has.same)
-
-          pub at_once_done : IsSteady l d3 (other c.slot) next → IsConsistent l s q (record { slot = other c.slot; sequence = sequence; rows = rows }) d3
-          at_once_done steady = record {
-            limits = may.consistent.limits;
-            room = omega (arith, may.consistent.room, has.same.size, same.size);
-            past = past_after;
-            lanes = may.consistent.lanes;
-            tells = tells_new;
-            steady = steady;
-            parts = pending_parts l s c.slot old next (refl, refl) d1 p may.consistent.tells parts_each q tells_new parts_then d3 committing rest same;
-            dirty = λ f below. elim (p.is_dirty f) as (λ b. p.is_dirty f ≡ b → (if b then true else has_store f p.fresh) ≡ true → IsDropped (s.guard f) f q.logged p.cut) [
-              | true ↦ λ was now. dropped_more (s.guard f) f p.fresh p.logged p.cut (may.consistent.dirty f below was)
-              | false ↦ λ was now. newer_dropped s p.fresh p.logged p.cut f may.consistent.past.legal may.consistent.past.whole now
-            ] refl;
-            clean = λ f below. elim (p.is_dirty f) as (λ b. p.is_dirty f ≡ b → (if b then true else has_store f p.fresh) ≡ false → s.is_logged f ≡ true → HasCell l f d3.now.bytes (value s.first f q.logged)) [
-              | true ↦ λ was now kept. absurd (let no : true ≡ false = now in cc)
-              | false ↦ λ was now kept. cells_then f below (value s.first f q.logged)
                   (subst (HasCell l f d.now.bytes) (sym (value_grown s.first p.fresh p.logged f now)) (may.consistent.clean f below was kept))
             ] refl;
           }

@@ -135,29 +135,21 @@ pub record GoesHome {T : Type 0} (l : Layout) (d : Device) (field value : ℕ) (
   -- The call answers `Fault` only if a call of the device has failed since it began.
   pub cause : HasCauseSince d d' Fault result
 
--- A step that acknowledges the cut. `After` is the past that it makes of one.
-pub record Acknowledges {D T : Type 0} (device : D → Device) (l : Layout) (After : Past → Past) (cut : Cut) (places : List ℕ) (c : Committed) (x : D)
+-- `settle`: the cut is acknowledged.
+pub record Settles {D T : Type 0} (device : D → Device) (l : Layout) (cut : Cut) (places : List ℕ) (c : Committed) (x : D)
     (c' : Committed) (y : D) (result : Result T StoreError) : Type 0 where
   -- It is a step.
   pub step : TakesStep device l c x c' y result
   -- After a success the device agrees with the past in which the cut is acknowledged.
-  pub ok : (s : Setting) (p : Past) → MaySettle l s p c (device x) cut places → OnOk result (IsConsistent l s (After p) c' (device y))
+  pub ok : (s : Setting) (p : Past) → MaySettle l s p c (device x) cut places → OnOk result (IsConsistent l s (after_settle p (counts_of cut)) c' (device y))
   -- `Worn` is answered exactly where the control's sequence is at its last value.
   pub worn : IsErrOf result Worn ↔ (c.sequence ≡ 2 ^ 64 - 1)
   -- Each new image stands for the heap of the old cut or of this one.
   pub any_moment : (s : Setting) (p : Past) → MaySettle l s p c (device x) cut places → LeavesOnly (device x) (device y) (StandsForEither l s p.logged p.cut (counts_of cut))
   -- Each new image shows the past before or the one after.
-  pub shown : (s : Setting) (p : Past) → MaySettle l s p c (device x) cut places → LeavesOnly (device x) (device y) (ShowsEither l s p (After p))
+  pub shown : (s : Setting) (p : Past) → MaySettle l s p c (device x) cut places → LeavesOnly (device x) (device y) (ShowsEither l s p (after_settle p (counts_of cut)))
   -- After the call a crash leaves an image that stands for the heap of the old cut or of this one, however the call ends.
   pub crash : (s : Setting) (p : Past) → MaySettle l s p c (device x) cut places → Always (device y) (StandsForEither l s p.logged p.cut (counts_of cut))
-
--- `settle`: the cut is acknowledged.
-abbrev pub Settles : {D T : Type 0} → (device : D → Device) → Layout → Cut → (places : List ℕ) → Committed → D → Committed → D → Result T StoreError → Type 0
-Settles device l cut places c x c' y result = Acknowledges device l (λ p. after_settle p (counts_of cut)) cut places c x c' y result
-
--- `settle_and_trim`: the cut is acknowledged, and its records are given up.
-abbrev pub SettlesAndTrims : {D T : Type 0} → (device : D → Device) → Layout → Cut → (places : List ℕ) → Committed → D → Committed → D → Result T StoreError → Type 0
-SettlesAndTrims device l cut places c x c' y result = Acknowledges device l (λ p. after_trim (after_settle p (counts_of cut))) cut places c x c' y result
 
 -- `trim`: the records of what is acknowledged are given up.
 pub record Trims {D T : Type 0} (device : D → Device) (l : Layout) (c : Committed) (x : D) (c' : Committed) (y : D) (result : Result T StoreError) : Type 0 where

@@ -9,15 +9,6 @@ use block_disk::Disk;
 use heap_model::StoreError;
 use image::{LaneRow, Layout, commit_by_turning, commit_control};
 
-/// How what was written and the control that counts it become durable, one before the other.
-#[derive(Clone, Copy, Debug, PartialEq, Eq)]
-pub enum Syncs {
-    /// What was written has a sync of its own, after which a commit begins.
-    Apart,
-    /// It shares the first of a commit's two syncs.
-    Joined,
-}
-
 /// Commits a control with these rows. At every moment a crash leaves the old control or the new one.
 pub fn commit<D: Disk>(
     disk: &mut D,

@@ -1,7 +1,7 @@
 //! The image of a store: the steps by which what a store was told reaches its device.
 //!
 //! [`format`] makes an image. [`log_records`] makes new records durable, [`write_home`] brings a logged value to its home cell, [`settle`]
-//! acknowledges the stable cut, and [`trim`] frees the places of what is acknowledged; [`settle_and_trim`] does both by one commit. Each says
+//! acknowledges the stable cut, and [`trim`] frees the places of what is acknowledged. Each says
 //! which past the device agrees with afterwards, and what every image that a crash may leave stands for at every moment until then.
 //! [`standing_law`] says what that is worth.
 #![tactic(auto)]
@@ -14,7 +14,6 @@ mod committed;
 mod sync;
 
 // The steps.
-mod ending_round;
 mod home;
 mod logging;
 mod records;
@@ -24,9 +23,8 @@ mod trimming;
 // What an image of a store is worth.
 mod laws;
 
-pub use commit::{Syncs, commit_written};
+pub use commit::commit_written;
 pub use committed::Committed;
-pub use ending_round::settle_and_trim;
 pub use formatting::format;
 pub use home::{Home, write_home};
 pub use laws::standing_law;

@@ -12,7 +12,7 @@ ghost use Rattle.store_image.specs.Steps.{CanLog, MayLog, step_ranges};
 ghost use Rattle.store_image.specs.Sequences.{ShowsUpTo};
 ghost use Rattle.heap_model.specs.declared.store_error.StoreError.TheVariants.{Fault};
 
-use crate::commit::{Syncs, commit, commit_written};
+use crate::commit::commit;
 use crate::committed::Committed;
 use crate::records::append_lanes;
 use crate::sync::sync;
@@ -21,8 +21,7 @@ use heap_model::{Lane, NewRecords, StoreError};
 use image::{LaneRow, Layout};
 
 /// Makes the lanes' new records durable, and then the control that counts them. Answers how many there were. It takes a
-/// write for each record and the calls of a commit, with a sync before them or one that both share; with no record it takes
-/// no call.
+/// write for each record, a sync and the calls of a commit; with no record it takes no call.
 ///
 /// Refusals, in this order:
 /// - `Worn`: there are records, and the control's sequence is at its last value, 2^64 - 1. The device isn't called;
@@ -32,7 +31,6 @@ pub fn log_records<D: Disk, F: NewRecords>(
     layout: &Layout,
     committed: &mut Committed,
     fresh: &F,
-    syncs: Syncs,
 ) -> Result<u64, StoreError>
     requires lanes { layout.now.lanes ≤ F.lanes fresh.now }
     requires logs { CanLog layout.now committed.old (D.device disk.old) (F.fresh fresh.now) }
@@ -47,7 +45,7 @@ pub fn log_records<D: Disk, F: NewRecords>(
     if committed.sequence == u64::MAX {
         return Err(StoreError::Worn);
     }
-    match log_all(disk, layout, committed, fresh, syncs) {
+    match log_all(disk, layout, committed, fresh) {
         Ok(()) => Ok(count),
         Err(reason) => Err(reason),
     }
@@ -72,7 +70,6 @@ fn log_all<D: Disk, F: NewRecords>(
     layout: &Layout,
     committed: &mut Committed,
     fresh: &F,
-    syncs: Syncs,
 ) -> Result<(), StoreError>
     requires lanes { layout.now.lanes ≤ F.lanes fresh.now }
     requires sequence { committed.old.sequence < 2 ^ 64 - 1 }
@@ -94,13 +91,8 @@ fn log_all<D: Disk, F: NewRecords>(
     append_lanes(disk, layout, &committed.rows, fresh)?;
     let rows = logged_rows(layout.lanes, &committed.rows, fresh);
     // The records have to be durable before the control that counts them.
-    match syncs {
-        Syncs::Apart => {
-            sync(disk)?;
-            commit(disk, layout, committed, &rows)
-        }
-        Syncs::Joined => commit_written(disk, layout, committed, &rows),
-    }
+    sync(disk)?;
+    commit(disk, layout, committed, &rows)
 }
 
 // The rows with the new records counted.

@@ -1,4 +1,6 @@
-//! Stores for rounds: what recovery gives of whatever a crash leaves of them, with a lane for the helper and without one.
+//! Stores for rounds: what recovery gives of whatever a crash or a fault leaves of them, with a lane for the helper and without one.
+ghost use Rattle.std.specs.Prelude.{◌≤◌};
+
 use crate::worked_rounds::{CELL_AT, SIZE, schema_or_none};
 use block_disk::{Fill, MemDisk};
 use durable::Store;
@@ -8,7 +10,16 @@ use recover::recover;
 use std::alloc::Global;
 use store_rounds::RoundStore;
 
-const FILLS: [Fill; 4] = [Fill::Lost, Fill::Kept, Fill::Byte(0), Fill::Byte(255)];
+// What is written and not yet durable, but for `Lost`. The byte of an open gate is among these.
+const FILLS: [Fill; 4] = [Fill::Kept, Fill::Byte(0), Fill::Byte(165), Fill::Byte(255)];
+
+// Where a store begins: with so many threads, over an image just made, of whose slots one is closed, or over one that recovery left,
+// with both open.
+#[derive(Clone, Copy)]
+struct Start {
+    threads: u8,
+    recovered: bool,
+}
 
 // A call of a store: a record of the first thread's or the second one's, or one that writes.
 #[derive(Clone, Copy)]
@@ -69,21 +80,39 @@ fn adopted(alloc: Global, made: Recovered<MemDisk>, threads: u8) -> Option<Round
     RoundStore::adopt(alloc, made, threads, 9).ok()
 }
 
-// One on an image of three lanes, two objects and a field of each with 10 and 20.
-fn fresh_store(alloc: Global, threads: u8) -> Option<RoundStore<MemDisk>> {
-    let disk = MemDisk::new(alloc, SIZE).ok()?;
+// The image as recovery leaves it.
+fn left(alloc: Global, image: MemDisk) -> Option<Recovered<MemDisk>> {
+    match recover(alloc, image) {
+        Ok((made, report)) => {
+            drop(report);
+            Some(made)
+        }
+        Err(refused) => {
+            drop(refused);
+            None
+        }
+    }
+}
+
+// One on this device, with an image of three lanes, two objects and a field of each with 10 and 20.
+fn store_on(alloc: Global, disk: MemDisk, start: Start) -> Option<RoundStore<MemDisk>> {
     let Some(schema) = schema_or_none(alloc) else {
         drop(disk);
         return None;
     };
     let made = Store::format(alloc, disk, &schema, 3, 2000).ok();
     drop(schema);
-    adopted(alloc, made?, threads)
+    let made = made?;
+    if start.recovered {
+        adopted(alloc, left(alloc, made.into_disk())?, start.threads)
+    } else {
+        adopted(alloc, made, start.threads)
+    }
 }
 
 // Its device after these calls, and how often it was called by all but the last of them.
-fn device_after(alloc: Global, threads: u8, calls: &[Call], last: Call) -> Option<(MemDisk, u64)> {
-    let mut store = fresh_store(alloc, threads)?;
+fn device_after(alloc: Global, start: Start, calls: &[Call], last: Call) -> Option<(MemDisk, u64)> {
+    let mut store = store_on(alloc, MemDisk::new(alloc, SIZE).ok()?, start)?;
     let mut is_so = are_made(&mut store, calls);
     let from = store.disk().stops();
     is_so &= is_made(&mut store, last);
@@ -98,27 +127,20 @@ fn device_after(alloc: Global, threads: u8, calls: &[Call], last: Call) -> Optio
 
 // The heap that recovery gives of this image.
 fn recovered(alloc: Global, image: MemDisk) -> Option<[u64; 2]> {
-    match recover(alloc, image) {
-        Ok((made, report)) => {
-            drop(report);
-            let heap = heap_of(&made);
-            drop(made);
-            heap
-        }
-        Err(refused) => {
-            drop(refused);
-            None
-        }
-    }
+    let made = left(alloc, image)?;
+    let heap = heap_of(&made);
+    drop(made);
+    heap
 }
 
 fn heap_of(made: &Recovered<MemDisk>) -> Option<[u64; 2]> {
     Some(*made.heap().as_array::<2>()?)
 }
 
-// Whether what a crash leaves that comes with stop `k` of the device begun gives one of these heaps.
+// Whether what a crash leaves that comes with stop `k` of the device begun gives one of these heaps, and the first one where all is
+// lost that isn't durable.
 fn gives_either(alloc: Global, disk: &MemDisk, k: u64, old: [u64; 2], new: [u64; 2]) -> bool {
-    let mut is_so = true;
+    let mut is_so = crashed(alloc, disk, k, Fill::Lost) == Some(old);
     for fill in FILLS {
         let heap = crashed(alloc, disk, k, fill);
         is_so &= heap == Some(old) || heap == Some(new);
@@ -133,13 +155,13 @@ fn crashed(alloc: Global, disk: &MemDisk, k: u64, fill: Fill) -> Option<[u64; 2]
 // Whether each crash in the last of these calls gives the old heap or the new one, and a crash behind it the new one.
 fn turns(
     alloc: Global,
-    threads: u8,
+    start: Start,
     calls: &[Call],
     last: Call,
     old: [u64; 2],
     new: [u64; 2],
 ) -> bool {
-    let Some((disk, from)) = device_after(alloc, threads, calls, last) else {
+    let Some((disk, from)) = device_after(alloc, start, calls, last) else {
         return false;
     };
     let mut is_so = true;
@@ -197,25 +219,78 @@ const WRITES: [(usize, [u64; 2], [u64; 2]); 5] = [
     (16, [8, 30], [8, 30]),
 ];
 
-fn all_turn(alloc: Global, threads: u8) -> bool {
+fn all_turn(alloc: Global, threads: u8, recovered: bool) -> bool {
+    let start = Start { threads, recovered };
     let calls = script();
     let mut is_so = true;
     for (place, old, new) in WRITES {
-        is_so &= turns(alloc, threads, &calls[..place], calls[place], old, new);
+        is_so &= turns(alloc, start, &calls[..place], calls[place], old, new);
     }
     is_so
 }
 
-// With a lane for the helper, and with three threads and none.
+// With a lane for the helper.
 #[test] // tools/quick: not
 fn a_crash_gives_the_old_heap_or_the_new_one(rt: HostRuntime) {
-    assert!(rt; all_turn(rt.alloc(), 2));
-    assert!(rt; all_turn(rt.alloc(), 3));
+    assert!(rt; all_turn(rt.alloc(), 2, false));
+    assert!(rt; all_turn(rt.alloc(), 2, true));
+}
+
+// With three threads, and no lane for the helper.
+#[test] // tools/quick: not
+fn a_crash_in_a_round_of_two_commits_gives_the_old_heap_or_the_new_one(rt: HostRuntime) {
+    assert!(rt; all_turn(rt.alloc(), 3, false));
+    assert!(rt; all_turn(rt.alloc(), 3, true));
+}
+
+// Whether the first round of the script is made over a device whose call of this number is a fault. None if recovery then gives
+// neither the old heap nor the new one, or not the new one of a round that was made.
+fn made_with_fault(alloc: Global, threads: u8, call: u64) -> Option<bool>
+    requires { 1 ≤ call }
+{
+    let mut disk = MemDisk::new(alloc, SIZE).ok()?;
+    disk.fail_call(call);
+    let start = Start {
+        threads,
+        recovered: false,
+    };
+    let mut store = store_on(alloc, disk, start)?;
+    let calls = script();
+    let is_applied = are_made(&mut store, &calls[..5]);
+    let is_round = is_made(&mut store, calls[5]);
+    let disk = store.into_disk();
+    let old = if is_round { [5, 20] } else { [10, 20] };
+    let is_so = is_applied
+        && gives_either(alloc, &disk, disk.stops().saturating_add(1), old, [5, 20]);
+    drop(disk);
+    if is_so { Some(is_round) } else { None }
+}
+
+// Whether each call from the first of the round's on is a fault that it answers, and the first behind them none.
+fn are_answered(alloc: Global, threads: u8, last: u64) -> bool {
+    let mut is_so = true;
+    for call in 14..=last {
+        is_so &= made_with_fault(alloc, threads, call) == Some(false);
+    }
+    is_so && made_with_fault(alloc, threads, last.saturating_add(1)) == Some(true)
+}
+
+// The format takes 13 calls of the device. A round of two syncs takes 10: a write for each of the second thread's 2 records and of the
+// helper's 3, a read of the other slot's head, the control's body, a sync, a gate and a sync. One of two commits takes 16: 5 records and
+// those of a commit, and then a cell and those of a commit.
+#[test] // tools/quick: not
+fn a_fault_at_each_call_of_a_round_leaves_the_old_heap_or_the_new_one(rt: HostRuntime) {
+    assert!(rt; are_answered(rt.alloc(), 2, 23));
+    assert!(rt; are_answered(rt.alloc(), 3, 29));
 }
 
 // What the first field's home cell holds after these calls.
 fn cell_after(alloc: Global, threads: u8, calls: &[Call], last: Call) -> Option<u64> {
-    let (disk, _) = device_after(alloc, threads, calls, last)?;
+    let start = Start {
+        threads,
+        recovered: false,
+    };
+    let (disk, _) = device_after(alloc, start, calls, last)?;
     let cell = cell_of(&disk);
     drop(disk);
     cell

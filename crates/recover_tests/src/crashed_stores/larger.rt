@@ -1,5 +1,4 @@
 //! A device that is larger than its image: format, the steps of a store and recovery write nothing past the image.
-use super::rounds::round;
 use super::runs::{acq, one, put, rel, store_on, stored};
 use block_disk::{Fill, MemDisk};
 use durable::{Store, StoreCall};
@@ -21,9 +20,17 @@ fn larger(alloc: Global) -> Option<MemDisk> {
     MemDisk::from_bytes(alloc, &bytes).ok()
 }
 
-// The second section of the first thread.
-fn second() -> [StoreCall; 3] {
-    [one(acq(0, 1)), one(put(0, 5, 6)), one(rel(0, 1))]
+// The second section of the first thread, which is acknowledged and trimmed.
+fn second() -> [StoreCall; 7] {
+    [
+        one(acq(0, 1)),
+        one(put(0, 5, 6)),
+        one(rel(0, 1)),
+        StoreCall::Log,
+        StoreCall::Home,
+        StoreCall::Settle,
+        StoreCall::Trim,
+    ]
 }
 
 // A third one, which is logged and written home, and not settled.
@@ -37,10 +44,10 @@ fn third() -> [StoreCall; 5] {
     ]
 }
 
-// Whether each step is made: those of the first section, which is trimmed, those of a round, and a log step and a home step.
+// Whether each step is made: those of the first section, which is trimmed, those of the second, and a log step and a home step.
 fn is_played(store: &mut Store<MemDisk>) -> bool {
     let first = store.play(&stored()).is_ok() && store.play(&[StoreCall::Trim]).is_ok();
-    first && round(store, &second()).is_some() && store.play(&third()).is_ok()
+    first && store.play(&second()).is_ok() && store.play(&third()).is_ok()
 }
 
 // The device of that store.

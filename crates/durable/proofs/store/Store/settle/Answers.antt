@@ -7,15 +7,15 @@ use Rattle.heap_model.specs.Cuts.{counts_of}
 use Rattle.heap_model.specs.declared.store_error.StoreError.TheVariants.{Worn}
 use Rattle.store_image.specs.KeptHeap.{StandsForEither}
 use Rattle.durable.proofs.Settling.{settling, answers, may, of_stable, refuses_worn, refuses_fault, stands_for_one, shows, fails}
-use Rattle.durable.proofs.Writing.{acknowledged_both, acknowledged_failed, acknowledged_from, commits_none, commits_same, unwritten_other}
+use Rattle.durable.proofs.Writing.{commits_none, commits_same, settles_both, settles_failed, settles_from, unwritten_other}
 use Rattle.durable.proofs.Storing.{settled_has, settles_then, may_settle, none_dirty, some_dirty}
 use Rattle.durable.proofs.store.Store.settle.Goals as goal
 
 pub returns-then-self : goal.returns-then-self
-returns-then-self g c = acknowledged_failed g.D.Disk.device c.args.self.now Settling after_settle (sym (ap (λ z. z.known.has_failed) c.self.view_is) ∙ c.if-self.true)
+returns-then-self g c = settles_failed g.D.Disk.device c.args.self.now (sym (ap (λ z. z.known.has_failed) c.self.view_is) ∙ c.if-self.true)
 
 pub returns-then-is_some : goal.returns-then-is_some
-returns-then-is_some g c = acknowledged_both c.self.view_is (record {
+returns-then-is_some g c = settles_both c.self.view_is (record {
   writes = commits_none unwritten_other;
   ok = λ s p cut was stable. tt;
   answer = λ s p was. (c.if-self.false, some_dirty s p c.least_dirty.result (sym c.is_some.ensures ∙ c.if-is_some.true) (c.least_dirty.ensures s p was.remembers));
@@ -46,7 +46,7 @@ invariant_of-self-in-Fault g c =
 pub returns-in-Ok : goal.returns-in-Ok
 returns-in-Ok g c =
     let k = settling c.least_dirty.result c.stable-stable.result.cut c.stable-stable.result.places c.self.view_is c.if-self.false (sym c.is_some.ensures ∙ c.if-is_some.false) c.least_dirty.ensures c.stable-stable.ensures.stable c.stable-stable.ensures.behind in
-    acknowledged_from c.self.view_is (record {
+    settles_from c.self.view_is (record {
       writes = record {
         running = (c.if-self.false, c.if-self.false);
         kept = λ s p was. tt;
@@ -70,7 +70,7 @@ returns-in-Ok g c =
 pub returns-in-Fault : goal.returns-in-Fault
 returns-in-Fault g c =
     let k = settling c.least_dirty.result c.stable-stable.result.cut c.stable-stable.result.places c.self.view_is c.if-self.false (sym c.is_some.ensures ∙ c.if-is_some.false) c.least_dirty.ensures c.stable-stable.ensures.stable c.stable-stable.ensures.behind in
-    acknowledged_from c.self.view_is (record {
+    settles_from c.self.view_is (record {
       writes = record {
         running = tt;
         kept = fails g.D.Disk.device k (g.D.Disk.device c.settle.new.disk) Settling after_settle settles_then c.in-Err.ensures.shown _ _ c.in-Err.ensures.step.takes.err c.stable-stable.ensures.same;
@@ -95,7 +95,7 @@ returns-in_default g c =
     let k = settling c.least_dirty.result c.stable-stable.result.cut c.stable-stable.result.places c.self.view_is c.if-self.false (sym c.is_some.ensures ∙ c.if-is_some.false) c.least_dirty.ensures c.stable-stable.ensures.stable c.stable-stable.ensures.behind in
     let worn : c.in-Err.reason ≡ Worn = ⊎_elim (λ is. is) (λ is. absurd (c.in_default.not-Fault is)) c.in-Err.ensures.step.no_other in
     let same = c.in-Err.ensures.step.no_call (ap Err worn) in
-    acknowledged_from c.self.view_is (record {
+    settles_from c.self.view_is (record {
       writes = commits_same (λ i. record { disk = same i; known = record { layout = c.self.inside.layout; committed = c.in-Err.ensures.step.takes.err i; memory = c.self.inside.applied; logged = c.stable-stable.ensures.same i; has_failed = c.self.inside.has_failed; doubt = c.self.inside.doubt } })
           c.in_default.not-Fault;
       ok = λ s p cut was stable. tt;

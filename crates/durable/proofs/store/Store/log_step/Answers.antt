@@ -9,7 +9,7 @@ use Rattle.heap_model.specs.declared.store_error.StoreError.TheVariants.{Worn}
 use Rattle.store_memory.specs.Sections.{TellsSections, MayBeLogged}
 use Rattle.durable.proofs.Storing.{logged_has, failed_has, logs_now, logs_then, may_log, may_be_logged}
 use Rattle.durable.proofs.Writing.{commits_same, log_fault, log_worn, logs_failed, logs_from}
-use Rattle.durable.proofs.store.Store.log_by.Goals as goal
+use Rattle.durable.proofs.store.Store.log_step.Goals as goal
 
 pub log_records-requires-clause-logs : goal.log_records-requires-clause-logs
 log_records-requires-clause-logs g c =
