@@ -74,6 +74,10 @@ fn append_lane<D: Disk>(
         (D.device disk.old) (D.device disk.new) }
     ensures cause { HasCauseSince (D.device disk.old) (D.device disk.new) Fault result }
 {
+    // An idle lane costs a look.
+    if records.is_empty() {
+        return Ok(());
+    }
     match append(disk, layout, lane, row, records) {
         Ok(()) => Ok(()),
         Err(_) => Err(StoreError::Fault),
