@@ -16,7 +16,7 @@ use crate::ended::Ended;
 use crate::helper::Helper;
 use crate::meeting::meet;
 use crate::published::close;
-use crate::settling::settle_and_trim;
+use crate::settling::make_durable;
 use block_disk::Disk;
 use heap_model::{Lane, Record};
 use law_cuts::{stable_law, unlogged_law};
@@ -116,7 +116,7 @@ fn finish<D: Disk>(
         drop(close(shared, seat));
         return Err(close_error(reason));
     }
-    if let Err(reason) = settle_and_trim(store) {
+    if let Err(reason) = make_durable(store) {
         drop(close(shared, seat));
         return Err(close_error(reason));
     }

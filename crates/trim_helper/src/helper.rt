@@ -18,7 +18,7 @@ ghost use Rattle.thread_rings.specs.declared.ring_records.TheConstants.{MOST_RIN
 use crate::draining::drain_rings;
 use crate::hearing::catch_up;
 use crate::published::publish_all;
-use crate::settling::settle_and_trim;
+use crate::settling::make_durable;
 use block_disk::Disk;
 use heap_model::{LANES, Lane, Record, StoreError};
 use monitor::{HelperSeat, Shared};
@@ -167,7 +167,7 @@ impl<D: Disk> Helper<D> {
         if self.is_settled {
             return Ok(count);
         }
-        if let Err(reason) = settle_and_trim(&mut self.store) {
+        if let Err(reason) = make_durable(&mut self.store) {
             return Err(reason);
         }
         Ok(count)

@@ -11,7 +11,7 @@ use law_cuts::stable_law;
 use store_rounds::RoundStore;
 
 /// Makes durable what was applied, acknowledges its stable cut and forgets it, by one round of the store.
-pub fn settle_and_trim<D: Disk>(store: &mut RoundStore<D>) -> Result<(), StoreError>
+pub fn make_durable<D: Disk>(store: &mut RoundStore<D>) -> Result<(), StoreError>
     ensures settles { SettlesAndTrimsApplied D.device store.old store.new result }
     ensures still { StaysFailed D.device store.old store.new }
     ensures running { OnOk result (store.new.known.has_failed ≡ false) }

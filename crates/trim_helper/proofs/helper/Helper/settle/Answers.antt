@@ -61,43 +61,43 @@ returns-then-self-clause-later g c = let goes = c.hear.ensures.goes_on in (goes.
 
 -- what was drained is made durable, as far as that goes
 
-pub returns-in-Err-settle_and_trim-clause-settles : goal.returns-in-Err-settle_and_trim-clause-settles
-returns-in-Err-settle_and_trim-clause-settles g c = λ s p serving.
+pub returns-in-Err-make_durable-clause-settles : goal.returns-in-Err-make_durable-clause-settles
+returns-in-Err-make_durable-clause-settles g c = λ s p serving.
     let x = c.self.inside in
     let d = c.drain_within.new.self in
     let y = parts_from x.store x.rings.items x.waiting x.is_settled x.seat in
     let hears : Hears c.args.shared.now d y = subst (λ k. Hears c.args.shared.now d k) (sym c.self.view_is) c.hear.ensures in
     let z = parts_from x.store d.rings x.waiting x.is_settled d.seat in
     let drains = subst (λ k. DrainsUpTo g.D.Disk.device c.args.most c.args.self.now k (Ok c.in-Ok.count)) (drained_parts g.D.Disk.device c.args.shared.now d y hears) c.in-Ok.ensures in
-    let w = c.settle_and_trim.new.store in
+    let w = c.make_durable.new.store in
     rounds_heard g.D.Disk.device (parts_from w d.rings x.waiting x.is_settled d.seat) x.rings.items x.seat hears.records hears.noted c.args.most s p c.args.self.now _
-    (rounds_refused g.D.Disk.device s p c.args.self.now serving z c.args.most c.in-Ok.count drains w c.if-self.false c.settle_and_trim.ensures.threads c.in-Err-settle_and_trim.reason c.in-Err-settle_and_trim.ensures.settles c.settle_and_trim.ensures.still c.settle_and_trim.ensures.takes
-    (passed_on _ _ _ c.settle_and_trim.result (Err c.in-Err-settle_and_trim.reason) Fault c.in-Err-settle_and_trim.reason c.in-Err-settle_and_trim.is refl (omega arith) c.settle_and_trim.ensures.cause))
+    (rounds_refused g.D.Disk.device s p c.args.self.now serving z c.args.most c.in-Ok.count drains w c.if-self.false c.make_durable.ensures.threads c.in-Err-make_durable.reason c.in-Err-make_durable.ensures.settles c.make_durable.ensures.still c.make_durable.ensures.takes
+    (passed_on _ _ _ c.make_durable.result (Err c.in-Err-make_durable.reason) Fault c.in-Err-make_durable.reason c.in-Err-make_durable.is refl (omega arith) c.make_durable.ensures.cause))
 
-pub returns-in-Err-settle_and_trim-clause-noted : goal.returns-in-Err-settle_and_trim-clause-noted
-returns-in-Err-settle_and_trim-clause-noted g c =
+pub returns-in-Err-make_durable-clause-noted : goal.returns-in-Err-make_durable-clause-noted
+returns-in-Err-make_durable-clause-noted g c =
     let x = c.self.inside in
     let d = c.drain_within.new.self in
     let hears : Hears c.args.shared.now d (parts_from x.store x.rings.items x.waiting x.is_settled x.seat) = subst (λ k. Hears c.args.shared.now d k) (sym c.self.view_is) c.hear.ensures in
     noted_then c.args.self.now.seat d.seat x.seat (noted_same c.args.self.now.seat d.seat c.in-Ok.ensures.seat) hears.noted
 
-pub returns-in-Err-settle_and_trim-clause-goes_on : goal.returns-in-Err-settle_and_trim-clause-goes_on
-returns-in-Err-settle_and_trim-clause-goes_on g c =
+pub returns-in-Err-make_durable-clause-goes_on : goal.returns-in-Err-make_durable-clause-goes_on
+returns-in-Err-make_durable-clause-goes_on g c =
     let x = c.self.inside in
     let d = c.drain_within.new.self in
     let y = parts_from x.store x.rings.items x.waiting x.is_settled x.seat in
     let hears = subst (λ k. Hears c.args.shared.now d k) (sym c.self.view_is) c.hear.ensures in
     let on = goes_on_heard g.D.Disk.device c.args.shared.now d y hears c.args.self.now (goes_on_drained g.D.Disk.device c.args.most c.args.shared.now c.args.self.now d _ c.requires.seat c.in-Ok.ensures) in
-    record { seat = on.seat; taken = on.taken; rings = on.rings; layout = c.settle_and_trim.ensures.layout ∙ on.layout; threads = c.settle_and_trim.ensures.threads ∙ on.threads }
+    record { seat = on.seat; taken = on.taken; rings = on.rings; layout = c.make_durable.ensures.layout ∙ on.layout; threads = c.make_durable.ensures.threads ∙ on.threads }
 
-pub returns-in-Err-settle_and_trim-clause-seen : goal.returns-in-Err-settle_and_trim-clause-seen
-returns-in-Err-settle_and_trim-clause-seen g c = λ runs.
+pub returns-in-Err-make_durable-clause-seen : goal.returns-in-Err-make_durable-clause-seen
+returns-in-Err-make_durable-clause-seen g c = λ runs.
     let x = c.self.inside in
     let seen = subst (λ k. HasSeen c.args.shared.now k) (sym c.self.view_is) c.hear.ensures.seen in
     record { legal = seen.legal; logs = seen.logs }
 
-pub returns-in-Err-settle_and_trim-clause-later : goal.returns-in-Err-settle_and_trim-clause-later
-returns-in-Err-settle_and_trim-clause-later g c = let goes = c.hear.ensures.goes_on in
+pub returns-in-Err-make_durable-clause-later : goal.returns-in-Err-make_durable-clause-later
+returns-in-Err-make_durable-clause-later g c = let goes = c.hear.ensures.goes_on in
     (goes.0, ap (λ x. x.seat.view.history) c.self.view_is ∙ goes.1 ∙ ap (λ (k : Helping). goes.0 ++ k.view.history) c.in-Ok.ensures.seat)
 
 -- what was drained is durable
@@ -110,10 +110,10 @@ returns-clause-settles g c = λ s p serving.
     let hears : Hears c.args.shared.now d y = subst (λ k. Hears c.args.shared.now d k) (sym c.self.view_is) c.hear.ensures in
     let z = parts_from x.store d.rings x.waiting x.is_settled d.seat in
     let drains = subst (λ k. DrainsUpTo g.D.Disk.device c.args.most c.args.self.now k (Ok c.in-Ok.count)) (drained_parts g.D.Disk.device c.args.shared.now d y hears) c.in-Ok.ensures in
-    let w = c.settle_and_trim.new.store in
+    let w = c.make_durable.new.store in
     rounds_heard g.D.Disk.device (parts_from w d.rings x.waiting x.is_settled d.seat) x.rings.items x.seat hears.records hears.noted c.args.most s p c.args.self.now (Ok c.in-Ok.count)
-    (rounds_done g.D.Disk.device s p c.args.self.now serving z c.args.most c.in-Ok.count drains w c.if-self.false c.settle_and_trim.ensures.threads c.in_default.ensures.running c.in_default.ensures.settles c.settle_and_trim.ensures.takes
-    c.settle_and_trim.ensures.cause.later)
+    (rounds_done g.D.Disk.device s p c.args.self.now serving z c.args.most c.in-Ok.count drains w c.if-self.false c.make_durable.ensures.threads c.in_default.ensures.running c.in_default.ensures.settles c.make_durable.ensures.takes
+    c.make_durable.ensures.cause.later)
 
 pub returns-clause-shares : goal.returns-clause-shares
 returns-clause-shares g c = λ at.
@@ -131,7 +131,7 @@ returns-clause-ready g c =
     let h = both.settles.same in (
       whole.setting,
       h.now,
-      same_serves g.D.Disk.device z c.settle_and_trim.new.store whole.setting whole.past c.if-self.false c.settle_and_trim.ensures.threads whole.serving h,
+      same_serves g.D.Disk.device z c.make_durable.new.store whole.setting whole.past c.if-self.false c.make_durable.ensures.threads whole.serving h,
       record { running = c.in_default.ensures.running; settled = both.settles.settled; trimmed = both.trimmed },
     )
 
@@ -149,7 +149,7 @@ returns-clause-goes_on g c =
     let y = parts_from x.store x.rings.items x.waiting x.is_settled x.seat in
     let hears = subst (λ k. Hears c.args.shared.now d k) (sym c.self.view_is) c.hear.ensures in
     let on = goes_on_heard g.D.Disk.device c.args.shared.now d y hears c.args.self.now (goes_on_drained g.D.Disk.device c.args.most c.args.shared.now c.args.self.now d _ c.requires.seat c.in-Ok.ensures) in
-    record { seat = on.seat; taken = on.taken; rings = on.rings; layout = c.settle_and_trim.ensures.layout ∙ on.layout; threads = c.settle_and_trim.ensures.threads ∙ on.threads }
+    record { seat = on.seat; taken = on.taken; rings = on.rings; layout = c.make_durable.ensures.layout ∙ on.layout; threads = c.make_durable.ensures.threads ∙ on.threads }
 
 pub returns-clause-seen : goal.returns-clause-seen
 returns-clause-seen g c = λ runs.
@@ -166,17 +166,17 @@ invariant_of-self g c =
     let x = c.self.inside in
     let z = parts_from x.store x.rings.items x.waiting x.is_settled x.seat in
     let whole = c.self.invariant in
-    let w = c.settle_and_trim.new.store in
-    let h = (c.in-Err-settle_and_trim.ensures.settles whole.setting whole.past whole.serving.taken.has).settles.same in
-    whole_still g.D.Disk.device z (parts_from w x.rings.items x.waiting x.is_settled x.seat) whole (same_refl x.rings.items) whole.sees c.settle_and_trim.ensures.threads h.now
-    (same_serves g.D.Disk.device z w whole.setting whole.past c.if-self.false c.settle_and_trim.ensures.threads whole.serving h)
+    let w = c.make_durable.new.store in
+    let h = (c.in-Err-make_durable.ensures.settles whole.setting whole.past whole.serving.taken.has).settles.same in
+    whole_still g.D.Disk.device z (parts_from w x.rings.items x.waiting x.is_settled x.seat) whole (same_refl x.rings.items) whole.sees c.make_durable.ensures.threads h.now
+    (same_serves g.D.Disk.device z w whole.setting whole.past c.if-self.false c.make_durable.ensures.threads whole.serving h)
 
 pub invariant_of-self-2 : goal.invariant_of-self-2
 invariant_of-self-2 g c =
     let x = c.self.inside in
     let z = parts_from x.store x.rings.items x.waiting x.is_settled x.seat in
     let whole = c.self.invariant in
-    let w = c.settle_and_trim.new.store in
+    let w = c.make_durable.new.store in
     let h = (c.in_default.ensures.settles whole.setting whole.past whole.serving.taken.has).settles.same in
-    whole_still g.D.Disk.device z (parts_from w x.rings.items x.waiting x.is_settled x.seat) whole (same_refl x.rings.items) whole.sees c.settle_and_trim.ensures.threads h.now
-    (same_serves g.D.Disk.device z w whole.setting whole.past c.if-self.false c.settle_and_trim.ensures.threads whole.serving h)
+    whole_still g.D.Disk.device z (parts_from w x.rings.items x.waiting x.is_settled x.seat) whole (same_refl x.rings.items) whole.sees c.make_durable.ensures.threads h.now
+    (same_serves g.D.Disk.device z w whole.setting whole.past c.if-self.false c.make_durable.ensures.threads whole.serving h)

@@ -2,7 +2,7 @@ use Rattle.heap_model.specs.Sections.{actions}
 use Rattle.heap_model.specs.Past.{applied}
 use Rattle.store_rounds.proofs.Running.{round_runs}
 use Rattle.trim_helper.proofs.Rounding.{ok_weaker, round_settles}
-use Rattle.trim_helper.proofs.settling.settle_and_trim.Goals as goal
+use Rattle.trim_helper.proofs.settling.make_durable.Goals as goal
 
 pub returns-clause-settles : goal.returns-clause-settles
 returns-clause-settles g c = λ s p has. round_settles g.D.Disk.device c.args.store.now c.round.new.self s p has c.round.result c.round.ensures (c.stable_law.ensures.exists (actions (applied p)))
