@@ -4,7 +4,7 @@
 #     make -k c                   the C: its headers, README's program, and tests/NAME.c with the flags of each NAME.FLAGS of TESTS
 #     make device.asan            one of them
 #     make -k tsan                those of threads under ThreadSanitizer, by the functions and by the inlined calls
-#     make helgrind               the counters in C under valgrind, and the same with a race, which has to be reported
+#     make fuzz SECONDS=600       altered files of heaps, by libFuzzer
 #     make -k KILLS=100 kills     the examples, each killed so often by `kill -9` (8)
 #     make LIBS=FOLDER ..         over the library of another folder
 #
@@ -41,7 +41,7 @@ STEPS := headers readme_c shared other_layout objects names server classes readm
 
 .ONESHELL:
 .SILENT:
-.PHONY: check c cpp rust python examples tsan cov helgrind tests $(TESTS) $(THREADED) $(COVERED) $(STEPS)
+.PHONY: check c cpp rust python examples tsan cov fuzz $(TESTS) $(THREADED) $(COVERED) $(STEPS)
 SHELL := tools/step
 .SHELLFLAGS = $@
 
@@ -225,16 +225,14 @@ nbd:
 	nbdkit -U - memory 4M --run "'$$work/nbd' \$$unixsocket 100 && '$$work/nbd' \$$unixsocket 50" >$$work/told
 	[ "$$(tr '\n' ' ' <$$work/told)" = "100 150 " ]
 
-# By tools/helgrind.supp. A counter outside of every monitor is the race.
-helgrind:
-	needs valgrind
-	sed -e 's/^static void \*work(/static uint64_t planted;\n\n&/' -e 's/^\( *\)must(zelamiku_thread_exit(w->thread, w->own)/\1planted++;\n&/' examples/c/counters.c >$$work/planted.c
-	cp examples/c/counters.c $$work/
-	for it in counters planted; do
-	    cc -std=gnu11 -O1 -g -DHELGRIND $$work/$$it.c $(C)/zelamiku_threads.c -I $(C) $(LIBS)/libzelamiku.a -pthread -o $$work/$$it
-	    valgrind --tool=helgrind --fair-sched=try --suppressions=tools/helgrind.supp --error-exitcode=99 --log-file=$$work/$$it.log $$work/$$it $$work/$$it.heap 15 >$$work/$$it.told || echo "$$it: $$?"
-	done >$$work/told
-	awk '/^total/ { wrong += $$2 != $$4 + $$6 + $$8 + $$10 } /^acknowledged/ { all = $$2 } END { exit wrong || !all }' $$work/counters.told
-	grep -q 'Possible data race' $$work/planted.log
-	grep -q planted $$work/planted.log
-	[ "$$(cat $$work/told)" = "planted: 99" ]
+# Files of heaps that libFuzzer alters, from those in bindings/c/fuzz/corpus on, for SECONDS (0: these alone). An input that fails stays in
+# out/host/fuzz. KEEP=1 keeps the fewest that reach all that was reached.
+fuzz:
+	needs clang
+	corpus=$(CURDIR)/$(C)/fuzz/corpus
+	export ZELAMIKU_FUZZ_FOLDER=$$(mktemp -d /dev/shm/zelamiku-XXXXXX)
+	trap 'rm -rf "$$ZELAMIKU_FUZZ_FOLDER"' EXIT
+	clang -std=gnu11 -O1 -g -fsanitize=fuzzer,address -fno-sanitize-recover=all -Wall -Wextra -Werror -Wno-static-in-inline -I $(C) $(C)/fuzz/opened.c $(LIBS)/libzelamiku.a -pthread -o $$work/opened
+	mkdir -p $$work/new $$work/kept
+	$$work/opened $(if $(SECONDS),-max_total_time=$(SECONDS) -timeout=20 -max_len=160,-runs=0) -artifact_prefix=$$work/ $$work/new $$corpus
+	[ -z "$(KEEP)" ] || { $$work/opened -merge=1 $$work/kept $$work/new $$corpus && rm -rf $$corpus && mv $$work/kept $$corpus; }

@@ -1,4 +1,4 @@
-/* A program for libFuzzer: files of heaps that its input alters are opened by zelamiku_heap_open. tools/fuzz builds and runs it.
+/* A program for libFuzzer: files of heaps that its input alters are opened by zelamiku_heap_open. `make fuzz` builds and runs it.
  *
  * An input says which file is altered (of a heap that was closed, that was let go in the midst of sections, that nobody used, and of one that
  * was killed while two lanes depended on each other), and then what is done to it, a change after the other: `read_change`. A heap that opens is
