@@ -12,6 +12,8 @@
 # What a step makes lies in out/host/NAME. How fast the machine is decides nothing; what hasn't ended in MINUTES hangs, and has failed.
 C := bindings/c
 export LIBS ?= $(CURDIR)/crates/zelamiku/out/host
+# The shared object, with its number.
+SO = $(notdir $(realpath $(LIBS)/libzelamiku.so))
 export OUT ?= $(CURDIR)/out/host
 export KILLS ?= 8
 export MINUTES ?= 15
@@ -117,19 +119,19 @@ readme_python:
 # A program that is linked with the shared object, which shows no names but its own.
 shared:
 	needs cc
-	ln -sf $(LIBS)/libzelamiku.so.0 $$work/libzelamiku.so.0
+	ln -sf $(LIBS)/$(SO) $$work/$(SO)
 	readme c >$$work/readme.c
-	cc $$work/readme.c -I $(C) -L $$work -Wl,-rpath,$$work -l:libzelamiku.so.0 -o $$work/program
+	cc $$work/readme.c -I $(C) -L $$work -Wl,-rpath,$$work -l:$(SO) -o $$work/program
 	twelve_times $$work/program
 	[ "$$(cat $$work/told)" = "$$balances" ]
-	[ -z "$$(nm -D --defined-only $$work/libzelamiku.so.0 | awk '$$3 !~ /^zelamiku_/')" ]
+	[ -z "$$(nm -D --defined-only $$work/$(SO) | awk '$$3 !~ /^zelamiku_/')" ]
 
 # A second copy of the library in a process, and forks: linked with the shared object, and with the archive, whose table of lanes the copy sees.
 objects:
 	needs cc
-	cp $(LIBS)/libzelamiku.so.0 $$work/
-	cp $(LIBS)/libzelamiku.so.0 $$work/copy.so
-	for linked in "-L $$work -Wl,-rpath,$$work -l:libzelamiku.so.0" "-rdynamic $(LIBS)/libzelamiku.a"; do
+	cp $(LIBS)/$(SO) $$work/
+	cp $(LIBS)/$(SO) $$work/copy.so
+	for linked in "-L $$work -Wl,-rpath,$$work -l:$(SO)" "-rdynamic $(LIBS)/libzelamiku.a"; do
 	    cc -std=gnu11 -O2 -Wall -Wextra -Werror $(C)/tests/objects.c -I $(C) $$linked -pthread -ldl -o $$work/program
 	    rm -rf $$work/in
 	    mkdir $$work/in
@@ -142,7 +144,7 @@ other_layout:
 	cp $(C)/*.h $$work
 	sed -i 's/^\(#define ZELAMIKU_SEATS zelamiku_seats_\)[0-9]*$$/\1another/' $$work/zelamiku_inline.h
 	readme c >$$work/in/readme.c
-	for library in libzelamiku.a libzelamiku.so.0; do
+	for library in libzelamiku.a $(SO); do
 	    cc -O2 $$work/in/readme.c -I $(C) -L $(LIBS) "-l:$$library" -pthread -o $$work/program
 	    if cc -O2 $$work/in/readme.c -I $$work -L $(LIBS) "-l:$$library" -pthread -o $$work/program 2>$$work/error; then exit 1; fi
 	    grep -q zelamiku_seats_another $$work/error
@@ -209,7 +211,7 @@ pip: readme_python
 	for package in bindings/python $$work/wheels/*.whl; do
 	    ZELAMIKU_LIBS=$(LIBS) $$work/venv/bin/pip install --quiet --no-index --force-reinstall "$$package"
 	    (cd $$work/in && ../venv/bin/python $(OUT)/readme_python/readme.py && ../venv/bin/python -c 'import zelamiku.library; print(zelamiku.library.library().path)') >$$work/path
-	    grep "^$$work/venv/.*/zelamiku/libzelamiku.so.0$$" $$work/path
+	    grep "^$$work/venv/.*/zelamiku/$(SO)$$" $$work/path
 	done
 
 server:
