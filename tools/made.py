@@ -16,6 +16,22 @@ def crates():
     return {front.split()[0]: names.split() for front, _, names in lines if front.strip()}
 
 
+def below(names, used):
+    """Returns the repository's crates on which these stand."""
+    found, left = set(), [it for name in names for it in used[name]]
+    while left:
+        it = left.pop()
+        if it in used and it not in found:
+            found.add(it)
+            left += used[it]
+    return found
+
+
+def size_of(crate, parts):
+    """Returns the bytes of these parts of a crate's sources."""
+    return sum(os.path.getsize(f"{at}/{it}") for part in parts for at, _, files in os.walk(f"{ROOT}/crates/{crate}/{part}") for it in files)
+
+
 def part(page, path, name):
     """Returns what stands before a made part, in it, and after it, its markers outside."""
     begin, end = f"<!-- {name}: begin -->", f"<!-- {name}: end -->"
