@@ -1,6 +1,6 @@
-# The tests of the host's side, over the library that tools/c-library leaves.
+# What the gate runs beside `rt ci`: the tests of the host's side, over the library that tools/c-library leaves, and the tools' own steps.
 #
-#     make -k -j2 check           what the gate runs: c cpp rust python examples
+#     make -k -j2 check           what the gate runs of them: c cpp rust python examples
 #     make -k c                   the C: its headers, README's program, and tests/NAME.c with the flags of each NAME.FLAGS of TESTS
 #     make device.asan            one of them
 #     make -k tsan                those of threads under ThreadSanitizer, by the functions and by the inlined calls
@@ -16,7 +16,7 @@ export LIBS ?= $(CURDIR)/crates/zelamiku/out/host
 SO = $(notdir $(realpath $(LIBS)/libzelamiku.so))
 export OUT ?= $(CURDIR)/out/host
 export KILLS ?= 8
-export MINUTES ?= 15
+export MINUTES ?= 30
 export ZELAMIKU_LIBS := $(LIBS)
 export PYTHONPATH := $(CURDIR)/bindings/python
 export PYTHONDONTWRITEBYTECODE := 1
@@ -39,14 +39,17 @@ WORDS.revert.called-tsan := threads
 WORDS.device.tsan := threads
 WORDS.places.tsan := 3
 COVERED := $(patsubst %,%.cov,$(sort $(basename $(TESTS))) threads.inline revert.inline)
-STEPS := headers readme_c shared other_layout objects names server classes readme_cpp readme_rust cargo unittest leases lanes lease_kills readme_python pip kills nbd
+STEPS := headers readme_c shared other_layout objects names server classes readme_cpp readme_rust cargo unittest leases lanes lease_kills readme_python pip kills nbd \
+    pages words library search power
 
 .ONESHELL:
 .SILENT:
-.PHONY: check c cpp rust python examples tsan cov fuzz $(TESTS) $(THREADED) $(COVERED) $(STEPS)
+.PHONY: gate host check c cpp rust python examples tsan cov fuzz $(TESTS) $(THREADED) $(COVERED) $(STEPS)
 SHELL := tools/step
 .SHELLFLAGS = $@
 
+gate: pages words library
+host: check search power
 check: c cpp rust python examples
 c: headers readme_c shared other_layout objects names $(TESTS)
 cpp: classes readme_cpp
@@ -238,3 +241,27 @@ fuzz:
 	mkdir -p $$work/new $$work/kept
 	$$work/opened $(if $(SECONDS),-max_total_time=$(SECONDS) -timeout=20 -max_len=160,-runs=0) -artifact_prefix=$$work/ $$work/new $$corpus
 	[ -z "$(KEEP)" ] || { $$work/opened -merge=1 $$work/kept $$work/new $$corpus && rm -rf $$corpus && mv $$work/kept $$corpus; }
+
+# The gate's own. What a step may take is many times what it takes.
+pages:
+	needs_python
+	tools/pages --check
+
+words:
+	needs_python
+	tools/tests --seed 1 faults judges machine other_files salvage two_at_once words
+
+library:
+	tools/c-library
+
+search:
+	needs cc
+	needs_python
+	tools/search
+
+power:
+	needs_python
+	tools/power-cuts --few --seconds 1500
+
+words library power: export MINUTES := 45
+kills lanes lease_kills: export SEED ?= 1
