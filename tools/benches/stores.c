@@ -11,6 +11,7 @@
  * lmdb: two gets and puts, a synced transaction a group.    rocksdb: two GetForUpdates and Puts, a transaction a group, sync=true.
  * redis: a server with appendfsync=always, and a connection for each thread: two INCRs, a group from MULTI to EXEC. */
 #define _GNU_SOURCE
+#include <errno.h>
 #include <fcntl.h>
 #include <inttypes.h>
 #include <pthread.h>
@@ -40,18 +41,13 @@ static atomic_bool stopping;
 static pthread_barrier_t start;
 static pthread_mutex_t turn = PTHREAD_MUTEX_INITIALIZER;
 
-static void must(bool is_done, const char *what) {
-    if (is_done) return;
-    perror(what);
-    exit(2);
-}
-
-/* Ends the program where an engine says so. */
 static void ask(bool is_done, const char *what, const char *why) {
     if (is_done) return;
     fprintf(stderr, "%s: %s\n", what, why);
     exit(2);
 }
+
+static void must(bool is_done, const char *what) { ask(is_done, what, strerror(errno)); }
 
 /* The two counters of a thread, which are numbered from 0. */
 static uint32_t first_of(uint32_t own) { return distance == 0 ? own + 1 : 2 * own * distance; }
@@ -115,14 +111,20 @@ static void q(connection *use, int answer, const char *what) {
     ask(answer == SQLITE_OK || answer == SQLITE_DONE || answer == SQLITE_ROW, what, sqlite3_errmsg(use->base));
 }
 
+static sqlite3_stmt *q_prepare(connection *use, const char *text) {
+    sqlite3_stmt *made = NULL;
+    q(use, sqlite3_prepare_v2(use->base, text, -1, &made, NULL), text);
+    return made;
+}
+
 static void *q_begin(void) {
     connection *use = calloc(1, sizeof *use);
     must(use != NULL, "connection");
     q(use, sqlite3_open(path, &use->base), "open");
     q(use, sqlite3_exec(use->base, "PRAGMA busy_timeout=60000; PRAGMA journal_mode=WAL; PRAGMA synchronous=FULL", NULL, NULL, NULL), "pragma");
-    q(use, sqlite3_prepare_v2(use->base, "BEGIN IMMEDIATE", -1, &use->begin, NULL), "prepare");
-    q(use, sqlite3_prepare_v2(use->base, "UPDATE counters SET value = value + 1 WHERE id = ?", -1, &use->add, NULL), "prepare");
-    q(use, sqlite3_prepare_v2(use->base, "COMMIT", -1, &use->commit, NULL), "prepare");
+    use->begin = q_prepare(use, "BEGIN IMMEDIATE");
+    use->add = q_prepare(use, "UPDATE counters SET value = value + 1 WHERE id = ?");
+    use->commit = q_prepare(use, "COMMIT");
     return use;
 }
 
@@ -145,13 +147,7 @@ static void q_count(void *data, uint32_t a, uint32_t b, uint64_t sections) {
     pthread_mutex_unlock(&turn);
 }
 
-static void q_end(void *data) {
-    connection *use = data;
-    sqlite3_finalize(use->begin);
-    sqlite3_finalize(use->add);
-    sqlite3_finalize(use->commit);
-    sqlite3_close(use->base);
-}
+static void q_end(void *use) { sqlite3_close_v2(((connection *)use)->base); }
 
 static void q_open(void) {
     connection first = {0};
