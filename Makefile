@@ -3,7 +3,7 @@
 #     make -k -j2 check           what the gate runs of them: c cpp rust python examples
 #     make -k c                   the C: its headers, README's program, and tests/NAME.c with the flags of each NAME.FLAGS of TESTS
 #     make device.asan            one of them
-#     make -k tsan                those of threads under ThreadSanitizer, by the functions and by the inlined calls
+#     make -k tsan                those of threads under ThreadSanitizer
 #     make fuzz SECONDS=600       altered files of heaps, by libFuzzer
 #     make -k KILLS=100 kills     the examples, each killed so often by `kill -9` (8)
 #     make LIBS=FOLDER ..         over the library of another folder
@@ -23,23 +23,20 @@ export PYTHONDONTWRITEBYTECODE := 1
 export CARGO_TARGET_DIR ?= $(OUT)/target
 
 # Each test of C with the flags by which the gate tries it.
-TESTS := altered.plain file.plain pool.plain refused_calls.plain stale.plain threads.plain threads.inline wrong_calls.asan \
-    revert.asan revert.inline revert.tsan event.asan event.tsan places.asan places.tsan device.asan device.tsan
-THREADED := $(foreach it,threads revert event,$(it).tsan $(it).called-tsan) places.tsan device.tsan
+TESTS := altered.plain file.plain pool.plain refused_calls.plain stale.plain threads.plain wrong_calls.asan \
+    revert.asan revert.tsan event.asan event.tsan places.asan places.tsan device.asan device.tsan
+THREADED := threads.tsan revert.tsan event.tsan places.tsan device.tsan
 FLAGS.plain := -O2
-FLAGS.inline := -O2 -DINLINE
 FLAGS.asan := -O2 -g -fsanitize=address,undefined
-FLAGS.tsan := -O1 -g -fsanitize=thread -DINLINE
-FLAGS.called-tsan := -O1 -g -fsanitize=thread
+FLAGS.tsan := -O1 -g -fsanitize=thread
 FLAGS.cov := -O0 -g -w --coverage -fprofile-update=atomic -Wl,--wrap=_exit $(OUT)/exits.c
 # Tests that haven't the scheduler's C in them; and words that a program is given behind its folder.
 ALONE := wrong_calls places device
 WORDS.revert.tsan := threads
-WORDS.revert.called-tsan := threads
 WORDS.device.tsan := threads
 WORDS.places.tsan := 3
-COVERED := $(patsubst %,%.cov,$(sort $(basename $(TESTS))) threads.inline revert.inline)
-STEPS := headers readme_c shared other_layout objects names server classes readme_cpp readme_rust cargo unittest leases lanes lease_kills readme_python pip kills nbd \
+COVERED := $(patsubst %,%.cov,$(sort $(basename $(TESTS))))
+STEPS := headers readme_c shared sizes objects names server classes readme_cpp readme_rust cargo unittest leases lanes lease_kills readme_python pip kills nbd \
     pages words library search power
 
 .ONESHELL:
@@ -51,7 +48,7 @@ SHELL := tools/step
 gate: pages words library
 host: check search power
 check: c cpp rust python examples
-c: headers readme_c shared other_layout objects names $(TESTS)
+c: headers readme_c shared sizes objects names $(TESTS)
 cpp: classes readme_cpp
 rust: readme_rust cargo
 python: unittest leases lanes lease_kills readme_python pip
@@ -62,7 +59,7 @@ cov: $(COVERED)
 $(sort $(TESTS) $(THREADED) $(COVERED)):
 	needs cc
 	own=$(if $(filter $(firstword $(subst ., ,$@)),$(ALONE)),$(C)/zelamiku_threads.c)
-	cc -std=gnu11 -Wall -Wextra -Werror $(if $(findstring inline.cov,$@),-DINLINE) $(FLAGS$(suffix $@)) $(C)/tests/$(firstword $(subst ., ,$@)).c $$own -I $(C) $(LIBS)/libzelamiku.a -pthread -o $$work/program
+	cc -std=gnu11 -Wall -Wextra -Werror $(FLAGS$(suffix $@)) $(C)/tests/$(firstword $(subst ., ,$@)).c $$own -I $(C) $(LIBS)/libzelamiku.a -pthread -o $$work/program
 	$$work/program $$work/in $(WORDS.$@)
 
 # Each header by itself.
@@ -71,7 +68,7 @@ headers:
 	needs c++
 	for header in $(C)/*.h; do
 	    for language in c-c99 c-c11 c++-c++11 c++-c++20; do
-	        printf '#ifndef _GNU_SOURCE\n#define _GNU_SOURCE\n#endif\n#include "%s"\nint main(void) { zelamiku_handle h = ZELAMIKU_NONE; return h.is_open; }\n' "$$PWD/$$header" |
+	        printf '#ifndef _GNU_SOURCE\n#define _GNU_SOURCE\n#endif\n#include "%s"\nint main(void) { zelamiku_heap h = {0}; return h.number != 0; }\n' "$$PWD/$$header" |
 	            c++ "-std=$${language#*-}" -Wall -Wextra -Werror -fsyntax-only -x "$${language%%-*}" -
 	    done
 	done
@@ -129,7 +126,7 @@ shared:
 	[ "$$(cat $$work/told)" = "$$balances" ]
 	[ -z "$$(nm -D --defined-only $$work/$(SO) | awk '$$3 !~ /^zelamiku_/')" ]
 
-# A second copy of the library in a process, and forks: linked with the shared object, and with the archive, whose table of lanes the copy sees.
+# A second copy of the library in a process, and forks: linked with the shared object, and with the archive.
 objects:
 	needs cc
 	cp $(LIBS)/$(SO) $$work/
@@ -141,16 +138,23 @@ objects:
 	    $$work/program $$work/in $$work/copy.so
 	done
 
-# A program has a layout of the library's compiled in: by headers of another one it doesn't link, with the archive or with the shared object.
-other_layout:
+# A program that is built with a header of fewer members runs over this library, and one of more members does: tests/sizes.c has the rules. The
+# header of tomorrow has a member more at the end of each struct that knows its size.
+sizes:
 	needs cc
 	cp $(C)/*.h $$work
-	sed -i 's/^\(#define ZELAMIKU_SEATS zelamiku_seats_\)[0-9]*$$/\1another/' $$work/zelamiku_inline.h
-	readme c >$$work/in/readme.c
-	for library in libzelamiku.a $(SO); do
-	    cc -O2 $$work/in/readme.c -I $(C) -L $(LIBS) "-l:$$library" -pthread -o $$work/program
-	    if cc -O2 $$work/in/readme.c -I $$work -L $(LIBS) "-l:$$library" -pthread -o $$work/program 2>$$work/error; then exit 1; fi
-	    grep -q zelamiku_seats_another $$work/error
+	sed -i 's/^} zelamiku_\(plan\|report\|stats\|device\|dropped\|failure\|progress\);$$/    uint64_t later;\n&/; /^ZELAMIKU_HAS_SIZE/d' $$work/zelamiku.h
+	for library in $(C) $$work; do
+	    cc -std=gnu11 -O1 -g -w -fsanitize=address,undefined -I $$library -iquote $$library -c -o $$work/scheduler.o $(C)/zelamiku_threads.c
+	    for program in $(C) $$work; do
+	        later=$$([ $$program = $(C) ] || echo -DLATER)
+	        knows=$$([ $$library = $(C) ] || echo -DLIBRARY_KNOWS_LATER)
+	        cc -std=gnu11 -O1 -g -fsanitize=address,undefined -Wall -Wextra -Werror $$later $$knows -iquote $$program -I $$program $(C)/tests/sizes.c $$work/scheduler.o \
+	            $(LIBS)/libzelamiku.a -pthread -o $$work/program
+	        rm -rf $$work/in
+	        mkdir $$work/in
+	        $$work/program $$work/in
+	    done
 	done
 
 # What a power cut leaves of a heap's name: it says what it needs.
@@ -159,11 +163,11 @@ names:
 	cc -std=gnu11 -O2 -Wall -Wextra -Werror $(C)/tests/names.c -I $(C) $(LIBS)/libzelamiku.a -pthread -o $$work/program
 	$(C)/tests/names.sh $$work/program
 
-# zelamiku.hpp by each compiler: by the inlined calls, by the functions, and with the sanitizers, by which the scheduler is compiled too.
+# zelamiku.hpp by each compiler, and with the sanitizers, by which the scheduler is compiled too.
 classes:
 	for cpp in g++ clang++; do
 	    has $$cpp || continue
-	    for flags in "-O2" "-O2 -std=c++20 -DZELAMIKU_NO_INLINE" "-O1 -g -fsanitize=address,undefined" "-O1 -g -fsanitize=thread"; do
+	    for flags in "-O2" "-O2 -std=c++20" "-O1 -g -fsanitize=address,undefined" "-O1 -g -fsanitize=thread"; do
 	        own=
 	        case "$$flags" in *sanitize*)
 	            # Clang's runtime of these may be missing (Debian: libclang-rt-14-dev).

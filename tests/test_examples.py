@@ -29,7 +29,7 @@ from .harness import COUNTS, SEED, TOP, WITHIN, needs_cc, tries
 
 LIBS = Path(os.environ.get("ZELAMIKU_LIBS", TOP / "crates/zelamiku/out/host"))
 needs_archive = unittest.skipUnless((LIBS / "libzelamiku.a").exists(), "no libzelamiku.a (tools/c-library makes it)")
-needs_shared = unittest.skipUnless((LIBS / "libzelamiku.so.0").exists(), "no libzelamiku.so.0 (tools/c-library makes it)")
+needs_shared = unittest.skipUnless((LIBS / "libzelamiku.so.1").exists(), "no libzelamiku.so.1 (tools/c-library makes it)")
 # One that is only a shell's word for a toolchain that isn't there says no version.
 HAS_CARGO = shutil.which("cargo") and subprocess.run(["cargo", "--version"], capture_output=True, check=False).returncode == 0
 

@@ -1,7 +1,7 @@
 /* Zelamiku for the threads of a program: a heap in a file, by its path, or on another device. A program begins with this header.
  *
  *     static const zelamiku_field FIELDS[] = {{0, 0, 100, 0}};                field 0: of object 0, guarded by it, at first 100
- *     zelamiku_plan plan = {.objects = 1, .fields = FIELDS, .count = 1};
+ *     zelamiku_plan plan = {.size = sizeof plan, .objects = 1, .fields = FIELDS, .count = 1};
  *     zelamiku_heap heap;
  *     zelamiku_thread own;
  *     if (zelamiku_heap_open(&heap, "accounts.heap", &plan, NULL) != ZELAMIKU_OK) ...     makes the heap, or recovers it
@@ -16,24 +16,32 @@
  * Threads use the heap as they use mutexes and condition variables. The helper, a thread of the library, makes their sections durable, in rounds
  * of two syncs each. Link with -lzelamiku and -pthread. docs/EMBEDDING.md is the manual.
  *
- * Statuses. Every call returns a status, whatever its arguments are. A call that fails sets a text for its thread, with path, cause and cure:
- * zelamiku_heap_message. A call returns NOTHING if a required pointer is NULL, if the handle was never opened, or after zelamiku_thread_end. In a
- * forked child every call on a heap of the parent returns FORKED; the parent goes on. After a heap has ended each call on it returns the reason,
- * and NOTHING once another heap uses its slot:
+ * Statuses. Every call returns a status, whatever its arguments are, and its comment names each status that it returns. These hold for all calls
+ * and aren't repeated:
+ *   BAD_ARGUMENT         a required pointer is NULL, or the size of a struct isn't set. Nothing was done
+ *   NOTHING              the handle was never opened, its heap has ended and another heap uses its place, or zelamiku_thread_end has ended it
+ *   FORKED               this process is a forked child, and the heap is its parent's. The parent goes on
+ * "Ended" in a comment stands for these five. The heap has ended, every later call on it returns the same status, and what was durable stays:
  *   CLOSED               it was closed or stopped
- *   ABANDONED            zelamiku_heap_abandon
+ *   ABANDONED            it was stopped with this reason (zelamiku_heap_stop)
  *   LOST                 a sync has failed, or the program has closed the heap's descriptor. What wasn't durable may be gone, though the file
  *                        still reads as it was written. Close the heap and open it again; if that fails with EIO, mount the file system
  *                        again first
- *   FAULT, FAILED, WORN  the library has stopped, mostly for want of memory. Close the heap, and open it again
- * What was durable stays in each case. If an enter or a wait was in progress when the heap ended, that section may go on; its last exit returns
- * the reason.
+ *   FAILED, WORN         the library has stopped: it had no memory, or a number has reached its limit. Close the heap, and open it again
+ * If an enter or a wait was in progress when the heap ended, that section may go on; its last exit returns the reason.
  * DEVICE doesn't end the heap: a write has failed, for example on a full disk. Nothing is lost. The next call that waits for a round makes the
- * write again, and so does the helper, each second. After a stop or an abandon nobody makes it again, so these return LOST.
+ * write again, and so does the helper, each second. After a stop nobody makes it again, so zelamiku_heap_stop returns LOST.
+ * A call that fails keeps the reason for its thread, with path, cause and cure: zelamiku_heap_failure.
+ *
+ * Structs. Each struct with a `size` can grow, up to 4,096 bytes. The program sets `size` to sizeof the struct before the call. The library reads
+ * and writes no byte beyond it: a program that was built with an older header runs over a newer library. A member that the program doesn't have
+ * is 0, its default. A program that was built with a newer header gets BAD_ARGUMENT if it sets a member that the library doesn't know, and 0 in
+ * each member that the library can't fill in. All other structs stay as they are.
  *
  * Rules. Use a thread's handle in one call at a time, except in calls whose comment says "any thread may". Make no call from a signal handler,
- * and cancel no thread inside a call. Handles are numbers: they may be copied, kept, and handed to other threads. A process uses one copy of the
- * library. A thread that opens, closes or stops a heap needs 512 kB of stack, one that copies it 64 kB, and any other one 32 kB.
+ * and cancel no thread inside a call. Handles are numbers: they may be copied, kept, and handed to other threads. If a process has several
+ * copies of the library, a handle belongs to the one that made it. A thread that opens, closes or stops a heap needs 512 kB of stack, one that
+ * copies it 64 kB, and any other one 32 kB.
  *
  * This is C over the proved library. Nothing proves it; docs/TESTED.md says how it is tested. */
 #ifndef ZELAMIKU_H
@@ -45,12 +53,19 @@
 extern "C" {
 #endif
 
-/* The versions of this header and its library, and of the images that they read and write. */
-#define ZELAMIKU_VERSION "0.1.0"
-#define ZELAMIKU_VERSION_NUMBER 100 /* 10,000 times the first, 100 times the second, and the third */
+/* The version of this header and its library. It rises with each release and each change of this header. */
+#define ZELAMIKU_VERSION "0.2.0"
+#define ZELAMIKU_VERSION_NUMBER 200 /* 10,000 times the first, 100 times the second, and the third */
+
+/* The layout of this header's calls, statuses and structs: libzelamiku.so.1 has layout 1. It stays while programs that were built with an older
+ * header run over the newer library: new calls, statuses, and members at a struct's end don't change it. */
+#define ZELAMIKU_LAYOUT 1
+
+/* The version of the images that the library reads and writes. */
 #define ZELAMIKU_IMAGE_VERSION 2
 
 /* Limits. */
+#define ZELAMIKU_MOST_HEAPS 256      /* one more than may be open at once in a process */
 #define ZELAMIKU_MOST_LANES 32
 #define ZELAMIKU_MOST_OBJECTS 4096
 #define ZELAMIKU_MOST_FIELDS 16384
@@ -59,12 +74,21 @@ extern "C" {
 #define ZELAMIKU_LEAST_RING 4096
 #define ZELAMIKU_MOST_RING 65536
 #define ZELAMIKU_MOST_RECORDS 1000   /* of a section: one for each monitor that is taken, each that is freed, and each store */
-#define ZELAMIKU_MOST_HELD 16        /* monitors, by one session at once */
-#define ZELAMIKU_MOST_LOCKS 65536    /* of one monitor, by one session at once */
+#define ZELAMIKU_MOST_HELD 16        /* monitors, by one thread at once */
+#define ZELAMIKU_MOST_LOCKS 65536    /* of one monitor, by one thread at once */
 #define ZELAMIKU_MOST_THIN_LOCKS 256 /* of a monitor that isn't among those of ZELAMIKU_MOST_FAT */
 #define ZELAMIKU_MOST_FAT 1024       /* objects that were waited on, or locked more often than that, in one opening */
-#define ZELAMIKU_MOST_BYTES 4096     /* of a write */
 #define ZELAMIKU_MOST_SLOTS 16383    /* of a pool */
+
+/* Defaults of a plan. */
+#define ZELAMIKU_DEFAULT_LANES 8
+#define ZELAMIKU_DEFAULT_RING 16384
+#define ZELAMIKU_DEFAULT_LINGER 5000 /* microseconds */
+
+#define ZELAMIKU_NOBODY 64                             /* no lane */
+#define ZELAMIKU_NO_NUMBER 4294967295u                 /* no object, no field, no slot */
+#define ZELAMIKU_NO_DEADLINE 18446744073709551615u
+#define ZELAMIKU_ALL_SECTIONS 18446744073709551615u
 
 /* The compiler warns of a dropped status: it may be the only report that the heap has stopped. */
 #if defined(__GNUC__)
@@ -73,53 +97,41 @@ extern "C" {
 #define ZELAMIKU_MUST_USE
 #endif
 
-/* What a call returns. zelamiku_status_text has a text of each. */
+/* What a call returns. zelamiku_status_text has a text of each. Numbers that are missing here belong to the proved library under this one. */
 typedef enum {
     ZELAMIKU_OK = 0,
-    ZELAMIKU_NOTHING = 1,         /* the handle was never opened, or isn't open any more; or a pointer is NULL */
-    ZELAMIKU_OPEN = 2,            /* the handle to be opened is open already */
-    ZELAMIKU_WRONG_KIND = 3,      /* a session where a heap is wanted, or a heap where a session is */
-    ZELAMIKU_NO_MEMORY = 4,       /* there was no memory */
-    ZELAMIKU_WAITING = 5,         /* the session waits for a monitor: it can do nothing but resume */
-    ZELAMIKU_NONE_LEFT = 6,       /* no session, or no call of the device, is left */
-    ZELAMIKU_CALLS_LEFT = 7,      /* the host has yet to make calls of the device */
-    ZELAMIKU_BAD_LANE = 8,        /* there is no such lane */
-    ZELAMIKU_RUNNING = 9,         /* a session of the heap hasn't ended */
+    ZELAMIKU_NOTHING = 1,         /* the handle was never opened, or isn't open any more */
+    ZELAMIKU_NO_MEMORY = 4,       /* there was no memory, no thread, or no descriptor */
+    ZELAMIKU_NONE_LEFT = 6,       /* all lanes are in use; or of an opening: 255 heaps are open */
+    ZELAMIKU_RUNNING = 9,         /* a section is open, or a thread waits */
     ZELAMIKU_UNKNOWN_OBJECT = 10, /* there is no such object */
     ZELAMIKU_UNKNOWN_FIELD = 11,  /* there is no such field */
-    ZELAMIKU_NOT_HELD = 12,       /* the session doesn't hold the monitor, or that of the field's guard */
-    ZELAMIKU_BEHIND = 13,         /* there is no room for a whole section's records: make rounds, and try again */
+    ZELAMIKU_NOT_HELD = 12,       /* the thread doesn't hold the monitor, or that of the field's guard; or no section is open */
+    ZELAMIKU_BEHIND = 13,         /* the lane has no room for a whole section's records before a round: try again */
     ZELAMIKU_SECTION_FULL = 14,   /* the section would have more than 1,000 records */
-    ZELAMIKU_TOO_MANY = 15,       /* 16 monitors are held; or of a heap to be made, more than 4,096 objects or 16,384 fields */
-    ZELAMIKU_TOO_DEEP = 16,       /* the monitor is held by 65,536 locks */
+    ZELAMIKU_TOO_MANY = 15,       /* the thread holds 16 monitors; or a pool would have more than 16,383 slots */
+    ZELAMIKU_TOO_DEEP = 16,       /* the thread has 65,536 locks of the monitor */
     ZELAMIKU_NO_FAT = 17,         /* 1,024 other monitors were waited on, or locked more than 256 times, before this one */
     ZELAMIKU_WORN = 18,           /* a number has reached its limit: the monitor's 2^40 - 1, the lane's 2^62, the control's 2^64 - 1 */
-    ZELAMIKU_HELD = 19,           /* another session has the monitor, or had it when this one tried */
-    ZELAMIKU_IN_SET = 20,         /* nobody has notified the session */
-    ZELAMIKU_FAULT = 21,          /* there was no memory for the calls of the device: no heap was made, or the heap has stopped */
-    ZELAMIKU_FAILED = 22,         /* an earlier call returned ZELAMIKU_FAULT, and the heap stopped */
-    ZELAMIKU_UNFINISHED = 23,     /* a session was ended while it held a monitor */
-    ZELAMIKU_EMPTY = 24,          /* there is no object, or no field */
-    ZELAMIKU_NOT_FORMATTED = 25,  /* the bytes are no image of a heap */
-    ZELAMIKU_BAD_HEADER = 26,     /* a number of the image, or of the heap to be made, is out of its limits */
-    ZELAMIKU_TOO_SMALL = 27,      /* the bytes are fewer than the image has */
-    ZELAMIKU_NO_CONTROL = 28,     /* the image has no control */
-    ZELAMIKU_BAD_CONTROL = 29,    /* the image's control can't be read */
-    ZELAMIKU_BAD_RECORD = 30,     /* the image has a record that can't be read */
-    ZELAMIKU_ILLEGAL_LOG = 31,    /* no threads can have left the image's log */
-    ZELAMIKU_DEVICE = 32,         /* of the hosts: a call of the file or the device has failed */
-    ZELAMIKU_LOST = 33,           /* of the hosts: a sync has failed, the connection has ended or the file was closed, or a stop's last write has failed; the heap has stopped */
-    ZELAMIKU_BUSY = 34,           /* of a heap by its name: another open of the file has its heap, or the file was replaced or removed */
-    ZELAMIKU_STOPPED = 35,        /* the heap has stopped because the host reported a failed sync to the proved library */
+    ZELAMIKU_HELD = 19,           /* another thread has the monitor, or had it when this one tried */
+    ZELAMIKU_FAILED = 22,         /* the heap has stopped, in this call or an earlier one: there was no memory for the calls of the device */
+    ZELAMIKU_BAD_ARGUMENT = 24,   /* a pointer is NULL, a struct has a wrong size, or a number is out of its limits */
+    ZELAMIKU_NOT_FORMATTED = 25,  /* the file or the device has other bytes than a heap's, and isn't free */
+    ZELAMIKU_TOO_SMALL = 27,      /* the device has fewer bytes than the heap takes */
+    ZELAMIKU_DEVICE = 32,         /* a call of the file or the device has failed; the heap goes on */
+    ZELAMIKU_LOST = 33,           /* a sync or a stop's last write has failed, the connection has ended or the file was closed: the heap has ended */
+    ZELAMIKU_BUSY = 34,           /* another process has the heap, this one has it open already, or the file was replaced meanwhile */
     ZELAMIKU_POOL_EMPTY = 36,     /* no slot of the pool is free */
     ZELAMIKU_NOT_TAKEN = 37,      /* the slot isn't taken, or the pool has no such slot */
     ZELAMIKU_DAMAGED = 38,        /* a field of the pool names no slot: it isn't a pool's, or was stored to by other calls */
-    ZELAMIKU_CLOSED = 39,         /* the heap was closed */
+    ZELAMIKU_CLOSED = 39,         /* the heap was closed or stopped */
     ZELAMIKU_OLD_VERSION = 40,    /* the image has version 1, from before there were transient fields: a plan with `upgrades` opens it */
-    ZELAMIKU_FORKED = 41,         /* of a heap by its name: the heap belongs to the parent process */
-    ZELAMIKU_ABANDONED = 42,      /* of a heap by its name: the heap was abandoned */
-    ZELAMIKU_OTHER_HEAP = 43,     /* of a heap by its name: the file's heap isn't that of the plan */
-    ZELAMIKU_RING = 44            /* a lane's ring would hold fewer than 4,096 records, or more than 65,536 */
+    ZELAMIKU_FORKED = 41,         /* the heap belongs to the parent process */
+    ZELAMIKU_ABANDONED = 42,      /* the heap was stopped with this reason */
+    ZELAMIKU_OTHER_HEAP = 43,     /* the file's heap isn't that of the plan */
+    ZELAMIKU_NO_HEAP = 45,        /* the path has no heap, and the plan says must_exist: no file, or a free one */
+    ZELAMIKU_DAMAGED_FILE = 46,   /* the file's heap can't be read: `damage` of the report says which part */
+    ZELAMIKU_NOT_REVERTED = 47    /* the section can't be reverted: see zelamiku_thread_revert */
 } zelamiku_status;
 
 /* A field of a heap that is to be made. */
@@ -130,52 +142,6 @@ typedef struct {
     uint32_t is_transient; /* 0: stores become durable. Else they aren't logged, and the field is `first` again at each open */
 } zelamiku_field;
 
-/* What a heap has, and what recovery found. The report of zelamiku_heap_open leaves the helper's lane out: `lanes` equals `threads`, and
- * `dropped` counts threads' sections alone. If `dropped` is 0, so is `undone`; otherwise `undone` also counts fields whose values the helper's
- * lane had. */
-typedef struct {
-    uint64_t size; /* the bytes of the image */
-    uint32_t objects, fields, lanes;
-    uint32_t capacity; /* the records that a lane's area holds */
-    uint32_t threads;  /* the lanes that threads have: all of them, or all but the last one */
-    uint64_t dropped;  /* the sections that recovery dropped; none of them was acknowledged */
-    uint64_t undone;   /* the fields that recovery has set back to an old value */
-} zelamiku_found;
-
-/* What recovery found, lane by lane. After a refusal: which record caused it. */
-typedef struct {
-    zelamiku_found found;
-    uint64_t kept[ZELAMIKU_MOST_LANES]; /* how many sections of each lane were kept, since the opening before */
-    uint64_t bad_place; /* after BAD_RECORD and ILLEGAL_LOG: the record's place in its lane */
-    uint32_t bad_lane;  /* and the lane; else ZELAMIKU_NOBODY */
-} zelamiku_told;
-
-/* Why a section was dropped. */
-enum {
-    ZELAMIKU_NOT_DROPPED = 0, /* there are no more */
-    ZELAMIKU_NOT_ENDED = 1,   /* it hadn't ended */
-    ZELAMIKU_DEPENDED = 2,    /* it depends on another that wasn't kept */
-    ZELAMIKU_UNSETTLED = 3    /* it had ended, and wasn't acknowledged */
-};
-
-/* A section that recovery dropped. */
-typedef struct {
-    uint64_t section;       /* its number in its lane, from 1, since the opening before */
-    uint64_t other_section; /* after ZELAMIKU_DEPENDED: the number of the section on which it depends */
-    uint32_t lane;
-    uint32_t why;
-    uint32_t other_lane;    /* and that section's lane; else ZELAMIKU_NOBODY */
-} zelamiku_dropped;
-
-/* A monitor, as zelamiku_thread_look sees it. */
-typedef struct {
-    uint32_t owner; /* its owner's lane; ZELAMIKU_NOBODY if it is free */
-    uint32_t locks; /* how many locks the owner has */
-    uint64_t number; /* how often it has become free */
-} zelamiku_sight;
-
-#define ZELAMIKU_NOBODY 64
-
 /* A heap, and a thread's use of one: a lane of it. All zeros is no handle. To other languages each is a uint64_t. */
 typedef struct {
     uint64_t number;
@@ -184,43 +150,107 @@ typedef struct {
     uint64_t number;
 } zelamiku_thread;
 
-enum {
-    ZELAMIKU_MOST_HEAPS = 256,     /* one more than may be open at once in a process */
-    ZELAMIKU_MOST_MESSAGE = 1024,  /* bytes of a message, with its zero byte */
-    ZELAMIKU_DEFAULT_LANES = 8,
-    ZELAMIKU_DEFAULT_RING = 16384,
-    ZELAMIKU_DEFAULT_LINGER = 5000 /* microseconds */
-};
-#define ZELAMIKU_NO_DEADLINE 18446744073709551615u
-#define ZELAMIKU_ALL_SECTIONS 18446744073709551615u
+/* ---- texts ---- */
+
+/* A text of a status, for people. It needs no handle, and never fails. */
+const char *zelamiku_status_text(uint32_t status);
+
+/* The version of the library. It differs from this header's ZELAMIKU_VERSION_NUMBER if they are of different releases. */
+ZELAMIKU_MUST_USE uint32_t zelamiku_version(void);
+
+/* The clock of all deadlines: nanoseconds of CLOCK_MONOTONIC. */
+uint64_t zelamiku_now(void);
+
+/* Why a call failed. The texts are the thread's, and valid until its next call that fails. None is NULL. */
+typedef struct {
+    uint32_t size;     /* sizeof(zelamiku_failure) */
+    uint32_t status;   /* what the call returned; OK: no call of this thread has failed */
+    int32_t error;     /* the errno of it, such as ENOSPC; 0: there was none */
+    uint32_t object;   /* the object that the call named; or ZELAMIKU_NO_NUMBER */
+    uint32_t field;    /* the field that the call named, of a pool its head; or ZELAMIKU_NO_NUMBER */
+    uint32_t reserved; /* 0 */
+    const char *path;  /* of the heap, or of a copy, or the device's name; the last 500 bytes of a longer one. "": there was none */
+    const char *call;  /* what was called, such as "open" or "store field 3" */
+    const char *cause; /* what went wrong, without the system's text of `error` */
+    const char *cure;  /* what to do about it */
+} zelamiku_failure;
+
+/* The calling thread's last call here that failed: fills in `failure`, unless it is NULL, and returns one line of it all:
+ * "PATH: CALL: CAUSE: the text of errno; CURE". "": no call has failed. HELD, BEHIND and POOL_EMPTY are no failures, and change nothing.
+ * NULL: `failure` has a wrong size, and is as it was. */
+const char *zelamiku_heap_failure(zelamiku_failure *failure);
+
+/* ---- a device of your own ----
+ *
+ * A heap needn't lie in a file. Whatever has bytes that can be read, written and synced can hold one: a volume, an NBD export
+ * (examples/c/nbd.c), a region of another file. The program provides four functions, which the library calls as SQLite calls a VFS. Each returns
+ *   OK      it is done
+ *   DEVICE  it failed, and may be tried again. The device keeps what it had; of the bytes of this write any may be there, or none
+ *   LOST    it failed, and no later call may follow: the connection is gone, or what was written since the last sync may be gone. Every
+ *           other value counts as this one
+ * and sets errno to the cause (without one the library reports EIO). What each does:
+ *   read    fills all of `bytes` with what was last written at that place, synced or not
+ *   write   takes all of the bytes. They needn't be durable before the next sync. No write is longer than 65,536 bytes, and few are aligned
+ *   sync    returns OK once all earlier writes are durable: no crash and no loss of power loses them. A device that returns DEVICE must have
+ *           kept what was written since the last sync that was OK: the library syncs again, and doesn't repeat the writes. A system's
+ *           fdatasync doesn't keep it: its failure is LOST
+ *   length  returns how many bytes there are, from 0 on. The number doesn't fall while the heap is open
+ * Between two syncs each range that is written may hold any bytes after a crash, and every other byte stays. docs/FORMAT.md, "What the device
+ * keeps", says which devices promise that. Each opening also writes three single bytes, at 8, 64 and 1,112, with the values that it has read
+ * there: a byte that is written with its durable value must survive a crash.
+ *
+ * A heap is made in place if the device is free: the bytes that the heap takes are zeros, or what a making that was cut off at any call has left.
+ * Later bytes are never read. Nothing is locked: the program must see to it that one heap at a time is on a device, and that nobody else writes
+ * there.
+ *
+ * Errors. While a heap is opened, an error means no heap: zelamiku_heap_open returns DEVICE, with the cause. Later, DEVICE doesn't end the
+ * heap: the failed call is made again, as the top of this header says, and then the others, in order. LOST ends it.
+ *
+ * Threads. `read` and `length` are called by the thread that opens the heap; `write` and `sync` by that thread, and later by any thread that
+ * waits for a round, closes or stops the heap, or by the helper. Two calls never overlap. None comes after the heap's close or stop has returned,
+ * or in a forked child. The caller holds no mutex of the library. A function must not call anything of its heap.
+ *
+ * A call may take long, or hang. Threads go on until they have no room for a section. A stop wakes at once all threads that sleep for monitors
+ * or for room; the stop itself, and threads that await sections, return only after the call has returned. Nothing cancels a call. */
+typedef struct {
+    uint32_t size; /* sizeof(zelamiku_device) */
+    zelamiku_status (*read)(void *context, uint64_t at, void *bytes, size_t size);
+    zelamiku_status (*write)(void *context, uint64_t at, const void *bytes, size_t size);
+    zelamiku_status (*sync)(void *context);
+    zelamiku_status (*length)(void *context, uint64_t *length);
+    void *context; /* handed to each; valid until the heap's close or stop has returned */
+} zelamiku_device;
+
+/* ---- a heap ---- */
 
 /* The log hook: `level` is one of these, `text` one line without a newline. The caller is the helper's thread, a thread that opens, closes,
  * copies or waits for a round, or one that has slept for a monitor for a second. The calling thread holds no mutex of the library. The hook must
- * not call anything of this heap. The heap's close, stop or abandon, and an open that fails, wait for a running hook; after they have returned
- * it isn't called any more. */
+ * not call anything of this heap. The heap's close or stop, and an open that fails, wait for a running hook; after they have returned it isn't
+ * called any more. */
 enum { ZELAMIKU_LOG_INFO = 0, ZELAMIKU_LOG_WARNING = 1, ZELAMIKU_LOG_ERROR = 2 };
-typedef void zelamiku_log(void *of, uint32_t level, const char *text);
+typedef void zelamiku_log(void *context, uint32_t level, const char *text);
 
-/* What a heap is made of, and how it works. All zeros but for objects, fields and count is a good plan.
+/* What a heap is made of, and how it works. All zeros but for size, objects, fields and count is a good plan. The library reads it, and what it
+ * points to, during zelamiku_heap_open only.
  * Records of a section lie in its lane's ring until a round takes them, and in the lane's log until they are durable. A thread without room in
  * either sleeps until a round. A larger ring and log therefore give more sections a second if syncs are slow and few threads wait. A ring holds
  * no more than its log. */
 typedef struct {
-    const zelamiku_field *fields; /* numbered from 0 */
-    uint32_t count;               /* of fields: 1 to 16,384, or with a fingerprint to 16,383 */
-    uint32_t objects;             /* 1 to 4,096, numbered from 0 */
-    uint32_t lanes;               /* how many threads use the heap at once: 1 to 32; 0 is 8. See zelamiku_heap_open for the helper's lane */
-    uint32_t capacity;            /* records of a lane's log: 2,000 to 1,048,576; 0: as its ring. A heap that is there keeps its own */
-    uint32_t ring;                /* records of a lane's ring: 4,096 to 65,536; 0 is 16,384. 24 bytes of memory each: 393 kB a lane */
-    uint32_t linger;              /* microseconds before a round takes a section that has stored and that nobody awaits; 0 is 5,000 */
-    uint32_t upgrades;            /* 1: a heap of an older version is upgraded in place; 0: OLD_VERSION */
-    uint32_t must_exist;          /* 1: a path without a heap is refused, and no file is made */
-    uint32_t reverts;             /* 1: zelamiku_thread_revert can undo a section's stores. 24 bytes of memory a lane and field */
-    uint32_t keeps_slice;         /* 1: threads keep their time slice and their timers' slack; 0: those that make rounds or wait for them ask for
-                                     a short slice and the least slack */
-    uint64_t fingerprint;         /* of the fields' names in the program, or any number: see zelamiku_heap_open. 0: none */
-    zelamiku_log *log;            /* or NULL */
-    void *log_of;                 /* handed to it; valid as long as the hook may be called */
+    uint32_t size;                 /* sizeof(zelamiku_plan) */
+    uint32_t objects;              /* 1 to 4,096, numbered from 0 */
+    const zelamiku_field *fields;  /* numbered from 0 */
+    uint32_t count;                /* of fields: 1 to 16,384, or with a fingerprint to 16,383 */
+    uint32_t lanes;                /* how many threads use the heap at once: 1 to 32; 0 is 8. See zelamiku_heap_open for the helper's lane */
+    uint32_t capacity;             /* records of a lane's log: 2,000 to 1,048,576; 0: as its ring. A heap that is there keeps its own */
+    uint32_t ring;                 /* records of a lane's ring: 4,096 to 65,536; 0 is 16,384. 24 bytes of memory each: 393 kB a lane */
+    uint32_t linger;               /* microseconds before a round takes a section that has stored and that nobody awaits; 0 is 5,000 */
+    uint32_t upgrades;             /* 1: a heap of an older version is upgraded in place; 0: OLD_VERSION */
+    uint32_t must_exist;           /* 1: a path without a heap is NO_HEAP, and no file is made */
+    uint32_t reverts;              /* 1: zelamiku_thread_revert can undo a section's stores. 24 bytes of memory a lane and field */
+    uint64_t fingerprint;          /* of the fields' names in the program, or any number: see zelamiku_heap_open. 0: none */
+    zelamiku_log *log;             /* or NULL */
+    void *log_context;             /* handed to it; valid as long as the hook may be called */
+    const zelamiku_device *device; /* the heap is on this device, and the path is its name in messages; NULL: in the file at the path */
 } zelamiku_plan;
 
 /* How the file's heap differs from the plan. */
@@ -235,15 +265,127 @@ enum {
     ZELAMIKU_DIFFERENT_FINGERPRINT = 7 /* the plan's names, or their order */
 };
 
-/* What an open found. */
+/* Which part of a file is damaged. */
+enum {
+    ZELAMIKU_UNDAMAGED = 0,
+    ZELAMIKU_DAMAGED_HEADER = 1,  /* a number of the header is out of its limits */
+    ZELAMIKU_DAMAGED_LENGTH = 2,  /* the file is shorter than its heap */
+    ZELAMIKU_DAMAGED_CONTROL = 3, /* there is no control, or it can't be read */
+    ZELAMIKU_DAMAGED_RECORD = 4,  /* a record can't be read */
+    ZELAMIKU_DAMAGED_LOG = 5      /* no threads can have left these records */
+};
+
+/* What an opening found. It leaves the helper's lane out: `lanes` counts the lanes of threads, and `dropped` threads' sections alone. If
+ * `dropped` is 0, so is `undone`; otherwise `undone` also counts fields whose values the helper's lane had. */
 typedef struct {
-    zelamiku_told told;     /* what the heap has, and which sections recovery kept; or which record it refused */
-    uint32_t is_made;       /* 1: the path had no heap, and this open made one */
-    uint32_t is_upgraded;   /* 1: it had an older version */
-    uint32_t difference;    /* after OTHER_HEAP: the first one found, and then */
-    uint32_t field;         /* which field, for OWNER, GUARD and MARK */
-    uint64_t has, planned;  /* what the file has there, and what the plan says */
+    uint32_t size;         /* sizeof(zelamiku_report) */
+    uint32_t is_made;      /* 1: the path had no heap, and this open made one */
+    uint32_t is_upgraded;  /* 1: it had an older version */
+    uint32_t objects, fields, lanes;
+    uint32_t capacity;     /* the records that a lane's log holds */
+    uint32_t damage;       /* after DAMAGED_FILE: which part, ZELAMIKU_DAMAGED_.. */
+    uint32_t bad_lane;     /* after ZELAMIKU_DAMAGED_RECORD and .._LOG: the record's lane; else ZELAMIKU_NOBODY */
+    uint32_t difference;   /* after OTHER_HEAP: the first difference found, ZELAMIKU_DIFFERENT_.. */
+    uint32_t field;        /* which field, for OWNER, GUARD and MARK */
+    uint32_t reserved;     /* 0 */
+    uint64_t has, planned; /* what the file has there, and what the plan says */
+    uint64_t bad_place;    /* the bad record's place in its lane */
+    uint64_t bytes;        /* of the image */
+    uint64_t dropped;      /* the sections that recovery dropped; none of them was acknowledged. zelamiku_heap_dropped has each */
+    uint64_t undone;       /* the fields that recovery has set back to an old value */
+    uint64_t kept[ZELAMIKU_MOST_LANES]; /* how many sections of each lane were kept, since the opening before */
 } zelamiku_report;
+
+/* Opens the heap of the file at this path, and starts its helper. Recovers a heap that is there. Makes one if there is no file, or a free one:
+ * it is empty, has only zeros, or is a heap whose making was cut off. The file stays locked while the heap is open. `report` may be NULL; it is
+ * filled in also if the call fails. After a failure `heap` is no handle.
+ * A heap is made in a new file beside the path (PATH.heapctl-new, where the path's links lead). That file is locked, synced and renamed to the
+ * path, and the folder is synced. If the process dies meanwhile, the path stays as it was, and the next making or copy there replaces the file
+ * beside it.
+ * Each opening syncs the folder of the real path, or its whole file system if the folder can't be read. After that no crash loses the file's
+ * name, even if the file was renamed to the path just before.
+ * The path may name a block device: a disk, a partition, a logical volume, or one on another machine (RBD, DRBD, iSCSI, the kernel's NBD). It is
+ * opened with O_EXCL, so the system doesn't mount it meanwhile. A heap is made in place there, as on a device of your own.
+ * A new heap has a lane for each of the plan's threads, and one more for the helper; with it rounds take two syncs. With 32 threads it has 32
+ * lanes, and none for the helper: rounds take four. An existing heap may have more lanes than the plan has threads: its last lane is then the
+ * helper's, and all others are threads'. One with as many lanes as the plan has threads is opened too, without a lane for the helper: rounds
+ * take four. The file doesn't record whether its last lane was the helper's. If this plan and the one before differ in that, the report omits
+ * the threads' sections in that lane, or lists the helper's as UNSETTLED.
+ * A heap made by a plan with a fingerprint has one field more, the last: transient, of object 0, with the fingerprint as its first value. The
+ * report doesn't count it, and programs don't use it: a store there lasts until the heap is closed, and changes no fingerprint. A heap without
+ * one, with as many fields as the plan, is opened too.
+ *
+ * Returns OK, or one of these:
+ *   BAD_ARGUMENT    a number of the plan is out of its limits, or a field names no object of the plan; the cause names it
+ *   BUSY            another process has the heap, makes one there, or has locked the file, as any program that may read it can. Or this process
+ *                   has it open, by this or another name: close that heap first, also if the program has closed its descriptor. Or the file was
+ *                   replaced meanwhile. Never for a device of your own
+ *   NO_HEAP         there is no heap, and the plan says must_exist: there is no file, or a free one
+ *   OTHER_HEAP      the file's heap isn't that of the plan: the report has the first difference
+ *   OLD_VERSION     an older library made the heap, and the plan doesn't say `upgrades`
+ *   NOT_FORMATTED   the file holds something else, or a heap whose first bytes were damaged. To make a heap over the contents of a device, write
+ *                   zeros over them first
+ *   DAMAGED_FILE    something else has written the heap's file, it was cut, or its disk has lost what it had synced: the report says which part
+ *                   is damaged, and which record
+ *   WORN            the control's sequence has reached its limit, 2^64 - 1: move the values to a new heap
+ *   TOO_SMALL       a device, or a block device, has fewer bytes than the heap takes
+ *   DEVICE          the file can't be opened, made, locked, read or written, or its folder can't be synced: the failure has the system's error
+ *   NONE_LEFT       255 heaps are open
+ *   NO_MEMORY       no memory, or no thread could be started
+ * All of these leave an existing file or device as it was, and no file where there was none. Two exceptions: if a new heap's folder can't be
+ * synced (DEVICE), a file that was free may hold the heap; and after a DEVICE whose cause is a write or a sync, a heap that is there may have been
+ * recovered already, and a free device may hold a part of a new one. Opening again goes on from there. */
+ZELAMIKU_MUST_USE zelamiku_status zelamiku_heap_open(zelamiku_heap *heap, const char *path, const zelamiku_plan *plan,
+                                                     zelamiku_report *report);
+
+/* Why a section was dropped. */
+enum {
+    ZELAMIKU_NOT_DROPPED = 0, /* there is no section of that number */
+    ZELAMIKU_NOT_ENDED = 1,   /* it hadn't ended */
+    ZELAMIKU_DEPENDED = 2,    /* it depends on another that wasn't kept */
+    ZELAMIKU_UNSETTLED = 3    /* it had ended, and wasn't acknowledged */
+};
+
+/* A section that recovery dropped. */
+typedef struct {
+    uint32_t size;          /* sizeof(zelamiku_dropped) */
+    uint32_t why;           /* ZELAMIKU_NOT_ENDED, .. */
+    uint32_t lane;
+    uint32_t other_lane;    /* after ZELAMIKU_DEPENDED: the lane of the section on which it depends; else ZELAMIKU_NOBODY */
+    uint64_t section;       /* its number in its lane, from 1, since the opening before */
+    uint64_t other_section; /* and that section's number */
+} zelamiku_dropped;
+
+/* The sections that recovery dropped, one a call: number `index`, from 0 to the report's `dropped` - 1, by lane and then by number. Past the last
+ * one `why` is ZELAMIKU_NOT_DROPPED. After the heap has ended there are none. Returns OK. */
+ZELAMIKU_MUST_USE zelamiku_status zelamiku_heap_dropped(zelamiku_heap heap, size_t index, zelamiku_dropped *dropped);
+
+/* Closes the heap once all its sections are durable; all must have ended. Threads that still have lanes get CLOSED. Returns OK, or
+ *   RUNNING   a section is open, or a thread waits. The heap stays open
+ *   DEVICE    a write has failed. The heap stays open
+ *   Ended     the heap had ended already, and is released now. If another thread is closing or stopping it, this call waits until it has ended
+ *   NO_MEMORY, FAILED, WORN: the heap has ended, and its last calls weren't all made. Nothing is lost: the next open recovers it */
+ZELAMIKU_MUST_USE zelamiku_status zelamiku_heap_close(zelamiku_heap heap);
+
+/* Stops a heap whose threads may be in sections or wait: from now on their calls return `why`, even those that sleep now. First it makes all ended
+ * sections durable that don't depend on an open one. The next open drops those that do and the open sections, as after a crash.
+ * `why` is ZELAMIKU_CLOSED; or ZELAMIKU_ABANDONED, for a heap with a thread that has exited, or failed, inside its section. The memory of a lane
+ * in a section is kept until its thread calls again.
+ * The heap has ended after each of these: OK, or
+ *   LOST   the last write or sync has failed: the next open may drop sections that had ended, too. The failure has the system's error
+ *   Ended  the heap had ended already, or its last round has failed for want of memory (FAILED) or of numbers (WORN)
+ * BAD_ARGUMENT, for every other `why`: nothing was done. */
+ZELAMIKU_MUST_USE zelamiku_status zelamiku_heap_stop(zelamiku_heap heap, zelamiku_status why);
+
+/* Writes a copy of the heap, of a moment between two rounds, to the path, as zelamiku_heap_open makes a heap: beside the path, then synced and
+ * renamed over the file there, which is locked until then. Threads go on meanwhile. The copy has all that was durable when the call began.
+ * Returns OK, or
+ *   DEVICE     the copy can't be written, and the path is unchanged. But if the cause is that the folder can't be synced, the new copy is at the
+ *              path, and a power failure may bring back the file before it
+ *   BUSY       this heap or another one is open at that path, or another heap or copy is being made there
+ *   NO_MEMORY  there is no memory for the copy
+ *   Ended */
+ZELAMIKU_MUST_USE zelamiku_status zelamiku_heap_copy(zelamiku_heap heap, const char *path);
 
 /* Why the last round came. */
 enum {
@@ -259,6 +401,12 @@ enum {
 
 /* Counts since the open. Each is exact; they are read one after another, at moments close to each other. Times are nanoseconds. */
 typedef struct {
+    uint32_t size;          /* sizeof(zelamiku_stats) */
+    uint32_t lent;          /* lanes in use */
+    uint32_t awaiting;      /* threads that wait, asleep or by an event loop, until their sections are durable or there is room */
+    uint32_t entering;      /* threads that sleep for a monitor */
+    uint32_t last_cause;    /* ZELAMIKU_ROUND_.. */
+    uint32_t is_astray;     /* 1: at the last check the path led to another file or to none; rounds check it each second */
     uint64_t rounds;        /* that have ended, also those with a failed call */
     uint64_t sections;      /* that are durable */
     uint64_t records;       /* that rounds took */
@@ -268,13 +416,10 @@ typedef struct {
     uint64_t longest_round; /* from its first record to its last call */
     uint64_t two_sync_rounds;  /* rounds with two syncs, all their calls made */
     uint64_t four_sync_rounds; /* with four: the heap has no lane for the helper, or that lane has no room for what the round changed */
-    uint32_t lent;          /* lanes in use */
-    uint32_t awaiting;      /* threads that wait, asleep or by an event loop, until their sections are durable or there is room */
-    uint32_t entering;      /* threads that sleep for a monitor */
-    uint32_t last_cause;    /* ZELAMIKU_ROUND_.. */
-    uint32_t is_astray;     /* 1: at the last check the path led to another file or to none; rounds check it each second */
-    uint32_t reserved;      /* 0 */
 } zelamiku_stats;
+
+/* Fills in the counts. Returns OK, also after the heap has ended. */
+ZELAMIKU_MUST_USE zelamiku_status zelamiku_heap_stats(zelamiku_heap heap, zelamiku_stats *stats);
 
 /* A thread that sleeps for a monitor. */
 typedef struct {
@@ -284,171 +429,45 @@ typedef struct {
     uint32_t in_circle; /* 1: it waits in a circle of threads, none of which can go on */
 } zelamiku_wait;
 
-/* ---- texts ---- */
-
-/* A text of a status, for people. zelamiku_heap_message says more about a call that failed. */
-const char *zelamiku_status_text(uint32_t status);
-
-/* The version of the library. It differs from this header's ZELAMIKU_VERSION_NUMBER if they are of different releases. */
-ZELAMIKU_MUST_USE uint32_t zelamiku_version(void);
-
-/* The text of the calling thread's last call here that failed: "PATH: what; the cause; the cure", or "" if none has. HELD, BEHIND and POOL_EMPTY
- * are no failures and leave the text unchanged. It is valid until the thread's next call that fails. */
-const char *zelamiku_heap_message(void);
-
-/* The errno of that failure, such as ENOSPC; 0 if it had none. */
-int zelamiku_heap_error(void);
-
-/* ---- a heap ---- */
-
-/* Opens the heap of the file at this path, and starts its helper. Recovers a heap that is there. Makes one if there is no file, or a free one:
- * it is empty, has only zeros, or is a heap whose making was cut off. The file stays locked while the heap is open. `report` may be NULL; it is
- * filled in also if the call fails. After a failure `heap` is no handle.
- * A heap is made in a new file beside the path (PATH.heapctl-new, where the path's links lead). That file is locked, synced and renamed to the
- * path, and the folder is synced. If the process dies meanwhile, the path stays as it was, and the next making or copy there replaces the file
- * beside it.
- * Each opening syncs the folder of the real path, or its whole file system if the folder can't be read. After that no crash loses the file's
- * name, even if the file was renamed to the path just before.
- * The path may name a block device: a disk, a partition, a logical volume, or one on another machine (RBD, DRBD, iSCSI, the kernel's NBD). It is
- * opened with O_EXCL, so the system doesn't mount it meanwhile. A heap is made in place there, as by zelamiku_heap_open_on, whose TOO_SMALL and
- * NOT_FORMATTED hold.
- * A new heap has a lane for each of the plan's threads, and one more for the helper; with it rounds take two syncs. With 32 threads it has 32
- * lanes, and none for the helper: rounds take four. An existing heap may have more lanes than the plan has threads: its last lane is then the
- * helper's, and all others are threads'. One with as many lanes as the plan has threads is opened too, without a lane for the helper: rounds
- * take four. The file doesn't record whether its last lane was the helper's. If this plan and the one before differ in that, the report omits
- * the threads' sections in that lane, or lists the helper's as UNSETTLED.
- * A heap made by a plan with a fingerprint has one field more, the last: transient, of object 0, with the fingerprint as its first value. The
- * report doesn't count it, and programs don't use it: a store there lasts until the heap is closed, and changes no fingerprint. A heap without
- * one, with as many fields as the plan, is opened too.
- * BUSY: another process has the heap, makes one there, or has locked the file, as any program that may read it can. Or this process has it open,
- * by this or another name: close that heap first, also if the program has closed its descriptor. Or the file was replaced meanwhile.
- * OTHER_HEAP: the file's heap isn't that of the plan: the report has the first difference.
- * NOT_FORMATTED: the file holds something else, or a heap whose first bytes were damaged; or there is no heap, and the plan says must_exist.
- * DEVICE: the file can't be opened, made, locked, read or written, or its folder can't be synced: zelamiku_heap_error has the cause.
- * These, and what zelamiku_open and zelamiku_format return, leave an existing file as it was, and no file where there was none. One exception:
- * if a new heap's folder can't be synced (DEVICE), a file that was free may hold the heap.
- * NONE_LEFT: 255 heaps are open, or another copy of the library has the lanes of this process.
- * NO_MEMORY: no memory, or no thread could be started. */
-ZELAMIKU_MUST_USE zelamiku_status zelamiku_heap_open(zelamiku_heap *heap, const char *path, const zelamiku_plan *plan,
-                                                     zelamiku_report *report);
-
-/* The sections that recovery dropped, by lane and then by number, beginning with number `from` of this list. `written` gets how many were put
- * into `dropped`. */
-ZELAMIKU_MUST_USE zelamiku_status zelamiku_heap_dropped(zelamiku_heap heap, size_t from, zelamiku_dropped *dropped, size_t count,
-                                                        size_t *written);
-
-/* Closes the heap once all its sections are durable; all must have ended. Threads that still have lanes get CLOSED.
- * RUNNING: a section is open, or a thread waits. DEVICE: a write has failed. In both cases the heap stays open. If the heap has ended already,
- * it is released, and the call returns the reason. If another thread is closing, stopping or abandoning the heap, this call waits until the heap
- * has ended, and returns the reason. */
-ZELAMIKU_MUST_USE zelamiku_status zelamiku_heap_close(zelamiku_heap heap);
-
-/* The same for a heap whose threads are in sections or wait: they get CLOSED at once, even if they sleep. First it makes all ended sections
- * durable that don't depend on an open one. The next open drops those that do and the open sections, as after a crash.
- * LOST: the last write or sync has failed: the next open may drop sections that had ended, too. zelamiku_heap_error has the cause. The heap has
- * ended in each case. */
-ZELAMIKU_MUST_USE zelamiku_status zelamiku_heap_stop(zelamiku_heap heap);
-
-/* The same, but calls then return ABANDONED: for a heap with a thread that has exited, or failed, inside its section. The lane's memory is kept
- * until that thread calls again. */
-ZELAMIKU_MUST_USE zelamiku_status zelamiku_heap_abandon(zelamiku_heap heap);
-
-/* Writes a copy of the heap, of a moment between two rounds, to the path, as zelamiku_heap_open makes a heap: beside the path, then synced and
- * renamed over the file there, which is locked until then. Threads go on meanwhile. The copy has all that was durable when the call began.
- * DEVICE: the copy can't be written, and the path is unchanged. But if the message says that the folder can't be synced, the new copy is at the
- * path, and a power failure may bring back the file before it. NO_MEMORY. BUSY: this heap or another one is open at that path, or another heap
- * or copy is being made there. */
-ZELAMIKU_MUST_USE zelamiku_status zelamiku_heap_copy(zelamiku_heap heap, const char *path);
-
-ZELAMIKU_MUST_USE zelamiku_status zelamiku_heap_stats(zelamiku_heap heap, zelamiku_stats *stats);
-
 /* Which threads sleep for monitors now, and which lanes hold these, by lane. `written` gets how many were put into `waits`; there are
  * ZELAMIKU_MOST_LANES at most. Threads that wait for a notification aren't listed. The library doesn't break a circle: a thread in it gives up
- * at its deadline, or the heap is stopped. The log hook reports each circle once, after one of its threads has slept for a second. */
+ * at its deadline, or the heap is stopped. The log hook reports each circle once, after one of its threads has slept for a second.
+ * Returns OK; Ended: `written` is 0. */
 ZELAMIKU_MUST_USE zelamiku_status zelamiku_heap_waits(zelamiku_heap heap, zelamiku_wait *waits, size_t count, size_t *written);
 
-/* Sleeps until more rounds than `seen` have ended, or until the deadline: nanoseconds of CLOCK_MONOTONIC, as zelamiku_now returns them, or
- * ZELAMIKU_NO_DEADLINE. `rounds` gets how many have ended. It requests a round if a section has ended that no round has taken. Any thread may
- * call it, without a lane: one thread can wait for the sections of many (zelamiku_thread_durable).
- * DEVICE: the write of a round has failed; `rounds` is set. */
+/* Sleeps until more rounds than `seen` have ended, or until the deadline (zelamiku_now), or ZELAMIKU_NO_DEADLINE. `rounds` gets how many have
+ * ended. It requests a round if a section has ended that no round has taken. Any thread may call it, without a lane: one thread can wait for the
+ * sections of many (zelamiku_thread_progress). Returns OK, also at the deadline; DEVICE: the write of a round has failed; Ended. */
 ZELAMIKU_MUST_USE zelamiku_status zelamiku_heap_await_round(zelamiku_heap heap, uint64_t seen, uint64_t deadline, uint64_t *rounds);
-
-uint64_t zelamiku_now(void);
-
-/* ---- a device of your own ----
- *
- * A heap needn't lie in a file. Whatever has bytes that can be read, written and synced can hold one: a volume, an NBD export
- * (examples/c/nbd.c), a region of another file. The host provides four functions, which the library calls as SQLite calls a VFS. Each returns
- *   OK      it is done
- *   DEVICE  it failed, and may be tried again. The device keeps what it had; of the bytes of this write any may be there, or none
- *   LOST    it failed, and no later call may follow: the connection is gone, or what was written since the last sync may be gone. Every
- *           other value counts as this one
- * and sets errno to the cause (without one the library reports EIO). What each does:
- *   read    fills all of `bytes` with what was last written at that place, synced or not
- *   write   takes all of the bytes. They needn't be durable before the next sync. No write is longer than 65,536 bytes, and few are aligned
- *   sync    returns OK once all earlier writes are durable: no crash and no loss of power loses them. A device that returns DEVICE must have
- *           kept what was written since the last sync that was OK: the library syncs again, and doesn't repeat the writes. A system's
- *           fdatasync doesn't keep it: its failure is LOST
- *   size    returns how many bytes there are, from 0 on. The number doesn't fall while the heap is open
- * Between two syncs each range that is written may hold any bytes after a crash, and every other byte stays. docs/FORMAT.md, "What the device
- * keeps", says which devices promise that. Each opening also writes three single bytes, at 8, 64 and 1,112, with the values that it has read
- * there: a byte that is written with its durable value must survive a crash.
- *
- * Errors. While a heap is opened, an error means no heap: zelamiku_heap_open_on returns DEVICE, with the cause. Later, DEVICE doesn't end the
- * heap: the failed call is made again, as the top of this header says, and then the others, in order. LOST ends it.
- *
- * Threads. `read` and `size` are called by the thread that opens the heap; `write` and `sync` by that thread, and later by any thread that waits
- * for a round, closes or stops the heap, or by the helper. Two calls never overlap. None comes after the heap's close, stop or abandon has
- * returned, or in a forked child. The caller holds no mutex of the library. A function must not call anything of its heap.
- *
- * A call may take long, or hang. Threads go on until they have no room for a section. A stop wakes at once all threads that sleep for monitors
- * or for room; the stop itself, and threads that await sections, return only after the call has returned. Nothing cancels a call. */
-typedef struct {
-    zelamiku_status (*read)(void *context, uint64_t at, void *bytes, size_t size);
-    zelamiku_status (*write)(void *context, uint64_t at, const void *bytes, size_t size);
-    zelamiku_status (*sync)(void *context);
-    zelamiku_status (*size)(void *context, uint64_t *size);
-    void *context; /* handed to each; valid until the heap's close, stop or abandon has returned */
-} zelamiku_device;
-
-/* Opens the heap of the device as zelamiku_heap_open opens that of a file. Makes one in place if the device is free: the bytes that the heap
- * takes are zeros, or what a making that was cut off at any call has left. Later bytes are never read. `name` stands for the path in messages.
- * Nothing is locked: the program must see to it that one heap at a time is on a device, and that nobody else writes there.
- * Returns what zelamiku_heap_open does, but never BUSY. TOO_SMALL: the device has fewer bytes than the heap takes, and stays as it is.
- * NOT_FORMATTED: it isn't free; to make a heap over its contents, write zeros over them first. */
-ZELAMIKU_MUST_USE zelamiku_status zelamiku_heap_open_on(zelamiku_heap *heap, const char *name, const zelamiku_device *device,
-                                                        const zelamiku_plan *plan, zelamiku_report *report);
 
 /* ---- a thread's use of it ---- */
 
-/* Hands out a lane that is free. NONE_LEFT: all are in use; `thread` is no handle. */
+/* Hands out a lane that is free. Returns OK; NONE_LEFT: all are in use; Ended. After a failure `thread` is no handle. */
 ZELAMIKU_MUST_USE zelamiku_status zelamiku_thread_begin(zelamiku_thread *thread, zelamiku_heap heap);
 
-/* Releases the lane. UNFINISHED: it holds a monitor: nothing was done. After the heap has ended it returns the reason; the lane is released
- * too. */
+/* Releases the lane. Returns OK; RUNNING: the thread holds a monitor, and nothing was done; Ended: the lane is released too. */
 ZELAMIKU_MUST_USE zelamiku_status zelamiku_thread_end(zelamiku_thread thread);
 
 /* Locks the object's monitor, or locks it once more. Sleeps while another thread has it, or until a round makes room in the lane. Threads that
  * sleep for one monitor get it in the order in which they came; a thread that calls while it is free may get it before them. Take monitors in
  * one order everywhere: two threads that wait for each other's monitors wait for ever.
- * UNKNOWN_OBJECT, SECTION_FULL, TOO_MANY, TOO_DEEP, NO_FAT, WORN; DEVICE, if it waited for a round that can't write: what is held stays as it
- * was. */
+ * Returns OK; UNKNOWN_OBJECT, SECTION_FULL, TOO_MANY, TOO_DEEP, NO_FAT, WORN (of this monitor or lane: the heap goes on); DEVICE, if it waited for
+ * a round that can't write: what is held stays as it was. Ended. */
 ZELAMIKU_MUST_USE zelamiku_status zelamiku_thread_enter(zelamiku_thread thread, uint32_t object);
 
-/* The same, without sleeping. HELD: another thread has the monitor. BEHIND: the lane has no room; the call has requested a round. */
-ZELAMIKU_MUST_USE zelamiku_status zelamiku_thread_try_enter(zelamiku_thread thread, uint32_t object);
-
-/* The same, sleeping until the deadline at most. HELD: the monitor was still taken at the deadline. BEHIND: the lane was still full. */
+/* The same, sleeping until the deadline at most (zelamiku_now). With a deadline of 0 it never sleeps. It also returns
+ *   HELD    the monitor was still taken at the deadline
+ *   BEHIND  the lane was still full; the call has requested a round */
 ZELAMIKU_MUST_USE zelamiku_status zelamiku_thread_enter_until(zelamiku_thread thread, uint32_t object, uint64_t deadline);
 
 /* Unlocks the monitor once. The last unlock frees it, and the section ends when its last monitor is free.
- * UNKNOWN_OBJECT, NOT_HELD: nothing was done. After the heap has ended it returns the reason, and the monitor is unlocked all the same. */
+ * Returns OK; UNKNOWN_OBJECT, NOT_HELD: nothing was done. Ended: the monitor is unlocked all the same. */
 ZELAMIKU_MUST_USE zelamiku_status zelamiku_thread_exit(zelamiku_thread thread, uint32_t object);
 
-/* Loads a field whose guard is held. UNKNOWN_FIELD, NOT_HELD: `value` is 0. */
+/* Loads a field whose guard is held. Returns OK; UNKNOWN_FIELD, NOT_HELD, Ended: `value` is 0. */
 ZELAMIKU_MUST_USE zelamiku_status zelamiku_thread_load(zelamiku_thread thread, uint32_t field, uint64_t *value);
 
-/* Stores a field whose guard is held. UNKNOWN_FIELD, NOT_HELD, SECTION_FULL: nothing was stored. */
+/* Stores a field whose guard is held. Returns OK; UNKNOWN_FIELD, NOT_HELD, SECTION_FULL, Ended: nothing was stored. */
 ZELAMIKU_MUST_USE zelamiku_status zelamiku_thread_store(zelamiku_thread thread, uint32_t field, uint64_t value);
 
 /* Undoes what the open section has stored: each field gets the value that it had before the section's first store to it, and each slot of a pool
@@ -460,49 +479,62 @@ ZELAMIKU_MUST_USE zelamiku_status zelamiku_thread_store(zelamiku_thread thread, 
  *   - A wait with no other monitor held ends the section: its stores stay. A later revert undoes the stores since the wait.
  *   - One record of the section's 1,000 is kept free for each persistent field that it has stored to, for the old value. So it can store to
  *     499 fields under one monitor. A store, an enter or a wait that would need that room returns SECTION_FULL; a revert never does.
- * WRONG_KIND: the plan hasn't set `reverts`; if the open section has stored nothing, OK. NOT_HELD: no section is open, or this one has freed a
- * monitor under which it had stored; nothing was undone. After the heap has ended it returns the reason: the section never ends, so nothing of
- * it becomes durable. */
+ * Returns OK, also if there is nothing to undo. NOT_HELD: no section is open. NOT_REVERTED: the section has freed a monitor under which it had
+ * stored, or it has stored and the plan hasn't set `reverts`; nothing was undone. Ended: the section never ends, so nothing of it becomes
+ * durable. */
 ZELAMIKU_MUST_USE zelamiku_status zelamiku_thread_revert(zelamiku_thread thread);
 
 /* Frees a monitor that is held, with all its locks, sleeps until another thread notifies this one, and takes it again with as many locks. There
  * are no spurious wake-ups. If no other monitor is held the section ends, and the next one begins when the thread wakes.
- * UNKNOWN_OBJECT, NOT_HELD, BEHIND, SECTION_FULL, NO_FAT, WORN, DEVICE: the monitor is held as before. After the heap has ended it returns the
- * reason, and the monitor isn't held. */
+ * Returns OK; UNKNOWN_OBJECT, NOT_HELD, BEHIND, SECTION_FULL, NO_FAT, WORN, DEVICE: the monitor is held as before. Ended: it isn't held. */
 ZELAMIKU_MUST_USE zelamiku_status zelamiku_thread_wait(zelamiku_thread thread, uint32_t object);
 
-/* Notifies one thread that waits on a monitor that is held. That thread goes on once the monitor is free. `lane` gets its lane, or
- * ZELAMIKU_NOBODY if none waits. If several wait, any of them may be chosen, and one may be passed over for ever. UNKNOWN_OBJECT, NOT_HELD:
- * nobody is notified. */
-ZELAMIKU_MUST_USE zelamiku_status zelamiku_thread_notify(zelamiku_thread thread, uint32_t object, uint32_t *lane);
+/* Notifies a thread that waits on a monitor that is held, or with `all` each of them. They go on once the monitor is free, in any order. `lanes`
+ * gets the bit 1 << lane for each, or 0 if none waits; it may be NULL. If several wait and one is notified, any of them may be chosen, and one may
+ * be passed over for ever. Returns OK; UNKNOWN_OBJECT, NOT_HELD, Ended: nobody is notified. */
+ZELAMIKU_MUST_USE zelamiku_status zelamiku_thread_notify(zelamiku_thread thread, uint32_t object, bool all, uint64_t *lanes);
 
-/* The same for all that wait; `lanes` gets the bit 1 << lane for each. They go on in any order. */
-ZELAMIKU_MUST_USE zelamiku_status zelamiku_thread_notify_all(zelamiku_thread thread, uint32_t object, uint64_t *lanes);
+/* A monitor, as zelamiku_thread_look sees it. */
+typedef struct {
+    uint32_t owner; /* its owner's lane; ZELAMIKU_NOBODY if it is free */
+    uint32_t locks; /* how many locks the owner has */
+    uint64_t number; /* how often it has become free */
+} zelamiku_sight;
 
-/* Looks at a monitor, which needn't be held: the lane of its owner, and how many locks it has. UNKNOWN_OBJECT: `sight` describes a free monitor. */
+/* Looks at a monitor, which needn't be held: the lane of its owner, and how many locks it has. Returns OK; UNKNOWN_OBJECT, Ended: `sight` describes
+ * a free monitor. */
 ZELAMIKU_MUST_USE zelamiku_status zelamiku_thread_look(zelamiku_thread thread, uint32_t object, zelamiku_sight *sight);
 
-/* The lane; how many sections the thread has ended since zelamiku_thread_begin; how many of these are durable, counted from the first. Any
- * thread may ask. ZELAMIKU_NOBODY and 0 if no thread has the handle. */
-uint32_t zelamiku_thread_lane(zelamiku_thread thread);
-uint64_t zelamiku_thread_sections(zelamiku_thread thread);
-uint64_t zelamiku_thread_durable(zelamiku_thread thread);
+/* How far a thread is. */
+typedef struct {
+    uint32_t size;     /* sizeof(zelamiku_progress) */
+    uint32_t lane;
+    uint32_t is_open;  /* 1: it has a section open, or the heap has ended inside one */
+    uint32_t end;      /* OK while the heap goes on; then the status that its calls return */
+    uint64_t sections; /* how many sections the thread has ended since zelamiku_thread_begin */
+    uint64_t durable;  /* how many of these are durable, counted from the first */
+    uint64_t earlier;  /* how many sections the lane had ended in this opening before that. Section n of the lane in the next opening's report
+                          (zelamiku_dropped, and `kept`) is this thread's section n - earlier */
+} zelamiku_progress;
 
-/* How many sections the lane had ended in this opening before zelamiku_thread_begin handed it out. Section `n` of the lane in the next opening's
- * report (zelamiku_dropped, and `kept`) is this thread's section n - earlier. Any thread may ask; 0 if no thread has the handle. */
-uint64_t zelamiku_thread_earlier(zelamiku_thread thread);
+/* Any thread may ask. Returns OK, also after the heap has ended. After a failure `lane` is ZELAMIKU_NOBODY, and all else is 0. */
+ZELAMIKU_MUST_USE zelamiku_status zelamiku_thread_progress(zelamiku_thread thread, zelamiku_progress *progress);
 
-/* Sleeps until all sections that the thread has ended are durable. It requests a round, and sleeps on while a section that one of them depends
- * on is open. UNFINISHED: the thread has a section open: exit its monitors first. DEVICE: a write has failed: call again. If the heap has ended,
- * it returns the reason: the sections did not become durable, or an open one was cut off. */
-ZELAMIKU_MUST_USE zelamiku_status zelamiku_thread_await(zelamiku_thread thread);
-
-/* The same for the first `sections` of them (ZELAMIKU_ALL_SECTIONS, or more than have ended: all), and until the deadline at most; `is_durable`
- * gets whether they are. A deadline that has passed requests the round and doesn't sleep. A timeout changes nothing for the sections. Any thread
- * may call it. Earlier sections may be awaited while another section is open or after one was cut off. UNFINISHED, and the heap's end status for
- * a section that was cut off, are returned only for ZELAMIKU_ALL_SECTIONS. */
+/* Sleeps until the first `sections` that the thread has ended are durable (ZELAMIKU_ALL_SECTIONS, or more than have ended: all), and until the
+ * deadline at most (zelamiku_now, or ZELAMIKU_NO_DEADLINE). It requests a round, and sleeps on while a section that one of them depends on is
+ * open. `is_durable` gets whether they are. A deadline that has passed requests the round and doesn't sleep. A timeout changes nothing for the
+ * sections. Any thread may call it. Returns OK, also at the deadline, or
+ *   RUNNING  for ZELAMIKU_ALL_SECTIONS alone: the thread has a section open. Exit its monitors first
+ *   DEVICE   a write has failed: call again
+ *   Ended    the sections did not become durable; or, for ZELAMIKU_ALL_SECTIONS alone, an open one was cut off */
 ZELAMIKU_MUST_USE zelamiku_status zelamiku_thread_await_until(zelamiku_thread thread, uint64_t sections, uint64_t deadline,
                                                               bool *is_durable);
+
+/* The same for all sections, without a deadline: OK means that no crash loses what the thread has done. */
+ZELAMIKU_MUST_USE static inline zelamiku_status zelamiku_thread_await(zelamiku_thread thread) {
+    bool is_durable = false;
+    return zelamiku_thread_await_until(thread, ZELAMIKU_ALL_SECTIONS, ZELAMIKU_NO_DEADLINE, &is_durable);
+}
 
 /* ---- a pool: slots that are taken and released ----
  *
@@ -512,23 +544,22 @@ ZELAMIKU_MUST_USE zelamiku_status zelamiku_thread_await_until(zelamiku_thread th
  * pool's fields. The image doesn't record where a heap has a pool: the program knows. */
 
 /* Fills in the fields of a pool of `count - 1` slots, all free: `fields` gets the head and then the slots, one after another, for the plan.
- * EMPTY: there are fewer than 2. TOO_MANY: there are more than ZELAMIKU_MOST_SLOTS + 1. `fields` is as it was. */
+ * Returns OK. BAD_ARGUMENT: there are fewer than 2. TOO_MANY: there are more than ZELAMIKU_MOST_SLOTS + 1. `fields` is as it was, and no failure is
+ * kept. `fields` may not be NULL. */
 ZELAMIKU_MUST_USE zelamiku_status zelamiku_pool_fields(uint32_t object, zelamiku_field *fields, size_t count);
 
 /* Takes a free slot of the pool with this head and this number of slots. The thread must hold its object's monitor; the call makes two records.
- * POOL_EMPTY, DAMAGED, UNKNOWN_FIELD, NOT_HELD, SECTION_FULL: nothing was stored, and `slot` is ZELAMIKU_NO_SLOT. */
+ * Returns OK; POOL_EMPTY, DAMAGED, UNKNOWN_FIELD, NOT_HELD, SECTION_FULL, Ended: nothing was stored, and `slot` is ZELAMIKU_NO_NUMBER. */
 ZELAMIKU_MUST_USE zelamiku_status zelamiku_thread_take(zelamiku_thread thread, uint32_t head, uint32_t slots, uint32_t *slot);
 
 /* Releases a slot that was taken: it is the next one to be taken. The thread must hold its object's monitor; the call makes two records.
- * NOT_TAKEN, DAMAGED, UNKNOWN_FIELD, NOT_HELD, SECTION_FULL: nothing was stored. */
+ * Returns OK; NOT_TAKEN, DAMAGED, UNKNOWN_FIELD, NOT_HELD, SECTION_FULL, Ended: nothing was stored. */
 ZELAMIKU_MUST_USE zelamiku_status zelamiku_thread_give(zelamiku_thread thread, uint32_t head, uint32_t slots, uint32_t slot);
-
-#define ZELAMIKU_NO_SLOT 4294967295u
 
 /* ---- threads with an event loop ----
  *
  * Such a thread serves any number of clients by one lane, and doesn't sleep until their sections are durable. It holds replies back:
- *     for (each client that has sent something) a section; its reply waits under zelamiku_thread_sections(own)
+ *     for (each client that has sent something) a section; its reply waits under the number of the section, which the program counts
  *     zelamiku_thread_ask(own, &durable)         once for all of them, before it waits for events
  *     for (each reply that waits under a number up to `durable`) send it
  *     epoll_wait(..)                             for its clients, and for the event
@@ -537,7 +568,7 @@ ZELAMIKU_MUST_USE zelamiku_status zelamiku_thread_give(zelamiku_thread thread, u
 
 /* Returns the thread's event: a descriptor that becomes readable
  *   - once a round has made some of the requested sections durable,
- *   - once a lane for which zelamiku_thread_try_enter has returned BEHIND may have room,
+ *   - once a lane for which zelamiku_thread_enter_until with a deadline of 0 has returned BEHIND may have room,
  *   - once a write has failed while one of these is pending, and
  *   - once the heap has ended.
  * zelamiku_thread_ask makes it unreadable. Exception: the first ask after it has reported room leaves it readable until a section of the thread
@@ -545,13 +576,14 @@ ZELAMIKU_MUST_USE zelamiku_status zelamiku_thread_give(zelamiku_thread thread, u
  * The first call makes the descriptor. It belongs to the library: only wait for it, by level or by edge. zelamiku_thread_end closes it, also
  * after the heap has ended, and a fork closes it in the child: remove it from the loop first. If the program has closed it by mistake, the
  * library leaves alone the file that has its number by then, and the next call makes another one.
- * NO_MEMORY: the system has no descriptor. NOTHING, FORKED: `descriptor` is -1. */
+ * Returns OK, also after the heap has ended. NO_MEMORY: the system has no descriptor; the failure has its error. `descriptor` is -1 after each
+ * failure. */
 ZELAMIKU_MUST_USE zelamiku_status zelamiku_thread_event(zelamiku_thread thread, int *descriptor);
 
-/* Returns how many of the thread's sections are durable (zelamiku_thread_durable), and requests a round if more have ended. It doesn't sleep,
- * except for other threads' short calls. Ask again after further sections have ended; a request stands until its sections are durable. DEVICE,
- * once for each write that fails meanwhile: it is made again each second, and nothing is lost. If the heap has ended, it returns the reason: the
- * others did not become durable, or an open section was cut off. `durable` is set in each case. */
+/* Returns how many of the thread's sections are durable, and requests a round if more have ended. It doesn't sleep, except for other threads'
+ * short calls. Ask again after further sections have ended; a request stands until its sections are durable. Returns OK; DEVICE, once for each
+ * write that fails meanwhile: it is made again each second, and nothing is lost. Ended: the others did not become durable, or an open section was
+ * cut off. `durable` is set in each case. */
 ZELAMIKU_MUST_USE zelamiku_status zelamiku_thread_ask(zelamiku_thread thread, uint64_t *durable);
 
 /* The library was built for these sizes. */
@@ -563,22 +595,20 @@ ZELAMIKU_MUST_USE zelamiku_status zelamiku_thread_ask(zelamiku_thread thread, ui
 #endif
 ZELAMIKU_HAS_SIZE(zelamiku_status, 4);
 ZELAMIKU_HAS_SIZE(zelamiku_field, 24);
-ZELAMIKU_HAS_SIZE(zelamiku_found, 48);
-ZELAMIKU_HAS_SIZE(zelamiku_told, 320);
-ZELAMIKU_HAS_SIZE(zelamiku_dropped, 32);
-ZELAMIKU_HAS_SIZE(zelamiku_sight, 16);
 ZELAMIKU_HAS_SIZE(zelamiku_heap, 8);
 ZELAMIKU_HAS_SIZE(zelamiku_thread, 8);
-ZELAMIKU_HAS_SIZE(zelamiku_plan, 72);
+ZELAMIKU_HAS_SIZE(zelamiku_failure, 56);
+ZELAMIKU_HAS_SIZE(zelamiku_device, 48);
+ZELAMIKU_HAS_SIZE(zelamiku_plan, 80);
 ZELAMIKU_HAS_SIZE(zelamiku_report, 352);
+ZELAMIKU_HAS_SIZE(zelamiku_dropped, 32);
 ZELAMIKU_HAS_SIZE(zelamiku_stats, 104);
 ZELAMIKU_HAS_SIZE(zelamiku_wait, 16);
-ZELAMIKU_HAS_SIZE(zelamiku_device, 40);
+ZELAMIKU_HAS_SIZE(zelamiku_sight, 16);
+ZELAMIKU_HAS_SIZE(zelamiku_progress, 40);
 #endif
 
 #ifdef __cplusplus
 }
 #endif
-
-#include "zelamiku_inline.h"
 #endif

@@ -15,7 +15,7 @@
  * A section keeps its stores if each of its guards has ended by exit(), and the work of each `synchronized` has returned. If a guard is
  * destroyed earlier, by an exception, a return or the end of its thread, it reverts the whole section (zelamiku_thread_revert), and then frees
  * its monitors. If an outer guard remains, its section can't store, wait or exit() any more: each throws NOTHING. A section that has only loaded
- * needs no exit(), if it has one guard. A section that can't be reverted stops the heap instead (zelamiku_heap_abandon), and the next opening
+ * needs no exit(), if it has one guard. A section that can't be reverted stops the heap instead (zelamiku_heap_stop, ABANDONED), and the next opening
  * drops it: one that has freed a monitor under which it had stored, or one that has stored while the plan's `reverts` is 0. So take a section's
  * monitors together: `enter({a, b})`.
  * One thread at a time uses a session and its guards. A session outlives its guards, and isn't moved while it has any. */
@@ -39,7 +39,13 @@ struct Error : std::runtime_error {
     int cause; /* errno, or 0 */
     Error(zelamiku_status of, const char *text, int error = 0) : std::runtime_error(text), status(of), cause(error) {}
 };
-inline void must(zelamiku_status status) { if (status != ZELAMIKU_OK) throw Error(status, zelamiku_heap_message(), zelamiku_heap_error()); }
+inline void must(zelamiku_status status) {
+    if (status == ZELAMIKU_OK) return;
+    zelamiku_failure failure{};
+    failure.size = sizeof failure;
+    const char *text = zelamiku_heap_failure(&failure);
+    throw Error(status, text, failure.error);
+}
 inline void drop(zelamiku_status) noexcept {}
 struct Object { std::uint32_t number; };
 template <class T> struct Field { /* an integer of 64 bits, a double or an enum, each by its bits */
@@ -58,7 +64,10 @@ template <class T> struct Field { /* an integer of 64 bits, a double or an enum,
 };
 struct Plan : zelamiku_plan { /* objects and fields are numbered as they are declared, best by the members of a class over this */
     std::vector<zelamiku_field> rows;
-    Plan() : zelamiku_plan{} { reverts = 1; }
+    Plan() : zelamiku_plan{} {
+        size = sizeof(zelamiku_plan);
+        reverts = 1;
+    }
     Object object() { return {objects++}; }
     template <class T> Field<T> field(Object guard, std::common_type_t<T> first = T{}, bool is_transient = false) {
         rows.push_back({guard.number, guard.number, Field<T>::bits(first), is_transient});
@@ -72,6 +81,7 @@ public:
     Heap(const std::string &path, Plan plan, zelamiku_report *report = nullptr) {
         plan.fields = plan.rows.data();
         plan.count = static_cast<std::uint32_t>(plan.rows.size());
+        if (report != nullptr) report->size = sizeof *report;
         if (path.find('\0') != path.npos) throw Error(ZELAMIKU_DEVICE, "open: the path has a zero byte", EINVAL);
         must(zelamiku_heap_open(&heap_, path.c_str(), &plan, report));
     }
@@ -79,7 +89,7 @@ public:
     Heap(Heap &&other) noexcept : heap_(std::exchange(other.heap_, {})) {}
     Heap &operator=(Heap other) noexcept { return std::swap(heap_, other.heap_), *this; }
     ~Heap() { /* if it can't be closed, open sections are cut off as by a crash */
-        if (heap_.number != 0 && zelamiku_heap_close(heap_) != ZELAMIKU_OK) drop(zelamiku_heap_stop(heap_));
+        if (heap_.number != 0 && zelamiku_heap_close(heap_) != ZELAMIKU_OK) drop(zelamiku_heap_stop(heap_, ZELAMIKU_CLOSED));
     }
     void close() { must(zelamiku_heap_close(heap_)); }
     zelamiku_heap number() const noexcept { return heap_; }
@@ -92,7 +102,7 @@ struct Objects { /* one, or several: each once, in the order of their numbers, s
     Objects(std::initializer_list<Object> all) : Objects(all.begin(), all.end()) {}
     template <class Place> Objects(Place begin, Place end) {
         for (; begin != end; ++begin) add(*begin);
-        if (count == 0) throw Error(ZELAMIKU_EMPTY, "enter: no object is named");
+        if (count == 0) throw Error(ZELAMIKU_BAD_ARGUMENT, "enter: no object is named");
     }
 private:
     void add(Object one) {
@@ -129,7 +139,7 @@ struct Lane { /* what a session shares with its guards */
     void take_back() noexcept { /* if the heap has ended, the section is cut off in any case */
         const zelamiku_status status = zelamiku_thread_revert(thread);
         is_taken_back = status == ZELAMIKU_OK;
-        if (status == ZELAMIKU_NOT_HELD || status == ZELAMIKU_WRONG_KIND) drop(zelamiku_heap_abandon(heap));
+        if (status == ZELAMIKU_NOT_HELD || status == ZELAMIKU_NOT_REVERTED) drop(zelamiku_heap_stop(heap, ZELAMIKU_ABANDONED));
     }
 };
 class [[nodiscard]] Guard { /* holds monitors, until exit() keeps the section's stores, or its destructor reverts them */
@@ -161,9 +171,14 @@ public:
     explicit Session(const Heap &of) : Lane{of.number(), {}, 0, false} { must(zelamiku_thread_begin(&thread, heap)); }
     Session(Session &&other) noexcept : Lane{other.heap, std::exchange(other.thread, {}), 0, false} { assert(other.guards == 0); }
     ~Session() { /* a guard that was never destroyed has left a section open */
-        if (thread.number != 0 && zelamiku_thread_end(thread) == ZELAMIKU_UNFINISHED) drop(zelamiku_heap_abandon(heap));
+        if (thread.number != 0 && zelamiku_thread_end(thread) == ZELAMIKU_RUNNING) drop(zelamiku_heap_stop(heap, ZELAMIKU_ABANDONED));
     }
     zelamiku_thread number() const noexcept { return thread; }
+    zelamiku_progress progress() const {
+        zelamiku_progress progress{};
+        progress.size = sizeof progress;
+        return must(zelamiku_thread_progress(thread, &progress)), progress;
+    }
     Guard enter(const Objects &of) & { /* sleeps while another thread has a monitor */
         return must(take(of, ZELAMIKU_NO_DEADLINE)), Guard(this, of);
     }
@@ -191,7 +206,7 @@ public:
         must_go_on(!is_taken_back), must(zelamiku_thread_store(thread, field.number, Field<T>::bits(value)));
     }
     void wait(Object object) { must_go_on(!is_taken_back), must(zelamiku_thread_wait(thread, object.number)); }
-    void notify_all(Object object) { std::uint64_t lanes; must(zelamiku_thread_notify_all(thread, object.number, &lanes)); }
+    void notify_all(Object object) { must(zelamiku_thread_notify(thread, object.number, true, nullptr)); }
     void durable() { must(zelamiku_thread_await(thread)); } /* sleeps until no crash loses what the thread has done */
 };
 } // namespace zelamiku

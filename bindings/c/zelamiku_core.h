@@ -1,5 +1,5 @@
 /* The calls of the proved library. This header belongs to the scheduler (bindings/c/src), and to tests and measurements. It isn't installed: a
- * program includes zelamiku.h. The names here may change with each release.
+ * program includes zelamiku.h. The names here may change with each release. EMPTY, of a heap or a pool to be made, is ZELAMIKU_BAD_ARGUMENT.
  *
  * What the caller upholds, for each call:
  *  - a handle begins as ZELAMIKU_NONE, isn't copied, and is changed by these calls alone. A handle may go to another thread;
@@ -58,6 +58,35 @@
 extern "C" {
 #endif
 
+/* Statuses of the proved library that no call of zelamiku.h returns. */
+#define ZELAMIKU_OPEN ((zelamiku_status)2)         /* the handle to be opened is open already */
+#define ZELAMIKU_WRONG_KIND ((zelamiku_status)3)   /* a session where a heap is wanted, or a heap where a session is */
+#define ZELAMIKU_WAITING ((zelamiku_status)5)      /* the session waits for a monitor: it can do nothing but resume */
+#define ZELAMIKU_CALLS_LEFT ((zelamiku_status)7)   /* the host has yet to make calls of the device */
+#define ZELAMIKU_BAD_LANE ((zelamiku_status)8)     /* there is no such lane */
+#define ZELAMIKU_IN_SET ((zelamiku_status)20)      /* nobody has notified the session */
+#define ZELAMIKU_FAULT ((zelamiku_status)21)       /* there was no memory for the calls of the device: no heap was made, or the heap has stopped */
+#define ZELAMIKU_UNFINISHED ((zelamiku_status)23)  /* a session was ended while it held a monitor */
+#define ZELAMIKU_BAD_HEADER ((zelamiku_status)26)  /* a number of the image, or of the heap to be made, is out of its limits */
+#define ZELAMIKU_NO_CONTROL ((zelamiku_status)28)  /* the image has no control */
+#define ZELAMIKU_BAD_CONTROL ((zelamiku_status)29) /* the image's control can't be read */
+#define ZELAMIKU_BAD_RECORD ((zelamiku_status)30)  /* the image has a record that can't be read */
+#define ZELAMIKU_ILLEGAL_LOG ((zelamiku_status)31) /* no threads can have left the image's log */
+#define ZELAMIKU_STOPPED ((zelamiku_status)35)     /* the heap has stopped because the host reported a failed sync */
+#define ZELAMIKU_RING ((zelamiku_status)44)        /* a lane's ring would hold fewer than 4,096 records, or more than 65,536 */
+
+/* A handle of the proved library: of a heap, or of a session. One of static storage begins as ZELAMIKU_NONE by itself. */
+typedef struct {
+    void *at;
+    bool is_open;
+} zelamiku_handle;
+#ifdef __cplusplus
+#define ZELAMIKU_NONE (zelamiku_handle{nullptr, false})
+#else
+#define ZELAMIKU_NONE ((zelamiku_handle){NULL, false})
+#endif
+
+#define ZELAMIKU_MOST_BYTES 4096 /* of a write */
 enum { ZELAMIKU_NO_CALL = 0, ZELAMIKU_WRITE = 1, ZELAMIKU_SYNC = 2 };
 
 /* A call of the device. */
@@ -80,6 +109,30 @@ typedef struct {
     uint32_t capacity;   /* the records that a lane's area holds */
     uint32_t is_damaged; /* 1: there is none, and there may have been one: the device isn't free */
 } zelamiku_shape;
+
+/* What a heap has, and what recovery found. */
+typedef struct {
+    uint64_t size; /* the bytes of the image */
+    uint32_t objects, fields, lanes;
+    uint32_t capacity; /* the records that a lane's area holds */
+    uint32_t threads;  /* the lanes that threads have: all of them, or all but the last one */
+    uint64_t dropped;  /* the sections that recovery dropped; none of them was acknowledged */
+    uint64_t undone;   /* the fields that recovery has set back to an old value */
+} zelamiku_found;
+
+/* What recovery found, lane by lane. After a refusal: which record caused it. */
+typedef struct {
+    zelamiku_found found;
+    uint64_t kept[ZELAMIKU_MOST_LANES]; /* how many sections of each lane were kept, since the opening before */
+    uint64_t bad_place; /* after BAD_RECORD and ILLEGAL_LOG: the record's place in its lane */
+    uint32_t bad_lane;  /* and the lane; else ZELAMIKU_NOBODY */
+} zelamiku_told;
+
+/* A section that recovery dropped: zelamiku_dropped's numbers. */
+typedef struct {
+    uint64_t section, other_section;
+    uint32_t lane, why, other_lane;
+} zelamiku_dropped_section;
 
 /* How many of a device's bytes zelamiku_head reads. */
 #define ZELAMIKU_HEAD_BYTES 2160
@@ -114,7 +167,7 @@ ZELAMIKU_MUST_USE zelamiku_status zelamiku_format(zelamiku_handle *heap, uint32_
  * empty, and so is `dropped`. The device has no pending call.
  * OLD_VERSION: an older library made the heap, and zelamiku_upgrade opens it. */
 ZELAMIKU_MUST_USE zelamiku_status zelamiku_open(zelamiku_handle *heap, const uint8_t *image, size_t size, uint32_t threads, uint32_t ring,
-                                                zelamiku_told *told, zelamiku_dropped *dropped, size_t count);
+                                                zelamiku_told *told, zelamiku_dropped_section *dropped, size_t count);
 
 /* Opens the heap of these bytes as zelamiku_open does, and also an image of version 1, from before there were transient fields. The calls of its
  * recovery, which zelamiku_next_call returns first, give the image version 2, in place, with the same heap. A crash while the host makes them
@@ -123,11 +176,11 @@ ZELAMIKU_MUST_USE zelamiku_status zelamiku_open(zelamiku_handle *heap, const uin
  * An older library can't open version 2. So call this if the user has asked for it, or after copying the image; otherwise call zelamiku_open.
  * Returns what zelamiku_open does, except OLD_VERSION. */
 ZELAMIKU_MUST_USE zelamiku_status zelamiku_upgrade(zelamiku_handle *heap, const uint8_t *image, size_t size, uint32_t threads, uint32_t ring,
-                                                   zelamiku_told *told, zelamiku_dropped *dropped, size_t count);
+                                                   zelamiku_told *told, zelamiku_dropped_section *dropped, size_t count);
 
 /* zelamiku_open or zelamiku_upgrade. */
 typedef zelamiku_status zelamiku_opening(zelamiku_handle *heap, const uint8_t *image, size_t size, uint32_t threads, uint32_t ring,
-                                         zelamiku_told *told, zelamiku_dropped *dropped, size_t count);
+                                         zelamiku_told *told, zelamiku_dropped_section *dropped, size_t count);
 
 /* Returns the shape of a heap's image, and its fields: the first `count` of them, as its image has them, and zeros past the last one. CLOSED.
  * `shape` is all 0 then, and `fields` as it was. */
@@ -261,7 +314,7 @@ ZELAMIKU_MUST_USE zelamiku_status zelamiku_lane(zelamiku_handle *session, uint32
 /* ---- a pool, by a session (zelamiku.h has what a pool is, and zelamiku_pool_fields) ---- */
 
 /* Takes a free slot of the pool with this head and this number of slots. Its object's monitor must be held; the call makes two records.
- * POOL_EMPTY, DAMAGED, UNKNOWN_FIELD, NOT_HELD, SECTION_FULL: nothing was stored, and `slot` is ZELAMIKU_NO_SLOT. */
+ * POOL_EMPTY, DAMAGED, UNKNOWN_FIELD, NOT_HELD, SECTION_FULL: nothing was stored, and `slot` is ZELAMIKU_NO_NUMBER. */
 ZELAMIKU_MUST_USE zelamiku_status zelamiku_pool_take(zelamiku_handle *session, uint32_t head, uint32_t slots, uint32_t *slot);
 
 /* Releases a slot that was taken: it is the next one to be taken. Its object's monitor must be held; the call makes two records.
@@ -284,6 +337,10 @@ ZELAMIKU_MUST_USE zelamiku_status zelamiku_end(zelamiku_handle *session);
 ZELAMIKU_MUST_USE zelamiku_status zelamiku_make_calls(zelamiku_handle *heap, int descriptor, uint64_t *made);
 
 #ifdef ZELAMIKU_HAS_SIZE
+ZELAMIKU_HAS_SIZE(zelamiku_handle, 16);
+ZELAMIKU_HAS_SIZE(zelamiku_found, 48);
+ZELAMIKU_HAS_SIZE(zelamiku_told, 320);
+ZELAMIKU_HAS_SIZE(zelamiku_dropped_section, 32);
 ZELAMIKU_HAS_SIZE(zelamiku_call, 24);
 ZELAMIKU_HAS_SIZE(zelamiku_shape, 40);
 #endif

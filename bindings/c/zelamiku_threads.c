@@ -1,4 +1,4 @@
-/* The scheduler of zelamiku.h, and the heap's file. It is compiled once, into libzelamiku.a and libzelamiku.so.0, over the proved
+/* The scheduler of zelamiku.h, and the heap's file. It is compiled once, into libzelamiku.a and libzelamiku.so.1, over the proved
  * library. tools/search runs it under schedules by seeds (bindings/c/search).
  *
  * Who sleeps on what:

@@ -27,7 +27,7 @@ static atomic_bool stopping;
 
 static void must(zelamiku_status status) {
     if (status == ZELAMIKU_OK) return;
-    fprintf(stderr, "%s\n", zelamiku_heap_message());
+    fprintf(stderr, "%s\n", zelamiku_heap_failure(NULL));
     exit(2);
 }
 
@@ -108,7 +108,7 @@ static void *work(void *data) {
 int main(int argc, char **argv) {
     static zelamiku_field fields[FIELDS];
     static uint32_t numbers[THREADS];
-    zelamiku_plan plan = {.fields = fields, .count = FIELDS, .objects = FIELDS, .lanes = THREADS};
+    zelamiku_plan plan = {.size = sizeof(zelamiku_plan), .fields = fields, .count = FIELDS, .objects = FIELDS, .lanes = THREADS};
     zelamiku_thread own;
     pthread_t threads[THREADS];
     if (argc < 2) {

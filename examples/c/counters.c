@@ -27,7 +27,7 @@ static atomic_bool stopping;
 
 static void must(zelamiku_status status) {
     if (status == ZELAMIKU_OK) return;
-    fprintf(stderr, "%s\n", zelamiku_heap_message());
+    fprintf(stderr, "%s\n", zelamiku_heap_failure(NULL));
     exit(2);
 }
 
@@ -67,7 +67,7 @@ static void begin(const char *path) {
     zelamiku_field fields[FIELDS];
     for (uint32_t i = 0; i <= WORKERS; i++) fields[i] = (zelamiku_field){.owner = i, .guard = i};
     fields[SINCE] = (zelamiku_field){.owner = TOTAL, .guard = TOTAL, .is_transient = 1};
-    zelamiku_plan plan = {.fields = fields, .count = FIELDS, .objects = WORKERS + 1, .lanes = WORKERS + 1};
+    zelamiku_plan plan = {.size = sizeof(zelamiku_plan), .fields = fields, .count = FIELDS, .objects = WORKERS + 1, .lanes = WORKERS + 1};
     must(zelamiku_heap_open(&heap, path, &plan, NULL));
 }
 
@@ -111,7 +111,11 @@ static void tell_acknowledged(const worker *workers, const char *seconds) {
     double until = (double)now.tv_sec + 1e-9 * (double)now.tv_nsec + (seconds != NULL ? strtod(seconds, NULL) : 0);
     while (seconds == NULL || (double)now.tv_sec + 1e-9 * (double)now.tv_nsec < until) {
         uint64_t sum = 0;
-        for (uint32_t i = 0; i < WORKERS; i++) sum += zelamiku_thread_durable(workers[i].thread);
+        for (uint32_t i = 0; i < WORKERS; i++) {
+            zelamiku_progress progress = {.size = sizeof progress};
+            must(zelamiku_thread_progress(workers[i].thread, &progress));
+            sum += progress.durable;
+        }
         if (sum > 0) printf("acknowledged %" PRIu64 "\n", sum);
         nanosleep(&nap, NULL);
         clock_gettime(CLOCK_MONOTONIC, &now);

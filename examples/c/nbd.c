@@ -36,15 +36,15 @@ static zelamiku_status sync_export(void *nbd) {
     return status_of(nbd_flush(nbd, 0), ZELAMIKU_LOST);
 }
 
-static zelamiku_status size_of_export(void *nbd, uint64_t *size) {
+static zelamiku_status length_of_export(void *nbd, uint64_t *length) {
     int64_t found = nbd_get_size(nbd);
-    *size = found > 0 ? (uint64_t)found : 0;
+    *length = found > 0 ? (uint64_t)found : 0;
     return status_of(found > 0 ? 0 : -1, ZELAMIKU_DEVICE);
 }
 
 static void must(zelamiku_status status) {
     if (status == ZELAMIKU_OK) return;
-    fprintf(stderr, "%s\n", zelamiku_heap_message());
+    fprintf(stderr, "%s\n", zelamiku_heap_failure(NULL));
     exit(2);
 }
 
@@ -54,13 +54,14 @@ int main(int argc, char **argv) {
         fprintf(stderr, "nbd SOCKET [COUNTS]: %s\n", argc < 2 ? "give a socket" : nbd_get_error() != NULL ? nbd_get_error() : "it can't be flushed");
         return 2;
     }
-    const zelamiku_device device = {read_export, write_export, sync_export, size_of_export, nbd};
+    const zelamiku_device device = {sizeof(zelamiku_device), read_export, write_export, sync_export, length_of_export, nbd};
     const zelamiku_field fields[] = {{.owner = 0, .guard = 0}};
-    const zelamiku_plan plan = {.fields = fields, .count = 1, .objects = 1, .lanes = 1, .capacity = 4096};
+    const zelamiku_plan plan = {.size = sizeof(zelamiku_plan), .fields = fields, .count = 1, .objects = 1, .lanes = 1, .capacity = 4096,
+                                .device = &device};
     zelamiku_heap heap;
     zelamiku_thread own;
     uint64_t value = 0;
-    must(zelamiku_heap_open_on(&heap, argv[1], &device, &plan, NULL));
+    must(zelamiku_heap_open(&heap, argv[1], &plan, NULL));
     must(zelamiku_thread_begin(&own, heap));
     for (long left = argc > 2 ? atol(argv[2]) : 100; left > 0; left--) {
         must(zelamiku_thread_enter(own, 0));

@@ -57,7 +57,7 @@ int main(int argc, char **argv) try {
     const auto end = std::chrono::steady_clock::now() + std::chrono::duration<double>(argc > 2 ? std::atof(argv[2]) : 1e9);
     while (std::chrono::steady_clock::now() < end) {
         std::uint64_t sum = 0;
-        for (const auto &session : sessions) sum += zelamiku_thread_durable(session.number());
+        for (const auto &session : sessions) sum += session.progress().durable;
         if (sum > 0) std::cout << "acknowledged " << sum << std::endl;
         std::this_thread::sleep_for(std::chrono::milliseconds(10));
     }

@@ -18,8 +18,8 @@
 /* Opens the heap of a file, or makes one, which only who counts may do. */
 static void open_file(const char *path, uint32_t capacity, uint32_t lanes, bool is_look) {
     struct stat info;
-    zelamiku_report report;
-    zelamiku_plan plan = {.fields = fields, .count = FIELDS, .objects = OBJECTS, .lanes = lanes, .capacity = capacity, .upgrades = 1};
+    zelamiku_report report = {.size = sizeof report};
+    zelamiku_plan plan = {.size = sizeof(zelamiku_plan), .fields = fields, .count = FIELDS, .objects = OBJECTS, .lanes = lanes, .capacity = capacity, .upgrades = 1};
     bool is_there = stat(path, &info) == 0 || !is_look;
     if (is_there) must(zelamiku_heap_open(&heap, path, &plan, &report));
     if (is_there && (!is_look || report.is_made == 0)) return;

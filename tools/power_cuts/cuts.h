@@ -18,7 +18,7 @@ static int port = -1;
 
 static void must(zelamiku_status status) {
     if (status == ZELAMIKU_OK) return;
-    printf("refused: %s; %s\n", zelamiku_status_text(status), zelamiku_heap_message());
+    printf("refused: %s; %s\n", zelamiku_status_text(status), zelamiku_heap_failure(NULL));
     exit(status == ZELAMIKU_LOST || status == ZELAMIKU_DEVICE ? GONE : REFUSED);
 }
 

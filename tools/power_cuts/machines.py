@@ -344,7 +344,7 @@ class Parts:
         listed = must_run(sys.executable, "-S", "-c", TAKEN, env={**os.environ, **variables}).split()
         python = os.path.realpath(sys.executable)
         self.leases = f"env {' '.join(f'{name}={value}' for name, value in variables.items())} {python} -S {HERE}/leases.py"
-        return sorted({python, f"{LIBRARY}/libzelamiku.so.0", f"{sysconfig.get_path('stdlib')}/os.py", *listed})
+        return sorted({python, f"{LIBRARY}/libzelamiku.so.1", f"{sysconfig.get_path('stdlib')}/os.py", *listed})
 
     def guest(self, disk, kind, system, memory):
         """A machine that was just switched on. It goes on from one that was saved before it had loaded its disk's driver."""

@@ -104,7 +104,7 @@ static void pause_for(worker *of, uint32_t most) {
 
 static void notify(worker *of, uint32_t object) {
     uint64_t lanes;
-    must(zelamiku_thread_notify_all(of->own, object, &lanes));
+    must(zelamiku_thread_notify(of->own, object, true, &lanes));
 }
 
 static bool waits(worker *of, uint32_t object) {
@@ -212,7 +212,9 @@ static void in_section(worker *of) {
 static void await_some(worker *of) {
     bool is_durable;
     must(zelamiku_thread_await_until(of->own, ZELAMIKU_ALL_SECTIONS, zelamiku_now() + PATIENCE, &is_durable));
-    uint64_t durable = of->begun_with + zelamiku_thread_durable(of->own);
+    zelamiku_progress progress = {.size = sizeof progress};
+    must(zelamiku_thread_progress(of->own, &progress));
+    uint64_t durable = of->begun_with + progress.durable;
     if (durable == of->told) return;
     char line[64];
     int size = snprintf(line, sizeof line, "%" PRIu32 " %" PRIu64 "\n", of->number, durable);
@@ -248,8 +250,8 @@ static void declare(void) {
 
 static void open_file(const char *path, bool is_look) {
     struct stat info;
-    zelamiku_report report;
-    zelamiku_plan plan = {.fields = fields, .count = FIELDS, .objects = OBJECTS, .lanes = THREADS + 1, .reverts = is_look};
+    zelamiku_report report = {.size = sizeof report};
+    zelamiku_plan plan = {.size = sizeof(zelamiku_plan), .fields = fields, .count = FIELDS, .objects = OBJECTS, .lanes = THREADS + 1, .reverts = is_look};
     bool is_there = stat(path, &info) == 0 || !is_look;
     if (is_there) must(zelamiku_heap_open(&heap, path, &plan, &report));
     if (is_there && (!is_look || report.is_made == 0)) return;

@@ -12,7 +12,7 @@
 #define MUST(is_so) \
     do { \
         if (!(is_so)) { \
-            fprintf(stderr, "line %d: %s: %s\n", __LINE__, #is_so, zelamiku_heap_message()); \
+            fprintf(stderr, "line %d: %s: %s\n", __LINE__, #is_so, zelamiku_heap_failure(NULL)); \
             abort(); \
         } \
     } while (0)
@@ -22,7 +22,7 @@ enum { BASES = 4, STATUSES = 64 };
 /* docs/FORMAT.md: where the two slots of the control begin, and the rows of the fields. */
 enum { SLOTS_AT = 64, SLOT_BYTES = 1048, ROWS_AT = SLOTS_AT + 2 * SLOT_BYTES };
 static const zelamiku_plan PLAN = {
-    .fields = FIELDS, .count = FIELDS_THERE, .objects = OBJECTS_THERE, .lanes = 2, .capacity = 2000, .ring = 4096, .keeps_slice = 1, .upgrades = 1};
+    .size = sizeof(zelamiku_plan), .fields = FIELDS, .count = FIELDS_THERE, .objects = OBJECTS_THERE, .lanes = 2, .capacity = 2000, .ring = 4096, .upgrades = 1};
 
 static image bases[BASES];
 
@@ -57,7 +57,7 @@ int LLVMFuzzerInitialize(int *count, char ***words) {
         MUST(zelamiku_heap_open(&heap, "heap", &PLAN, NULL) == ZELAMIKU_OK);
         if (i != 2) use(heap, i);
         if (i == 3) read_image(&bases[i]); /* between two writes, as a kill leaves it */
-        MUST((i % 2 == 1 ? zelamiku_heap_abandon(heap) : zelamiku_heap_close(heap)) == ZELAMIKU_OK); /* two places are used for ever */
+        MUST((i % 2 == 1 ? zelamiku_heap_stop(heap, ZELAMIKU_ABANDONED) : zelamiku_heap_close(heap)) == ZELAMIKU_OK); /* two places are used for ever */
         if (i != 3) read_image(&bases[i]);
     }
     return 0;
@@ -138,7 +138,7 @@ static void use_again(zelamiku_heap heap) {
     if (status == ZELAMIKU_OK) status = zelamiku_heap_close(heap);
     if (status != ZELAMIKU_OK) {
         MUST(status == ZELAMIKU_WORN);
-        (void)!zelamiku_heap_stop(heap);
+        (void)!zelamiku_heap_stop(heap, ZELAMIKU_CLOSED);
         (void)!zelamiku_thread_end(own);
         return;
     }
@@ -146,15 +146,15 @@ static void use_again(zelamiku_heap heap) {
     if (status == ZELAMIKU_WORN) return;
     MUST(status == ZELAMIKU_OK && zelamiku_thread_begin(&own, heap) == ZELAMIKU_OK && zelamiku_thread_enter(own, 0) == ZELAMIKU_OK);
     MUST(zelamiku_thread_load(own, 0, &value) == ZELAMIKU_OK && value == 4711);
-    MUST(zelamiku_heap_stop(heap) == ZELAMIKU_OK);
+    MUST(zelamiku_heap_stop(heap, ZELAMIKU_CLOSED) == ZELAMIKU_OK);
     (void)!zelamiku_thread_end(own); /* which was in a section: the heap's place is free after that */
 }
 
 static void note(zelamiku_status status, const zelamiku_report *report) {
     found[status % STATUSES] = 1;
-    found[STATUSES + (report->difference * 8 + report->field) % 64] = 1;
+    found[STATUSES + (report->difference * 8 + report->field + report->damage * 13) % 64] = 1;
     for (uint32_t lane = 0; lane < 2; lane++)
-        if (status == ZELAMIKU_OK) found[STATUSES + 64 + lane * 32 + report->told.kept[lane] % 32] = 1;
+        if (status == ZELAMIKU_OK) found[STATUSES + 64 + lane * 32 + report->kept[lane] % 32] = 1;
 }
 
 int LLVMFuzzerTestOneInput(const uint8_t *bytes, size_t size);
@@ -162,7 +162,7 @@ int LLVMFuzzerTestOneInput(const uint8_t *bytes, size_t size) {
     static image altered, after;
     input from = {bytes, size};
     zelamiku_heap heap;
-    zelamiku_report report;
+    zelamiku_report report = {.size = sizeof report};
     altered = bases[number(&from, 1) % BASES];
     while (from.left > 0) read_change(&from, &altered);
     write_image(&altered);
@@ -173,7 +173,7 @@ int LLVMFuzzerTestOneInput(const uint8_t *bytes, size_t size) {
         use_again(heap);
         return 0;
     }
-    MUST(status != ZELAMIKU_DEVICE && status != ZELAMIKU_LOST && zelamiku_heap_message()[0] != 0);
+    MUST(status != ZELAMIKU_DEVICE && status != ZELAMIKU_LOST && zelamiku_heap_failure(NULL)[0] != 0);
     read_image(&after);
     MUST(after.size == altered.size && memcmp(after.bytes, altered.bytes, after.size) == 0);
     MUST(access("heap.heapctl-new", F_OK) != 0);

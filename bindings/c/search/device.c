@@ -82,6 +82,6 @@ static zelamiku_status tell_size(void *of, uint64_t *size) {
 }
 
 zelamiku_device device_functions(device *it) {
-    zelamiku_device functions = {read_it, write_it, sync_it, tell_size, it};
+    zelamiku_device functions = {sizeof(zelamiku_device), read_it, write_it, sync_it, tell_size, it};
     return functions;
 }

@@ -206,7 +206,7 @@ static void make_more(program *it) {
     it->processors = 1 + (uint32_t)below(4);
     common_time = 0;
     common_time = one_in(2) ? 1000 * it->linger : 800 + some_time();
-    it->is_whole = one_in(2);
+    (void)one_in(2); /* so that a seed makes the program that it made */
     it->reverts = one_in(4);
     it->is_in_file = of == FILES || (of == FORKS && one_in(3));
     choose_fault(it);
@@ -241,7 +241,7 @@ void program_make(program *it, uint64_t seed) {
     it->processors = 1 + (uint32_t)below(4);
     common_time = 0;
     common_time = one_in(2) ? 1000 * it->linger : 800 + some_time();
-    it->is_whole = one_in(2);
+    (void)one_in(2); /* so that a seed makes the program that it made */
     it->reverts = one_in(2);
     choose_fault(it);
     if (of == LEFTOVERS && one_in(2)) return add_leftovers(it);
@@ -307,7 +307,7 @@ static void make_small(program *it, unsigned number) {
     it->linger = small->linger;
     it->processors = small->processors;
     it->first = small->first;
-    it->is_whole = it->is_small = true;
+    it->is_small = true;
     for (size_t i = 0; i < sizeof small->deeds / sizeof *small->deeds; i++) {
         const small_deed *deed = &small->deeds[i];
         if (deed->kind != NO_DEED) add(it, deed->thread, (deed_kind)deed->kind, deed->object, deed->number);
@@ -329,8 +329,8 @@ static const char *const NAMES[] = {
 
 void program_print(const program *it) {
     static const char *const FAULTS[] = {"", ", writes fail", ", syncs fail", ", calls hang"};
-    printf("%u threads, %u lanes, %u heaps%s, capacity %u, ring %u, linger %u us, %u processors%s%s%s", it->threads, it->lanes, it->heaps,
-           it->is_in_file ? " in a file" : "", it->capacity, it->ring, it->linger, it->processors, it->is_whole ? "" : ", calls written out", it->reverts ? ", reverts" : "", FAULTS[it->fault]);
+    printf("%u threads, %u lanes, %u heaps%s, capacity %u, ring %u, linger %u us, %u processors%s%s", it->threads, it->lanes, it->heaps,
+           it->is_in_file ? " in a file" : "", it->capacity, it->ring, it->linger, it->processors, it->reverts ? ", reverts" : "", FAULTS[it->fault]);
     if (it->fault != NEVER_FAILS) printf(" from call %llu, %llu of them", (unsigned long long)it->fault_at, (unsigned long long)it->fault_for);
     puts("");
     for (uint32_t i = 0; i < it->count; i++) {

@@ -297,8 +297,9 @@ void judge_reverted(judge *it, uint32_t lane, zelamiku_status status) {
     bool can = judge_held(it, lane) > 0 && !it->of[lane].is_past;
     if (is_over(it, lane, status)) return;
     bool has_nothing = judge_held(it, lane) > 0 && !it->of[lane].has_stored;
-    zelamiku_status without = has_nothing ? ZELAMIKU_OK : ZELAMIKU_WRONG_KIND, with = can ? ZELAMIKU_OK : ZELAMIKU_NOT_HELD;
-    if (status != (it->reverts ? with : without)) search_fail("lane %u: revert answers %u", lane, status);
+    bool is_undone = it->reverts ? can : has_nothing;
+    zelamiku_status expected = judge_held(it, lane) == 0 ? ZELAMIKU_NOT_HELD : is_undone ? ZELAMIKU_OK : ZELAMIKU_NOT_REVERTED;
+    if (status != expected) search_fail("lane %u: revert answers %u", lane, status);
     if (status == ZELAMIKU_OK) take_back(it, lane);
 }
 
@@ -381,7 +382,7 @@ void judge_copies(judge *it, uint32_t lane) {
 
 /* How many sections are durable, by the library, without a step. */
 static uint64_t all_durable(const judge *it) {
-    zelamiku_stats stats;
+    zelamiku_stats stats = {.size = sizeof stats};
     bool was_quiet = search_be_quiet(true);
     zelamiku_status status = zelamiku_heap_stats(it->heap, &stats);
     (void)search_be_quiet(was_quiet);
@@ -448,7 +449,7 @@ void judge_stats(const judge *it, const zelamiku_stats *stats, uint64_t durable)
 }
 
 void judge_alone(const judge *it) {
-    zelamiku_stats stats;
+    zelamiku_stats stats = {.size = sizeof stats};
     if (it->ends != 0 || zelamiku_heap_stats(it->heap, &stats) != ZELAMIKU_OK) return;
     if (stats.awaiting > 0) search_fail("%u threads wait for rounds, and there are none", stats.awaiting);
     if (stats.entering > 0 || stats.lent > 0) search_fail("%u threads want monitors and %u have lanes; there are none", stats.entering, stats.lent);
@@ -526,7 +527,7 @@ static bool is_looked_at(const judge *it, const uint8_t *image, size_t size, con
 
 void judge_image(judge *it, const uint8_t *image, size_t size, const uint64_t *least) {
     static zelamiku_told told;
-    zelamiku_dropped none = {0};
+    zelamiku_dropped_section none = {0};
     zelamiku_handle again = ZELAMIKU_NONE;
     uint64_t values[FIELDS];
     if (is_looked_at(it, image, size, least)) return;

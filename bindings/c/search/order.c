@@ -4,7 +4,7 @@
 #include "search.h"
 #include <string.h>
 
-extern char zelamiku_seats_4[];
+extern char zelamiku_seats[];
 
 enum { WORDS = 4096, SEATS_OF_HEAP = 32 * 256, ALL_SEATS = 256 * SEATS_OF_HEAP, HEAP_SIZE = 8192 };
 typedef struct {
@@ -55,7 +55,7 @@ void order_names_heap(const void *heap) {
 /* Each heap has another place than the one before. */
 uint64_t order_name(const void *of) {
     const char *at = of;
-    if (at >= zelamiku_seats_4 && at < zelamiku_seats_4 + ALL_SEATS) return 1u << 28 | (uint64_t)(at - zelamiku_seats_4) % SEATS_OF_HEAP;
+    if (at >= zelamiku_seats && at < zelamiku_seats + ALL_SEATS) return 1u << 28 | (uint64_t)(at - zelamiku_seats) % SEATS_OF_HEAP;
     if (heap_of_run != NULL && at >= heap_of_run && at < heap_of_run + HEAP_SIZE) return 1u << 29 | (uint64_t)(at - heap_of_run);
     return (uint64_t)(uintptr_t)at;
 }

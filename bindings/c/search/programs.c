@@ -79,9 +79,7 @@ static void end_heap(uint32_t heap, deed_kind kind) {
     judged_sections before;
     judge_note_sections(it, &before);
     judge_ends(it, why);
-    zelamiku_status status = kind == CLOSE  ? zelamiku_heap_close(it->heap)
-                             : kind == STOP ? zelamiku_heap_stop(it->heap)
-                                            : zelamiku_heap_abandon(it->heap);
+    zelamiku_status status = kind == CLOSE ? zelamiku_heap_close(it->heap) : zelamiku_heap_stop(it->heap, why);
     bool is_refused = kind == CLOSE && (status == ZELAMIKU_RUNNING || (status == ZELAMIKU_DEVICE && it->has_trouble));
     bool has_lost = kind != CLOSE && status == ZELAMIKU_LOST && it->has_trouble; /* nobody makes its last round's write again */
     bool is_right = status == ZELAMIKU_OK || judge_is_end(it, status) || has_lost || is_refused;
@@ -106,10 +104,8 @@ static void enter(worker *own, uint32_t heap, uint32_t object, deed_kind kind, u
     judge *it = &judges[heap];
     uint64_t deadline = kind == ENTER ? NEVER : kind == TRY ? 0 : search_time() + time;
     judge_enters(it, own->lane[heap], object, deadline);
-    zelamiku_status status = kind == TRY     ? zelamiku_thread_try_enter(own->own[heap], object)
-                             : kind == UNTIL ? zelamiku_thread_enter_until(own->own[heap], object, deadline)
-                             : current->is_whole ? zelamiku_whole_enter(own->own[heap], object)
-                                                 : zelamiku_thread_enter(own->own[heap], object);
+    zelamiku_status status = kind == ENTER ? zelamiku_thread_enter(own->own[heap], object)
+                                           : zelamiku_thread_enter_until(own->own[heap], object, deadline);
     judge_entered(it, own->lane[heap], status);
     if (status == ZELAMIKU_OK) it->of[own->lane[heap]].is_short = 0;
     if (kind == TRY && status == ZELAMIKU_BEHIND && own->event[heap] >= 0) it->of[own->lane[heap]].is_short = 2;
@@ -118,15 +114,14 @@ static void enter(worker *own, uint32_t heap, uint32_t object, deed_kind kind, u
 
 static void exit_one(worker *own, uint32_t heap, uint32_t object) {
     judge_exits(&judges[heap], own->lane[heap], object);
-    zelamiku_status status = current->is_whole ? zelamiku_whole_exit(own->own[heap], object) : zelamiku_thread_exit(own->own[heap], object);
+    zelamiku_status status = zelamiku_thread_exit(own->own[heap], object);
     judge_exited(&judges[heap], own->lane[heap], status);
     (void)is_over(own, heap, status);
 }
 
 static void load(worker *own, uint32_t heap, uint32_t field) {
     uint64_t value = 1;
-    zelamiku_status status =
-        current->is_whole ? zelamiku_whole_load(own->own[heap], field, &value) : zelamiku_thread_load(own->own[heap], field, &value);
+    zelamiku_status status = zelamiku_thread_load(own->own[heap], field, &value);
     judge_loaded(&judges[heap], own->lane[heap], field, status, value);
     (void)is_over(own, heap, status);
 }
@@ -134,7 +129,7 @@ static void load(worker *own, uint32_t heap, uint32_t field) {
 static bool store(worker *own, uint32_t heap, uint32_t field) {
     uint64_t value = ++next_value;
     zelamiku_status status =
-        current->is_whole ? zelamiku_whole_store(own->own[heap], field, value) : zelamiku_thread_store(own->own[heap], field, value);
+        zelamiku_thread_store(own->own[heap], field, value);
     judge_stored(&judges[heap], own->lane[heap], field, status, value);
     return !is_over(own, heap, status) && status == ZELAMIKU_OK;
 }
@@ -163,14 +158,18 @@ static void wait_for(worker *own, uint32_t heap, uint32_t object, uint64_t patie
 
 static void notify(worker *own, uint32_t heap, uint32_t object, bool is_all) {
     judge *it = &judges[heap];
-    uint32_t lane = 0;
     uint64_t lanes = 0;
     if (it->of[own->lane[heap]].locks[object] > 0) it->signals[object] += is_all ? 2 : 1;
-    zelamiku_status status =
-        is_all ? zelamiku_thread_notify_all(own->own[heap], object, &lanes) : zelamiku_thread_notify(own->own[heap], object, &lane);
-    if (!is_all) lanes = lane == ZELAMIKU_NOBODY ? 0 : (uint64_t)1 << lane;
+    zelamiku_status status = zelamiku_thread_notify(own->own[heap], object, is_all, &lanes);
     judge_notified(it, own->lane[heap], object, status, lanes, is_all);
     (void)is_over(own, heap, status);
+}
+
+/* All zeros, and NOBODY, for a handle that isn't open. */
+static zelamiku_progress progress(zelamiku_thread of) {
+    zelamiku_progress found = {.size = sizeof found};
+    (void)!zelamiku_thread_progress(of, &found);
+    return found;
 }
 
 static void take_or_give(worker *own, uint32_t heap, uint32_t slot, bool takes) {
@@ -194,7 +193,7 @@ static void await(worker *own, uint32_t heap, deed_kind kind, uint64_t time) {
     judge *it = &judges[heap];
     uint32_t lane = own->lane[heap];
     if (judge_held(it, lane) > 0) return;
-    uint64_t earlier = zelamiku_thread_earlier(own->own[heap]), all = it->of[lane].ended - earlier, some = all > 1 ? all - 1 : all;
+    uint64_t earlier = progress(own->own[heap]).earlier, all = it->of[lane].ended - earlier, some = all > 1 ? all - 1 : all;
     bool is_all = true;
     uint64_t deadline = kind == AWAIT_UNTIL ? search_time() + time : ZELAMIKU_NO_DEADLINE;
     judge_awaits(it, lane, false, deadline);
@@ -212,7 +211,7 @@ static void await_round(worker *own, uint32_t heap, uint64_t time) {
     judge *it = &judges[heap];
     uint64_t rounds = 0, deadline = search_time() + time;
     if (judge_held(it, own->lane[heap]) > 0) return;
-    zelamiku_stats stats;
+    zelamiku_stats stats = {.size = sizeof stats};
     bool must_end = it->has_ended;
     zelamiku_status status = zelamiku_heap_stats(it->heap, &stats);
     if (status != ZELAMIKU_OK) return;
@@ -234,7 +233,7 @@ static void make_event(worker *own, uint32_t heap) {
 static void ask_all(worker *own, uint32_t heap) {
     judge *it = &judges[heap];
     uint32_t lane = own->lane[heap];
-    uint64_t durable = 0, earlier = zelamiku_thread_earlier(own->own[heap]);
+    uint64_t durable = 0, earlier = progress(own->own[heap]).earlier;
     judge_asks(it, lane);
     zelamiku_status status = zelamiku_thread_ask(own->own[heap], &durable);
     judge_asked(it, lane, status, earlier, durable);
@@ -284,7 +283,7 @@ static void copy(worker *own, uint32_t heap, uint32_t to) {
 static void open_again(uint32_t heap) {
     judge *it = &judges[heap];
     zelamiku_heap other;
-    zelamiku_report report; /* two may be at it */
+    zelamiku_report report = {.size = sizeof report}; /* two may be at it */
     uint64_t least[MOST_LANES];
     bool may_be_over = it->ends != 0, must_be_over = it->has_ended, is_lone = opening++ == 0;
     uint32_t begun = ++opens_begun;
@@ -299,7 +298,7 @@ static void open_again(uint32_t heap) {
     bool is_right = status == ZELAMIKU_OK ? may_be_over : status == ZELAMIKU_BUSY && !(must_be_over && is_lone);
     if (!is_right) search_fail("a second open of the file answers %u", status);
     for (uint32_t lane = 0; status == ZELAMIKU_OK && is_first && lane < it->lanes; lane++)
-        if (report.told.kept[lane] < least[lane]) search_fail("an open keeps fewer sections of lane %u than were told durable", lane);
+        if (report.kept[lane] < least[lane]) search_fail("an open keeps fewer sections of lane %u than were told durable", lane);
     if (status == ZELAMIKU_OK && (status = zelamiku_heap_close(other)) != ZELAMIKU_OK) search_fail("close of a second open answers %u", status);
     opening--;
 }
@@ -312,7 +311,7 @@ static void must_be_forked(const char *call, zelamiku_status status) {
 
 static void ask_heap_in_child(uint32_t heap) {
     zelamiku_heap of = judges[heap].heap;
-    zelamiku_stats stats;
+    zelamiku_stats stats = {.size = sizeof stats};
     zelamiku_wait waits[MOST_LANES];
     zelamiku_thread thread;
     uint64_t rounds;
@@ -322,13 +321,12 @@ static void ask_heap_in_child(uint32_t heap) {
     must_be_forked("await a round", zelamiku_heap_await_round(of, UINT64_MAX - 1, 1, &rounds));
     must_be_forked("begin", zelamiku_thread_begin(&thread, of));
     must_be_forked("copy", zelamiku_heap_copy(of, "copy of a child"));
-    must_be_forked("stop", zelamiku_heap_stop(of));
+    must_be_forked("stop", zelamiku_heap_stop(of, ZELAMIKU_CLOSED));
     must_be_forked("close", zelamiku_heap_close(of));
 }
 
 static void ask_lane_in_child(zelamiku_thread of, int event) {
     uint64_t value;
-    uint32_t lane;
     int descriptor;
     zelamiku_sight sight;
     if (event >= 0 && fcntl(event, F_GETFD) != -1) search_fail("an event is open in a child that was forked");
@@ -337,7 +335,7 @@ static void ask_lane_in_child(zelamiku_thread of, int event) {
     must_be_forked("store", zelamiku_thread_store(of, 0, 1));
     must_be_forked("exit", zelamiku_thread_exit(of, 0));
     must_be_forked("wait", zelamiku_thread_wait(of, 0));
-    must_be_forked("notify", zelamiku_thread_notify(of, 0, &lane));
+    must_be_forked("notify", zelamiku_thread_notify(of, 0, false, NULL));
     must_be_forked("look", zelamiku_thread_look(of, 0, &sight));
     must_be_forked("revert", zelamiku_thread_revert(of));
     must_be_forked("ask", zelamiku_thread_ask(of, &value));
@@ -381,7 +379,7 @@ static void begin_lane(worker *own, uint32_t heap) {
     if (is_over(own, heap, status)) return;
     if (status == ZELAMIKU_NONE_LEFT && current->lanes < current->threads) return;
     if (status != ZELAMIKU_OK || must_end) search_fail("begin answers %u", status);
-    own->lane[heap] = zelamiku_thread_lane(own->own[heap]);
+    own->lane[heap] = progress(own->own[heap]).lane;
     if (own->lane[heap] >= it->lanes) search_fail("a lane that isn't: %u", own->lane[heap]);
     judge_lent(it, own->lane[heap]);
 }
@@ -403,9 +401,9 @@ static void end_lane(worker *own, uint32_t heap) {
 static void ask(const worker *of, uint32_t heap) {
     zelamiku_thread asked[] = {of->own[heap], of->old[heap]};
     for (int i = 0; i < 2; i++) {
-        uint64_t sections = zelamiku_thread_sections(asked[i]), durable = zelamiku_thread_durable(asked[i]);
-        uint32_t lane = zelamiku_thread_lane(asked[i]);
-        uint64_t now = zelamiku_thread_sections(asked[i]);
+        uint64_t sections = progress(asked[i]).sections, durable = progress(asked[i]).durable;
+        uint32_t lane = progress(asked[i]).lane;
+        uint64_t now = progress(asked[i]).sections;
         bool is_all = false;
         if (lane != ZELAMIKU_NOBODY && lane >= judges[heap].lanes) search_fail("a lane that isn't: %u", lane);
         if (durable > now && now != 0) search_fail("%llu sections are durable of %llu", (unsigned long long)durable, (unsigned long long)now);
@@ -415,7 +413,7 @@ static void ask(const worker *of, uint32_t heap) {
 }
 
 static void look_around(worker *own, uint32_t heap, deed_kind kind, uint32_t object) {
-    zelamiku_stats stats;
+    zelamiku_stats stats = {.size = sizeof stats};
     zelamiku_wait waits[MOST_LANES];
     zelamiku_sight sight;
     size_t told = 0;
@@ -509,7 +507,6 @@ static void time_goes_on(uint64_t nanoseconds) {
     }
 }
 
-/* Where no field is, and nothing is kept, stores are written out too. */
 static bool has_transient(void) {
     return current->seed % 2 == 0;
 }
@@ -519,14 +516,14 @@ static void make_plan(void) {
         fields[field] = (zelamiku_field){field % OBJECTS, field % OBJECTS, FIRST_VALUE, field == PASSING && has_transient()};
     fields[PASSING].owner = fields[PASSING].guard = 0;
     MUST(zelamiku_pool_fields(2, fields + POOL, FIELDS - POOL) == ZELAMIKU_OK, "no pool");
-    plan = (zelamiku_plan){.fields = fields, .count = FIELDS, .objects = OBJECTS, .lanes = current->lanes, .capacity = current->capacity,
-                           .ring = current->ring, .linger = current->linger, .keeps_slice = 1, .reverts = current->reverts, .log = note_line};
+    plan = (zelamiku_plan){.size = sizeof(zelamiku_plan), .fields = fields, .count = FIELDS, .objects = OBJECTS, .lanes = current->lanes, .capacity = current->capacity,
+                           .ring = current->ring, .linger = current->linger, .reverts = current->reverts, .log = note_line};
 }
 
 static void make_file(judge *it) {
     static const char *const NAMES[] = {"heap", "copy", "other copy"};
     for (size_t i = 0; i < sizeof NAMES / sizeof *NAMES; i++) (void)unlink(NAMES[i]);
-    MUST(zelamiku_heap_open(&it->heap, "heap", &plan, NULL) == ZELAMIKU_OK, zelamiku_heap_message());
+    MUST(zelamiku_heap_open(&it->heap, "heap", &plan, NULL) == ZELAMIKU_OK, zelamiku_heap_failure(NULL));
 }
 
 static void make_heap(uint32_t heap) {
@@ -534,7 +531,7 @@ static void make_heap(uint32_t heap) {
     judge_begin(it, current->lanes, current->reverts, has_transient());
     devices[heap].in_call = 0;
     devices[heap].is_over = false;
-    plan.log_of = &devices[heap];
+    plan.log_context = &devices[heap];
     was_lost[heap] = false;
     if (is_in_file(heap)) return make_file(it);
     device *on = &devices[heap];
@@ -543,7 +540,9 @@ static void make_heap(uint32_t heap) {
     on->of = it;
     device_begin(on, 4096 + 24 * FIELDS + 16 * (uint64_t)(current->lanes + 1) * current->capacity);
     zelamiku_device functions = device_functions(on);
-    MUST(zelamiku_heap_open_on(&it->heap, "searched", &functions, &plan, NULL) == ZELAMIKU_OK, zelamiku_heap_message());
+    zelamiku_plan on_device = plan;
+    on_device.device = &functions;
+    MUST(zelamiku_heap_open(&it->heap, "searched", &on_device, NULL) == ZELAMIKU_OK, zelamiku_heap_failure(NULL));
     /* The opening's own calls don't fail. */
     on->calls = 0;
     on->fault_at = current->fault_at;
@@ -561,7 +560,7 @@ static void close_heap(uint32_t heap) {
     bool is_closed = status == ZELAMIKU_OK && is_first;
     if (is_first && !it->has_trouble && !is_closed) search_fail("close answers %u", status);
     bool is_end = status == ZELAMIKU_OK || judge_is_end(it, status) || status == ZELAMIKU_NOTHING;
-    if (status == ZELAMIKU_RUNNING || !is_end) status = zelamiku_heap_stop(it->heap);
+    if (status == ZELAMIKU_RUNNING || !is_end) status = zelamiku_heap_stop(it->heap, ZELAMIKU_CLOSED);
     look_at_crash(heap, is_closed);
 }
 

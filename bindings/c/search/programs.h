@@ -22,7 +22,6 @@ typedef struct {
 typedef struct {
     uint64_t seed;
     uint32_t threads, heaps, lanes, capacity, ring, linger, processors;
-    bool is_whole;          /* calls are functions of the library, and not written out */
     bool reverts;           /* the plan */
     bool is_small;          /* main begins the threads' lanes and ends them, so that they do no more than what is searched; */
     uint32_t first;         /* and does so many of the deeds before they begin */

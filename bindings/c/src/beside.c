@@ -25,6 +25,7 @@ static zelamiku_status lock_alone(int file) {
 
 /* Under the registry's mutex: whether a heap of this process has the file. */
 static bool is_known(const struct stat *its) {
+    assert(holds(&registry));
     bool is = false;
     for (size_t place = 1; place < ZELAMIKU_MOST_HEAPS; place++)
         is |= heaps[place].is_used && heaps[place].volume == its->st_dev && heaps[place].inode == its->st_ino;
@@ -32,24 +33,24 @@ static bool is_known(const struct stat *its) {
 }
 
 static bool is_open_here(const struct stat *its) {
-    pthread_mutex_lock(&registry);
+    lock(&registry);
     bool is = is_known(its);
-    pthread_mutex_unlock(&registry);
+    unlock(&registry);
     return is;
 }
 
 /* The heap has the file from now on; this descriptor has it locked. BUSY: another heap of this process has it, and the program has closed that
  * one's descriptor, which released the lock. DEVICE with errno. */
-static zelamiku_status claim(heap *of, int file) {
+static zelamiku_status claim(heap *heap, int file) {
     struct stat its;
     if (fstat(file, &its) != 0) return ZELAMIKU_DEVICE;
-    pthread_mutex_lock(&registry);
+    lock(&registry);
     zelamiku_status status = is_known(&its) ? ZELAMIKU_BUSY : mark(file, MARK_OF_FILE) ? ZELAMIKU_OK : ZELAMIKU_DEVICE;
     if (status == ZELAMIKU_OK) {
-        of->volume = its.st_dev;
-        of->inode = its.st_ino;
+        heap->volume = its.st_dev;
+        heap->inode = its.st_ino;
     }
-    pthread_mutex_unlock(&registry);
+    unlock(&registry);
     return status;
 }
 
@@ -126,64 +127,64 @@ static char *path_from_root(const char *path) {
 #define BESIDE ".heapctl-new"
 
 /* From now on a fork's child closes the draft's descriptors. It takes over `old`, if there is one. */
-static void list_draft(draft *it, int *old) {
-    it->is_in_place = false;
-    it->old = it->file = -1;
-    pthread_mutex_lock(&registry);
+static void list_draft(draft *draft, int *old) {
+    draft->is_in_place = false;
+    draft->old = draft->file = -1;
+    lock(&registry);
     if (old != NULL) {
-        it->old = *old;
+        draft->old = *old;
         *old = -1;
     }
-    it->next = drafts;
-    drafts = it;
-    pthread_mutex_unlock(&registry);
+    draft->next = drafts;
+    drafts = draft;
+    unlock(&registry);
 }
 
 /* Removes the draft; a file that is in its place by now stays. errno stays. */
-static void end_draft(draft *it) {
+static void end_draft(draft *draft) {
     int error = errno;
-    if (it->file >= 0 && !it->is_in_place) (void)unlink(it->beside);
-    close_listed(&it->file);
-    close_listed(&it->old);
-    pthread_mutex_lock(&registry);
-    draft **from = &drafts;
-    for (; *from != it; from = &(*from)->next) assert(*from != NULL);
-    *from = it->next;
-    pthread_mutex_unlock(&registry);
+    if (draft->file >= 0 && !draft->is_in_place) (void)unlink(draft->beside);
+    close_listed(&draft->file);
+    close_listed(&draft->old);
+    lock(&registry);
+    struct draft **from = &drafts;
+    for (; *from != draft; from = &(*from)->next) assert(*from != NULL);
+    *from = draft->next;
+    unlock(&registry);
     errno = error;
 }
 
 /* Opens and locks the file beside the path, or a new one; `is_new` says which. `has_gone`: there was one, and it vanished meanwhile. */
-static zelamiku_status open_beside(draft *it, mode_t mode, bool *is_new, bool *has_gone) {
-    *is_new = open_listed(&it->file, it->beside, O_RDWR | O_CREAT | O_EXCL | O_NOFOLLOW, mode);
+static zelamiku_status open_beside(draft *draft, mode_t mode, bool *is_new, bool *has_gone) {
+    *is_new = open_listed(&draft->file, draft->beside, O_RDWR | O_CREAT | O_EXCL | O_NOFOLLOW, mode);
     if (!*is_new) {
-        bool was_there = errno == EEXIST, is_open = was_there && open_listed(&it->file, it->beside, O_RDWR | O_NOFOLLOW, 0);
+        bool was_there = errno == EEXIST, is_open = was_there && open_listed(&draft->file, draft->beside, O_RDWR | O_NOFOLLOW, 0);
         *has_gone = was_there && !is_open && errno == ENOENT;
         if (!is_open) return ZELAMIKU_DEVICE;
     }
-    zelamiku_status status = lock_alone(it->file);
+    zelamiku_status status = lock_alone(draft->file);
     if (status == ZELAMIKU_OK) return ZELAMIKU_OK;
     int error = errno;
-    if (status == ZELAMIKU_DEVICE && *is_new) (void)unlink(it->beside);
-    close_listed(&it->file);
+    if (status == ZELAMIKU_DEVICE && *is_new) (void)unlink(draft->beside);
+    close_listed(&draft->file);
     errno = error;
     return status;
 }
 
 /* Makes the file beside the path, locked. First removes the file of a draft that was cut off, whatever its mode and owner. If another file
  * has taken the name between the opening and the lock, closes this one and tries again. */
-static zelamiku_status make_beside(draft *it, mode_t mode) {
+static zelamiku_status make_beside(draft *draft, mode_t mode) {
     for (int tries = 0; tries < 5; tries++) {
         bool is_new = false, has_gone = false;
-        assert(it->file < 0);
-        zelamiku_status status = open_beside(it, mode, &is_new, &has_gone);
+        assert(draft->file < 0);
+        zelamiku_status status = open_beside(draft, mode, &is_new, &has_gone);
         if (has_gone) continue;
         if (status != ZELAMIKU_OK) return status;
-        status = leads_to(it->beside, it->file);
+        status = leads_to(draft->beside, draft->file);
         if (status == ZELAMIKU_OK && is_new) return ZELAMIKU_OK;
         int error = errno;
-        if (status == ZELAMIKU_OK || (status == ZELAMIKU_DEVICE && is_new)) (void)unlink(it->beside);
-        close_listed(&it->file);
+        if (status == ZELAMIKU_OK || (status == ZELAMIKU_DEVICE && is_new)) (void)unlink(draft->beside);
+        close_listed(&draft->file);
         errno = error;
         if (status == ZELAMIKU_DEVICE) return status;
     }
@@ -191,21 +192,21 @@ static zelamiku_status make_beside(draft *it, mode_t mode) {
 }
 
 /* Begins a listed draft for its path, where `old` is. After a failure `cause` says what it was; DEVICE with errno. */
-static zelamiku_status begin_draft(draft *it, mode_t mode, const char **cause) {
-    bool fits = (size_t)snprintf(it->beside, sizeof it->beside, "%s" BESIDE, it->path) < sizeof it->beside;
+static zelamiku_status begin_draft(draft *draft, mode_t mode, const char **cause) {
+    bool fits = (size_t)snprintf(draft->beside, sizeof draft->beside, "%s" BESIDE, draft->path) < sizeof draft->beside;
     if (!fits) errno = ENAMETOOLONG;
-    zelamiku_status status = fits ? make_beside(it, mode) : ZELAMIKU_DEVICE;
+    zelamiku_status status = fits ? make_beside(draft, mode) : ZELAMIKU_DEVICE;
     *cause = status == ZELAMIKU_DEVICE ? "a file can't be made beside it" : "a heap, a copy or an image is being made there";
     if (status != ZELAMIKU_OK) return status;
-    status = leads_to(it->path, it->old);
+    status = leads_to(draft->path, draft->old);
     *cause = status == ZELAMIKU_DEVICE ? "it can't be used" : "the file was replaced or removed meanwhile";
     return status;
 }
 
 /* Puts the draft, whose bytes are durable, in its place. False: it isn't there; or it is (`is_in_place`), and that isn't durable. */
-static bool put_in_place(draft *it) {
-    assert(it->file >= 0 && !it->is_in_place);
-    if (rename(it->beside, it->path) != 0) return false;
-    it->is_in_place = true;
-    return sync_name(it->path, it->file);
+static bool put_in_place(draft *draft) {
+    assert(draft->file >= 0 && !draft->is_in_place);
+    if (rename(draft->beside, draft->path) != 0) return false;
+    draft->is_in_place = true;
+    return sync_name(draft->path, draft->file);
 }

@@ -20,25 +20,25 @@ static zelamiku_status write_device(const zelamiku_device *to, uint64_t at, cons
     return answer_of(to->write(to->context, at, bytes, size));
 }
 
-static zelamiku_status sync_device(const zelamiku_device *it) {
+static zelamiku_status sync_device(const zelamiku_device *device) {
     errno = 0;
-    return answer_of(it->sync(it->context));
+    return answer_of(device->sync(device->context));
 }
 
-static zelamiku_status tell_size(const zelamiku_device *of, uint64_t *size) {
+static zelamiku_status tell_size(const zelamiku_device *device, uint64_t *size) {
     errno = 0;
     *size = 0;
-    return answer_of(of->size(of->context, size));
+    return answer_of(device->length(device->context, size));
 }
 
-static bool has_functions(const zelamiku_device *it) {
-    return it != NULL && it->read != NULL && it->write != NULL && it->sync != NULL && it->size != NULL;
+static bool has_functions(const zelamiku_device *device) {
+    return device != NULL && device->read != NULL && device->write != NULL && device->sync != NULL && device->length != NULL;
 }
 
 /* Whether the heap's descriptor still is its file's. Another file is neither written nor taken for the heap's. errno is EBADF then. */
-static bool has_its_file(const heap *of) {
-    if (of->file < 0 || of->inode == 0) return true; /* it is on a device, or not open yet */
-    if (is_of_file(of->file, of->volume, of->inode)) return true;
+static bool has_its_file(const heap *heap) {
+    if (heap->file < 0 || heap->inode == 0) return true; /* it is on a device, or not open yet */
+    if (is_of_file(heap->file, heap->volume, heap->inode)) return true;
     errno = EBADF;
     return false;
 }
@@ -77,6 +77,6 @@ static zelamiku_status make_calls_on(zelamiku_handle *handle, const zelamiku_dev
 zelamiku_status zelamiku_make_calls(zelamiku_handle *handle, int descriptor, uint64_t *made) {
     zelamiku_device file = device_of_file(descriptor);
     uint64_t syncs = 0, none = 0;
-    if (handle == NULL) return nothing("make calls", "give a heap");
+    if (handle == NULL) return null_pointer("make calls", "give a heap");
     return make_calls_on(handle, &file, made != NULL ? made : &none, &syncs);
 }

@@ -108,7 +108,7 @@ static zelamiku_status sync_of_file(void *context) {
     return sync_file(descriptor_of(context)) ? ZELAMIKU_OK : ZELAMIKU_LOST;
 }
 
-static zelamiku_status size_of_file(void *context, uint64_t *size) {
+static zelamiku_status length_of_file(void *context, uint64_t *size) {
     struct stat info;
     if (fstat(descriptor_of(context), &info) != 0) return ZELAMIKU_DEVICE;
     *size = (uint64_t)info.st_size;
@@ -117,6 +117,6 @@ static zelamiku_status size_of_file(void *context, uint64_t *size) {
 }
 
 static zelamiku_device device_of_file(int file) {
-    zelamiku_device device = {read_file, write_file, sync_of_file, size_of_file, (void *)(intptr_t)file};
+    zelamiku_device device = {sizeof device, read_file, write_file, sync_of_file, length_of_file, (void *)(intptr_t)file};
     return device;
 }

@@ -47,7 +47,7 @@
 #define ZELAMIKU_GROUP 256
 #endif
 enum {
-    BUCKETS = sizeof((zelamiku_signals *)NULL)->waiting / sizeof(uint32_t),
+    BUCKETS = 64,             /* of the counts of threads that wait for monitors */
     TRIES = 40,               /* before a thread sleeps for a monitor */
     DEMANDS = 3,              /* rounds that a thread without room requests; a later one follows the end of another section */
     POLLED_PART = 8,          /* 1/8 of the time of the last calls: how long a thread without room polls */
@@ -55,14 +55,58 @@ enum {
     MOST_PART = 20000000,     /* nanoseconds: such a part takes no longer, even after calls that hung */
     FEWEST = 4096,            /* records for each lane: a round's least bound */
     GROUP = ZELAMIKU_GROUP,   /* sections: a thread that waits for as many leaves the round to the helper if other lanes have some */
-    MOST_SPIN = 250000,       /* nanoseconds: if a round takes less, a waiting thread spins so long before it sleeps */
-    LONG_SPIN = 30000,        /* nanoseconds: a spin that took longer has let another thread run, */
-    UNSPUN_ROUNDS = 64,       /* so nobody spins for so many rounds */
     USUAL_SLACK = 50000,      /* nanoseconds: the default timer slack of a thread */
     SHORT_SLICE = 100000,     /* nanoseconds: the time slice of a thread that makes rounds or waits for them */
     NAP = 20000,              /* nanoseconds between two checks, for each of many threads that wait for a round */
     OPENING_NAPS = 100,       /* that a fork waits for a file that is being opened */
     SECOND = 1000000000
+};
+
+/* A mutex, and where there are asserts, who holds it: an address of that thread's own; or NULL. */
+typedef struct {
+    pthread_mutex_t mutex;
+#ifndef NDEBUG
+    const void *holder;
+#endif
+} mutex;
+
+#ifndef NDEBUG
+static _Thread_local char thread_mark;
+#endif
+
+static inline bool holds(const mutex *mutex) {
+#ifndef NDEBUG
+    return mutex->holder == &thread_mark;
+#else
+    return mutex != NULL;
+#endif
+}
+
+static inline void lock(mutex *mutex) {
+    (void)pthread_mutex_lock(&mutex->mutex);
+#ifndef NDEBUG
+    mutex->holder = &thread_mark;
+#endif
+}
+
+static inline void unlock(mutex *mutex) {
+    assert(holds(mutex));
+#ifndef NDEBUG
+    mutex->holder = NULL;
+#endif
+    (void)pthread_mutex_unlock(&mutex->mutex);
+}
+
+/* The structs whose size the program says, in layout 1: no program has a smaller one. None will ever be larger than MOST_STRUCT. */
+enum {
+    MOST_STRUCT = 4096,
+    LEAST_PLAN = 80,
+    LEAST_REPORT = 352,
+    LEAST_DEVICE = 48,
+    LEAST_DROPPED = 32,
+    LEAST_STATS = 104,
+    LEAST_PROGRESS = 40,
+    LEAST_FAILURE = 56
 };
 
 typedef struct heap heap;
@@ -124,14 +168,12 @@ typedef struct {
     uint32_t locks;                      /* own: how many locks are held, of all monitors together */
     _Atomic uint32_t is_busy;            /* a section is open, or it waits: nobody else touches the session */
     zelamiku_handle session;             /* own; unless the thread is busy, freed by the thread that ends the heap */
-    zelamiku_signals *signals;           /* the heap's */
     uint32_t records;                    /* own: about how many it has sent since the section `counted` */
     uint32_t has_stored;                 /* own: the open section has stored to a persistent field */
     _Atomic uint64_t last_stored;        /* the number of the last ended section that has */
-    uint32_t is_plain;                   /* 1: no old values are saved, and no field is transient */
     uint32_t lane;
     _Atomic uint64_t lent_number;        /* the handle, also after the heap has ended */
-    heap *of;
+    heap *heap;
     uint64_t counted;                    /* own: how many sections had ended when it began to count the records */
     changes *changes;                    /* own; NULL: no old values are saved */
     uint64_t passed;                     /* own: the last section that has stored to a transient field, if no old values are saved */
@@ -152,16 +194,15 @@ struct heap {
     uint64_t size;           /* of the image, in bytes */
     uint64_t linger;         /* nanoseconds */
     uint32_t lanes, objects, fields, processors;
-    bool keeps_slice;        /* of the plan */
     bool reverts;            /* each lane saves the values that its section changes */
     bool *transient;         /* which fields are; NULL: none is */
     zelamiku_device device;
     zelamiku_log *log;
-    void *log_of;
-    zelamiku_dropped *dropped;
+    void *log_context;
+    zelamiku_dropped_section *dropped;
     size_t dropped_count;
     pthread_t helper;
-    pthread_mutex_t mutex;
+    mutex mutex;
     zelamiku_handle handle;  /* leader */
     uint64_t room;           /* how many records a lane's ring takes, or its log where that is less */
     uint64_t last_calls;     /* leader: how many nanoseconds the calls of the last round took */
@@ -198,8 +239,6 @@ struct heap {
     _Atomic uint32_t has_more;              /* the last round has reached its bound: the next one comes at once */
     _Atomic uint64_t steps;                 /* odd while the leader takes records from the lanes' rings, which makes room */
     _Atomic uint64_t poll_until;            /* until when threads without room poll, by zelamiku_now */
-    _Atomic uint64_t spin_time;             /* nanoseconds that a thread waiting for a round spins before it sleeps */
-    _Atomic uint64_t no_spin_before;        /* nobody spins until so many rounds have ended: others want the processors */
     _Atomic uint32_t hooks_underway;        /* threads that call the log hook, or are about to: the thread that ends the heap waits for them */
     _Atomic uint64_t rounds, troubles;      /* rounds that have ended; those with a failed write */
     _Atomic int error;                      /* errno of the last failed write, or of what ended the heap */
@@ -210,19 +249,11 @@ struct heap {
  * stale handle is looked up like a valid one, and its number doesn't match. */
 #define SEATS ((size_t)ZELAMIKU_MOST_HEAPS * ZELAMIKU_MOST_LANES)
 #define PLACE ((SEATS - 1) * sizeof(seat))
-_Alignas(256) char ZELAMIKU_SEATS[SEATS * sizeof(seat)];
+__attribute__((visibility("hidden"))) seat zelamiku_seats[SEATS]; /* hidden, not static: tools/search names its words */
 static heap heaps[ZELAMIKU_MOST_HEAPS];
+_Static_assert((sizeof(seat) & (sizeof(seat) - 1)) == 0, "PLACE is a mask");
 
-/* What zelamiku_inline.h says of a seat. */
-#define IS_OWN(name) (offsetof(seat, name) == offsetof(seat, number) + offsetof(zelamiku_own, name))
-_Static_assert(IS_OWN(open) && IS_OWN(ended) && IS_OWN(records) && IS_OWN(locks) && IS_OWN(is_busy) && IS_OWN(session) && IS_OWN(signals) &&
-                   IS_OWN(has_stored) && IS_OWN(last_stored) && IS_OWN(is_plain),
-               "zelamiku_own");
-_Static_assert(offsetof(heap, has_work) == offsetof(heap, waiting) + offsetof(zelamiku_signals, has_work), "zelamiku_signals");
-_Static_assert(offsetof(heap, enough) == offsetof(heap, waiting) + offsetof(zelamiku_signals, enough), "zelamiku_signals");
-_Static_assert(sizeof(seat) == 256 && offsetof(seat, number) == 128 && PLACE == 2096896, "ZELAMIKU_OWN_OF");
-
-static pthread_mutex_t registry = PTHREAD_MUTEX_INITIALIZER;
+static mutex registry = {.mutex = PTHREAD_MUTEX_INITIALIZER};
 static _Atomic uint64_t handed_out;
 static _Atomic uint32_t opens_underway; /* files that are being opened */
 
@@ -237,46 +268,53 @@ typedef struct draft {
 static draft *drafts; /* registry: all that are underway */
 
 static inline seat *seat_of(zelamiku_thread thread) {
-    return (seat *)(void *)(ZELAMIKU_SEATS + (thread.number & PLACE));
+    return &zelamiku_seats[(thread.number & PLACE) / sizeof(seat)];
 }
 
-/* What zelamiku_inline.h has of it. */
-static inline zelamiku_own *own_of(seat *own) {
-    return (zelamiku_own *)(void *)&own->number;
-}
-
-static inline seat *seat_at(heap *of, uint32_t lane) {
+static inline seat *seat_at(heap *heap, uint32_t lane) {
     assert(lane < ZELAMIKU_MOST_LANES);
-    return (seat *)(void *)ZELAMIKU_SEATS + (size_t)(of - heaps) * ZELAMIKU_MOST_LANES + lane;
+    return &zelamiku_seats[(size_t)(heap - heaps) * ZELAMIKU_MOST_LANES + lane];
 }
 
 static inline heap *place_of(const seat *own) {
-    return &heaps[(own - (const seat *)(const void *)ZELAMIKU_SEATS) / ZELAMIKU_MOST_LANES];
+    return &heaps[(own - zelamiku_seats) / ZELAMIKU_MOST_LANES];
 }
 
 /* A call is counted before it checks whether its handle is that of the place's heap. A thread that reuses the place for another heap sets the
  * number to 0 before it checks whether calls are counted. So a call that has found its number keeps the heap until end_call, even if the heap
  * ends. */
-static inline void count_call(heap *of) {
-    of->underway++;
+static inline void count_call(heap *heap) {
+    heap->underway++;
 }
 
-static inline void end_call(heap *of) {
-    assert(of->underway > 0);
-    of->underway--;
+static inline void end_call(heap *heap) {
+    assert(heap->underway > 0);
+    heap->underway--;
 }
 
-static inline bool is_open(seat *own, zelamiku_thread thread) {
-    return zelamiku_is_open(own_of(own), thread);
+/* The same as the call on this heap, in a call that is counted. */
+#define COUNTED(heap, call) \
+    ({ \
+        count_call(heap); \
+        zelamiku_status counted_ = (call); \
+        end_call(heap); \
+        counted_; \
+    })
+
+static inline bool is_open(const seat *own, zelamiku_thread thread) {
+    return atomic_load_explicit(&own->open, memory_order_relaxed) == thread.number;
 }
+
+/* What a call's number names: of a pool, its head. */
+typedef enum { OF_OBJECT, OF_FIELD, OF_POOL } kind;
 
 /* In event.c. */
-static uint32_t sections_of_loops(heap *of);
-static uint32_t begin_for_loops(heap *of);
-static void tell_loops(heap *of, bool is_trouble, bool is_end);
-static void note_no_room(heap *of, seat *own);
-static void drop_event(heap *of, seat *own);
-static void close_events(heap *of);
+static uint32_t sections_of_loops(heap *heap);
+static uint32_t begin_for_loops(heap *heap);
+static void tell_loops(heap *heap, bool is_trouble, bool is_end);
+static void note_no_room(heap *heap, seat *own);
+static void drop_event(heap *heap, seat *own);
+static void close_events(heap *heap);
 
 static uint64_t new_number(size_t place) {
     return ++handed_out << 24 | place;

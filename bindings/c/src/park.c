@@ -44,86 +44,89 @@ static void ring_seat(seat *other) {
 }
 
 /* Under the mutex. */
-static void ring_helper(heap *of) {
-    of->helper_bell++;
-    wake(&of->helper_bell, 1);
+static void ring_helper(heap *heap) {
+    assert(holds(&heap->mutex));
+    heap->helper_bell++;
+    wake(&heap->helper_bell, 1);
 }
 
 /* Wakes all that wait for a round. */
-static void tell_all(heap *of) {
-    of->round_bell++;
-    wake(&of->round_bell, INT_MAX);
+static void tell_all(heap *heap) {
+    heap->round_bell++;
+    wake(&heap->round_bell, INT_MAX);
 }
 
 /* Under the mutex: requests a round now. If one is requested already and hasn't begun, it is that one. A leader checks for requests when it
  * finishes. */
-static void ask(heap *of, uint32_t cause) {
-    if (of->urgent == 0 && !of->is_led) ring_helper(of);
-    of->urgent = cause;
+static void ask(heap *heap, uint32_t cause) {
+    assert(holds(&heap->mutex));
+    if (heap->urgent == 0 && !heap->is_led) ring_helper(heap);
+    heap->urgent = cause;
 }
 
-static void demand(heap *of, uint32_t cause) {
-    pthread_mutex_lock(&of->mutex);
-    ask(of, cause);
-    pthread_mutex_unlock(&of->mutex);
+static void demand(heap *heap, uint32_t cause) {
+    lock(&heap->mutex);
+    ask(heap, cause);
+    unlock(&heap->mutex);
 }
 
 /* ---- log hooks in progress ---- */
 
 /* Under the mutex, while the heap goes on or the thread leads: it is about to call the log hook. The thread that ends the heap waits for it. */
-static void begin_hook(heap *of) {
-    of->hooks_underway++;
+static void begin_hook(heap *heap) {
+    assert(holds(&heap->mutex));
+    heap->hooks_underway++;
 }
 
-static void end_hook(heap *of) {
-    assert(of->hooks_underway > 0);
-    of->hooks_underway--;
-    wake(&of->hooks_underway, INT_MAX);
+static void end_hook(heap *heap) {
+    assert(heap->hooks_underway > 0);
+    heap->hooks_underway--;
+    wake(&heap->hooks_underway, INT_MAX);
 }
 
-static void await_hooks(heap *of) {
-    for (uint32_t seen; (seen = of->hooks_underway) > 0;) (void)sleep_on(&of->hooks_underway, seen, ZELAMIKU_NO_DEADLINE);
+static void await_hooks(heap *heap) {
+    for (uint32_t seen; (seen = heap->hooks_underway) > 0;) (void)sleep_on(&heap->hooks_underway, seen, ZELAMIKU_NO_DEADLINE);
 }
 
 /* ---- monitors that are waited for ---- */
 
 /* Wakes the thread that waits longest for the object's monitor. It stays listed until it has the monitor, so it may be woken twice, and another
  * one not at all: the next owner of the monitor then wakes that one. */
-COLD void wake_first(heap *of, uint32_t object) {
+COLD void wake_first(heap *heap, uint32_t object) {
     seat *first = NULL;
-    pthread_mutex_lock(&of->mutex);
-    for (uint32_t lane = 0; lane < of->lanes; lane++) {
-        seat *other = seat_at(of, lane);
+    lock(&heap->mutex);
+    for (uint32_t lane = 0; lane < heap->lanes; lane++) {
+        seat *other = seat_at(heap, lane);
         if (other->wanted == object + 1 && (first == NULL || other->turn < first->turn)) first = other;
     }
-    pthread_mutex_unlock(&of->mutex);
+    unlock(&heap->mutex);
     if (first != NULL) ring_seat(first);
 }
 
 /* Lists the lane as waiting for the object's monitor; returns whether it wasn't listed before. The caller tries again afterwards: a thread that
  * frees the monitor after that try finds the lane here. */
-static bool want(heap *of, seat *own, uint32_t object) {
-    pthread_mutex_lock(&of->mutex);
+static bool want(heap *heap, seat *own, uint32_t object) {
+    lock(&heap->mutex);
     bool is_new = own->wanted == 0;
     if (is_new) {
         own->wanted = object + 1;
-        own->turn = ++of->turns;
-        of->waiting[object % BUCKETS]++;
+        own->turn = ++heap->turns;
+        heap->waiting[object % BUCKETS]++;
     }
-    pthread_mutex_unlock(&of->mutex);
+    unlock(&heap->mutex);
     return is_new;
 }
 
 /* The lane waits for no monitor any more. If it hasn't taken the monitor, it passes its wake-up on. */
-static void want_no_more(heap *of, seat *own, bool has_taken) {
-    pthread_mutex_lock(&of->mutex);
+static void want_no_more(heap *heap, seat *own, bool has_taken) {
+    lock(&heap->mutex);
     uint32_t wanted = own->wanted;
     own->wanted = 0;
     own->is_logged = false;
-    assert(wanted == 0 || of->waiting[(wanted - 1) % BUCKETS] > 0);
-    if (wanted != 0) of->waiting[(wanted - 1) % BUCKETS]--;
-    pthread_mutex_unlock(&of->mutex);
-    if (wanted != 0 && !has_taken) wake_first(of, wanted - 1);
+    assert(wanted == 0 || heap->waiting[(wanted - 1) % BUCKETS] > 0);
+    if (wanted != 0) heap->waiting[(wanted - 1) % BUCKETS]--;
+    unlock(&heap->mutex);
+    if (wanted != 0 && !has_taken) wake_first(heap, wanted - 1);
 }
 
 /* How many locks of the monitor the lane has. */
@@ -135,27 +138,27 @@ static uint32_t locks_of(seat *own, uint32_t object) {
 
 /* Whether the lane has sent enough for a round. It counts records, but durability is known by sections: it takes the same part of the records to
  * be durable as of the sections, which is about right. */
-static bool has_enough(const heap *of, seat *own) {
+static bool has_enough(const heap *heap, seat *own) {
     uint64_t ended = own->ended, durable = own->acknowledged;
     assert(durable <= ended && own->counted <= ended);
     if (durable > own->counted) {
         own->records = (uint32_t)(own->records * (ended - durable) / (ended - own->counted));
         own->counted = durable;
     }
-    return own->records >= of->enough;
+    return own->records >= heap->enough;
 }
 
 /* A section has ended that the helper may not know of. While the helper's check is due within the linger, nobody has to wake it. */
-COLD void tell_of_work(heap *of, seat *own) {
-    if (own->records >= of->enough && has_enough(of, own)) {
+COLD void tell_of_work(heap *heap, seat *own) {
+    if (own->records >= heap->enough && has_enough(heap, own)) {
         own->records = 0;
         own->counted = own->ended;
-        of->has_work = 1;
-        demand(of, ZELAMIKU_ROUND_FULL);
-    } else if (atomic_exchange(&of->has_work, 1) == 0 && (of->awaiting > 0 || !of->has_timer)) {
-        pthread_mutex_lock(&of->mutex);
-        ring_helper(of);
-        pthread_mutex_unlock(&of->mutex);
+        heap->has_work = 1;
+        demand(heap, ZELAMIKU_ROUND_FULL);
+    } else if (atomic_exchange(&heap->has_work, 1) == 0 && (heap->awaiting > 0 || !heap->has_timer)) {
+        lock(&heap->mutex);
+        ring_helper(heap);
+        unlock(&heap->mutex);
     }
 }
 
@@ -163,14 +166,14 @@ COLD void tell_of_work(heap *of, seat *own) {
  * sequentially consistent, and so is the library's step that has freed the monitor. So a thread that waits for the monitor was listed before, or
  * finds it free. The leader learns of the section by its count, which it reads after it has cleared `has_work`, or by `has_work`. */
 COLD void tell_and_wake(seat *own, uint32_t object, bool waits) {
-    heap *of = own->of;
+    heap *heap = own->heap;
     bool is_end = own->locks == 0;
-    count_call(of); /* before it isn't busy */
+    count_call(heap); /* before it isn't busy */
     if (is_end && own->is_busy) {
-        if (of->has_work == 0 || own->records >= of->enough) tell_of_work(of, own);
+        if (heap->has_work == 0 || own->records >= heap->enough) tell_of_work(heap, own);
         if (!waits) atomic_store_explicit(&own->is_busy, 0, memory_order_release);
     }
     /* Somebody waits: wakes the first, unless another lock of the monitor is left. */
-    if (of->waiting[object % BUCKETS] > 0 && (is_end || locks_of(own, object) == 0)) wake_first(of, object);
-    end_call(of);
+    if (heap->waiting[object % BUCKETS] > 0 && (is_end || locks_of(own, object) == 0)) wake_first(heap, object);
+    end_call(heap);
 }

@@ -3,9 +3,9 @@
  *
  * Only the thread itself reads and writes what it has saved: there is no lock. */
 static zelamiku_status why_not(seat *own, zelamiku_thread thread, const char *call);
-static zelamiku_status why_not_of(heap *of, seat *own, zelamiku_thread thread, const char *call);
-static zelamiku_status refused(seat *own, zelamiku_status status, const char *call, const char *what, uint32_t number);
-static zelamiku_status enter_slowly(seat *own, uint32_t object, zelamiku_status status, uint64_t deadline, const char *call);
+static zelamiku_status why_not_of(heap *heap, seat *own, zelamiku_thread thread, const char *call);
+static zelamiku_status refused(seat *own, zelamiku_status status, const char *call, kind kind, uint32_t number);
+static zelamiku_status enter_slowly(seat *own, uint32_t object, zelamiku_status status, uint64_t deadline);
 
 /* ---- the section's changes ---- */
 
@@ -68,22 +68,22 @@ static inline void keep(changes *all, kept_field *kept, uint32_t field, uint64_t
 COLD zelamiku_status no_room(seat *own, uint32_t field) {
     uint64_t value = 0;
     zelamiku_status status = zelamiku_load(&own->session, field, &value);
-    return refused(own, status == ZELAMIKU_OK ? ZELAMIKU_SECTION_FULL : status, "store", "field", field);
+    return refused(own, status == ZELAMIKU_OK ? ZELAMIKU_SECTION_FULL : status, "store", OF_FIELD, field);
 }
 
 /* Stores, and saves the old value. Returns what the library returns. */
 static __attribute__((noinline)) zelamiku_status store_keeping(seat *own, uint32_t field, uint64_t value) {
     changes *all = changes_of(own);
-    if (SELDOM(field >= all->all)) return refused(own, ZELAMIKU_UNKNOWN_FIELD, "store", "field", field);
+    if (SELDOM(field >= all->all)) return refused(own, ZELAMIKU_UNKNOWN_FIELD, "store", OF_FIELD, field);
     kept_field *kept = &all->fields[field];
     uint64_t before = 0;
     bool is_first = kept->stamp != all->stamp;
     if (SELDOM(!has_room(all, kept->records << is_first))) return no_room(own, field);
     zelamiku_status status = ZELAMIKU_OK;
     if (is_first) status = zelamiku_load(&own->session, field, &before);
-    if (SELDOM(status != ZELAMIKU_OK)) return refused(own, status, "store", "field", field);
+    if (SELDOM(status != ZELAMIKU_OK)) return refused(own, status, "store", OF_FIELD, field);
     status = zelamiku_store(&own->session, field, value);
-    if (SELDOM(status != ZELAMIKU_OK)) return refused(own, status, "store", "field", field);
+    if (SELDOM(status != ZELAMIKU_OK)) return refused(own, status, "store", OF_FIELD, field);
     own->records += kept->records;
     own->has_stored |= kept->records;
     all->used += (uint32_t)kept->records << is_first;
@@ -166,13 +166,13 @@ static void note_taken(changes *all, uint32_t object) {
 }
 
 /* One lock more, where a section is open. */
-static __attribute__((noinline)) zelamiku_status enter_keeping(seat *own, uint32_t object, uint64_t deadline, const char *call) {
+static __attribute__((noinline)) zelamiku_status enter_keeping(seat *own, uint32_t object, uint64_t deadline) {
     changes *all = changes_of(own);
     zelamiku_sight sight = {ZELAMIKU_NOBODY, 0, 0};
     bool is_more = zelamiku_look(&own->session, object, &sight) == ZELAMIKU_OK && sight.owner != own->lane;
-    if (SELDOM(is_more && !has_room(all, 2))) return refused(own, ZELAMIKU_SECTION_FULL, call, "object", object);
+    if (SELDOM(is_more && !has_room(all, 2))) return refused(own, ZELAMIKU_SECTION_FULL, "enter", OF_OBJECT, object);
     zelamiku_status status = zelamiku_try_enter(&own->session, object);
-    if (SELDOM(status != ZELAMIKU_OK)) status = enter_slowly(own, object, status, deadline, call);
+    if (SELDOM(status != ZELAMIKU_OK)) status = enter_slowly(own, object, status, deadline);
     if (SELDOM(status != ZELAMIKU_OK)) return status;
     if (is_more) note_taken(all, object);
     own->locks++;
@@ -201,16 +201,17 @@ static void put_back(seat *own, changes *all) {
     keep_nothing(all);
 }
 
-/* Why nothing is restored; the call is counted. */
-static zelamiku_status not_reverted(heap *of, seat *own, zelamiku_thread thread, bool was_open) {
-    zelamiku_status status = why_not_of(of, own, thread, "revert");
+/* Why nothing is restored. */
+static zelamiku_status not_reverted_of(heap *heap, seat *own, zelamiku_thread thread, bool was_open) {
+    zelamiku_status status = why_not_of(heap, own, thread, "revert");
     if (status != ZELAMIKU_OK) return status;
-    if (!of->reverts && was_open && own->has_stored == 0 && own->passed != own->ended + 1) return ZELAMIKU_OK; /* there is nothing to restore */
-    if (!of->reverts)
-        return fail(of->path, ZELAMIKU_WRONG_KIND, 0, "the heap's plan doesn't keep what a section changes", "open it with reverts = 1", "revert");
-    if (!was_open) return fail(of->path, ZELAMIKU_NOT_HELD, 0, "no section is open", "enter an object before", "revert");
-    return fail(of->path, ZELAMIKU_NOT_HELD, 0, "the section has given back a monitor under which it had stored",
-                "revert before that, or store the old values by calls of your own", "revert");
+    if (!was_open) return fail(heap->path, ZELAMIKU_NOT_HELD, 0, "no section is open", "enter an object before", "revert");
+    if (heap->reverts)
+        return fail(heap->path, ZELAMIKU_NOT_REVERTED, 0, "the section has freed a monitor under which it had stored",
+                    "revert before that, or store the old values by calls of your own", "revert");
+    bool has_stored = own->has_stored != 0 || own->passed == own->ended + 1;
+    if (!has_stored) return ZELAMIKU_OK;
+    return fail(heap->path, ZELAMIKU_NOT_REVERTED, 0, "the heap's plan doesn't keep what a section changes", "open it with reverts = 1", "revert");
 }
 
 zelamiku_status zelamiku_thread_revert(zelamiku_thread thread) {
@@ -220,11 +221,7 @@ zelamiku_status zelamiku_thread_revert(zelamiku_thread thread) {
         put_back(own, own->changes);
         return is_open(own, thread) ? ZELAMIKU_OK : why_not(own, thread, "revert");
     }
-    heap *of = place_of(own);
-    count_call(of);
-    zelamiku_status status = not_reverted(of, own, thread, was_open);
-    end_call(of);
-    return status;
+    return COUNTED(place_of(own), not_reverted_of(place_of(own), own, thread, was_open));
 }
 
 /* ---- room for it ---- */
@@ -250,12 +247,12 @@ static void note_fields(changes *all, const zelamiku_field *fields) {
 }
 
 /* From now on every lane saves what its sections change. The memory is freed with the heap's place, also after a failure. */
-static zelamiku_status keep_changes(heap *of, zelamiku_handle *handle) {
+static zelamiku_status keep_changes(heap *heap, zelamiku_handle *handle) {
     zelamiku_shape shape = {0};
     zelamiku_field *fields = (zelamiku_field *)calloc(ZELAMIKU_MOST_FIELDS, sizeof *fields);
     zelamiku_status status = fields == NULL ? ZELAMIKU_NO_MEMORY : zelamiku_fields(handle, &shape, fields, ZELAMIKU_MOST_FIELDS);
-    for (uint32_t lane = 0; status == ZELAMIKU_OK && lane < of->lanes; lane++) {
-        seat *own = seat_at(of, lane);
+    for (uint32_t lane = 0; status == ZELAMIKU_OK && lane < heap->lanes; lane++) {
+        seat *own = seat_at(heap, lane);
         own->changes = new_changes(shape.fields);
         if (own->changes == NULL)
             status = ZELAMIKU_NO_MEMORY;

@@ -54,9 +54,9 @@ COLD void ask_to_run_soon(void) {
 }
 
 /* Once for each thread, whichever heaps it uses. */
-static void run_soon(const heap *of) {
+static void run_soon(void) {
     static _Thread_local bool has_asked;
-    if (has_asked || of->keeps_slice) return;
+    if (has_asked) return;
     has_asked = true;
     ask_to_run_soon();
 }

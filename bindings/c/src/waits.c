@@ -32,11 +32,12 @@ static bool is_shut(seat *other) {
 
 /* Under the mutex, while the heap goes on: a seat whose session the caller may use to look, until return_seat: of a lane that isn't lent, that
  * sleeps for a monitor, or that has nothing open. NULL: all are in sections. */
-static seat *borrow_seat(heap *of) {
-    for (uint32_t lane = 0; lane < of->lanes; lane++)
-        if (!seat_at(of, lane)->is_lent || is_borrowed(seat_at(of, lane))) return seat_at(of, lane);
-    for (uint32_t lane = 0; lane < of->lanes; lane++)
-        if (is_shut(seat_at(of, lane))) return seat_at(of, lane);
+static seat *borrow_seat(heap *heap) {
+    assert(holds(&heap->mutex));
+    for (uint32_t lane = 0; lane < heap->lanes; lane++)
+        if (!seat_at(heap, lane)->is_lent || is_borrowed(seat_at(heap, lane))) return seat_at(heap, lane);
+    for (uint32_t lane = 0; lane < heap->lanes; lane++)
+        if (is_shut(seat_at(heap, lane))) return seat_at(heap, lane);
     return NULL;
 }
 
@@ -49,9 +50,10 @@ static void return_seat(seat *other) {
 
 /* Under the mutex: for each lane that wants a monitor, the lane that has it, by a session that nobody else uses. NOBODY for all other lanes, and
  * if there is no session. */
-static void find_owners(heap *of, seat *by, uint32_t *owners) {
-    for (uint32_t lane = 0; lane < of->lanes; lane++) {
-        uint32_t wanted = seat_at(of, lane)->wanted;
+static void find_owners(heap *heap, seat *by, uint32_t *owners) {
+    assert(holds(&heap->mutex));
+    for (uint32_t lane = 0; lane < heap->lanes; lane++) {
+        uint32_t wanted = seat_at(heap, lane)->wanted;
         zelamiku_sight sight = {ZELAMIKU_NOBODY, 0, 0};
         bool is_told = wanted != 0 && by != NULL && zelamiku_look(&by->session, wanted - 1, &sight) == ZELAMIKU_OK;
         owners[lane] = is_told ? sight.owner : ZELAMIKU_NOBODY;
@@ -59,9 +61,9 @@ static void find_owners(heap *of, seat *by, uint32_t *owners) {
 }
 
 /* The lanes of the circle that this lane is in, a bit for each; 0: it is in none. */
-static uint64_t circle_of(const heap *of, const uint32_t *owners, uint32_t lane) {
+static uint64_t circle_of(const heap *heap, const uint32_t *owners, uint32_t lane) {
     uint64_t circle = 0;
-    for (uint32_t at = lane; at < of->lanes && (circle >> at & 1) == 0; at = owners[at]) {
+    for (uint32_t at = lane; at < heap->lanes && (circle >> at & 1) == 0; at = owners[at]) {
         circle |= (uint64_t)1 << at;
         if (owners[at] == lane && at != lane) return circle;
     }
@@ -69,84 +71,84 @@ static uint64_t circle_of(const heap *of, const uint32_t *owners, uint32_t lane)
 }
 
 /* Under the mutex: writes who waits for whom, from that lane on. */
-static void spell_circle(heap *of, const uint32_t *owners, uint32_t lane, char *text, size_t size) {
+static void spell_circle(heap *heap, const uint32_t *owners, uint32_t lane, char *text, size_t size) {
+    assert(holds(&heap->mutex));
     uint32_t at = lane;
     size_t begun = 0;
     do {
-        assert(at < of->lanes && seat_at(of, at)->wanted != 0); /* each of a circle wants a monitor that the next one has */
+        assert(at < heap->lanes && seat_at(heap, at)->wanted != 0); /* each of a circle wants a monitor that the next one has */
         int more = snprintf(text + begun, size - begun, "%slane %u for object %u of lane %u", begun > 0 ? ", " : "", at,
-                            seat_at(of, at)->wanted - 1, owners[at]);
+                            seat_at(heap, at)->wanted - 1, owners[at]);
         begun += more > 0 ? (size_t)more : 0;
         at = owners[at];
     } while (at != lane && begun < size);
 }
 
 /* Whether the circle has a thread that no earlier report had in a circle. */
-static bool is_untold(heap *of, uint64_t circle) {
+static bool is_untold(heap *heap, uint64_t circle) {
     bool is = false;
-    for (uint32_t lane = 0; lane < of->lanes; lane++)
+    for (uint32_t lane = 0; lane < heap->lanes; lane++)
         if (circle >> lane & 1) {
-            is |= !seat_at(of, lane)->is_logged;
-            seat_at(of, lane)->is_logged = true;
+            is |= !seat_at(heap, lane)->is_logged;
+            seat_at(heap, lane)->is_logged = true;
         }
     return is;
 }
 
 /* The thread has slept for a monitor for a second: if it is in a circle, reports that to the log hook, once. */
-COLD void tell_circle(heap *of, seat *own) {
+COLD void tell_circle(heap *heap, seat *own) {
     uint32_t owners[ZELAMIKU_MOST_LANES];
     char text[480] = "";
-    pthread_mutex_lock(&of->mutex);
-    if (of->end_status == 0) {
-        find_owners(of, own, owners);
-        uint64_t circle = circle_of(of, owners, own->lane);
-        if (circle != 0 && is_untold(of, circle)) spell_circle(of, owners, own->lane, text, sizeof text);
+    lock(&heap->mutex);
+    if (heap->end_status == 0) {
+        find_owners(heap, own, owners);
+        uint64_t circle = circle_of(heap, owners, own->lane);
+        if (circle != 0 && is_untold(heap, circle)) spell_circle(heap, owners, own->lane, text, sizeof text);
     }
-    if (text[0] != 0) begin_hook(of);
-    pthread_mutex_unlock(&of->mutex);
+    if (text[0] != 0) begin_hook(heap);
+    unlock(&heap->mutex);
     if (text[0] == 0) return;
-    tell_log(of, ZELAMIKU_LOG_WARNING, "threads wait for each other's monitors, and none goes on: %s", text);
-    end_hook(of);
+    tell_log(heap, ZELAMIKU_LOG_WARNING, "threads wait for each other's monitors, and none goes on: %s", text);
+    end_hook(heap);
 }
 
 /* Sleeps for a monitor until somebody rings, or until the deadline: false after it. At `look` it checks for a circle, once. */
-static bool sleep_for_monitor(heap *of, seat *own, uint64_t *look, uint64_t deadline) {
+static bool sleep_for_monitor(heap *heap, seat *own, uint64_t *look, uint64_t deadline) {
     if (*look >= deadline) return rest_seat(own, deadline);
     if (rest_seat(own, *look)) return true;
     *look = ZELAMIKU_NO_DEADLINE;
-    tell_circle(of, own);
+    tell_circle(heap, own);
     return true;
 }
 
-static size_t list_waits(heap *of, const uint32_t *owners, zelamiku_wait *waits, size_t count) {
+static size_t list_waits(heap *heap, const uint32_t *owners, zelamiku_wait *waits, size_t count) {
     size_t written = 0;
-    for (uint32_t lane = 0; lane < of->lanes && written < count; lane++) {
-        uint32_t wanted = seat_at(of, lane)->wanted;
+    for (uint32_t lane = 0; lane < heap->lanes && written < count; lane++) {
+        uint32_t wanted = seat_at(heap, lane)->wanted;
         if (wanted == 0 || owners[lane] == lane) continue; /* it has just taken it */
-        assert(wanted <= of->objects);
-        zelamiku_wait wait = {lane, wanted - 1, owners[lane], circle_of(of, owners, lane) != 0};
+        assert(wanted <= heap->objects);
+        zelamiku_wait wait = {lane, wanted - 1, owners[lane], circle_of(heap, owners, lane) != 0};
         waits[written++] = wait;
     }
     return written;
 }
 
-zelamiku_status zelamiku_heap_waits(zelamiku_heap heap_, zelamiku_wait *waits, size_t count, size_t *written) {
-    zelamiku_status status = ZELAMIKU_OK;
+static zelamiku_status waits_of(heap *heap, zelamiku_wait *waits, size_t count, size_t *written) {
     uint32_t owners[ZELAMIKU_MOST_LANES];
-    if (written == NULL || (waits == NULL && count > 0)) return nothing("waits", "give each");
-    *written = 0;
-    heap *of = begin_call(heap_, "waits", &status);
-    if (of == NULL) return status;
-    pthread_mutex_lock(&of->mutex);
-    status = (zelamiku_status)of->end_status;
+    lock(&heap->mutex);
+    zelamiku_status status = (zelamiku_status)heap->end_status;
     if (status == ZELAMIKU_OK) {
-        seat *by = borrow_seat(of);
-        find_owners(of, by, owners);
+        seat *by = borrow_seat(heap);
+        find_owners(heap, by, owners);
         if (by != NULL) return_seat(by);
-        *written = list_waits(of, owners, waits, count);
+        *written = list_waits(heap, owners, waits, count);
     }
-    pthread_mutex_unlock(&of->mutex);
-    if (status != ZELAMIKU_OK) status = tell_end(of, status, of->error, "waits");
-    end_call(of);
-    return status;
+    unlock(&heap->mutex);
+    return status == ZELAMIKU_OK ? status : tell_end(heap, status, heap->error, "waits");
+}
+
+zelamiku_status zelamiku_heap_waits(zelamiku_heap handle, zelamiku_wait *waits, size_t count, size_t *written) {
+    if (written == NULL || (waits == NULL && count > 0)) return null_pointer("waits", "give each");
+    *written = 0;
+    return ON_HEAP(handle, "waits", waits_of(heap, waits, count, written));
 }

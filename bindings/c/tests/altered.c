@@ -7,7 +7,7 @@
 #include "altered.h"
 
 enum { TRIES_BY_CHANCE = 10000, CONTROLLED = 2160, SHUT_GATES = 8 };
-static const zelamiku_plan PLAN = {.fields = FIELDS, .count = FIELDS_THERE, .objects = OBJECTS_THERE, .lanes = 2, .capacity = 2000};
+static const zelamiku_plan PLAN = {.size = sizeof(zelamiku_plan), .fields = FIELDS, .count = FIELDS_THERE, .objects = OBJECTS_THERE, .lanes = 2, .capacity = 2000};
 
 static image bases[3]; /* of heaps that were closed, that was let go in the midst of sections, and that nobody used */
 static unsigned openings, refusals, makings;
@@ -32,7 +32,7 @@ static void make_bases(void) {
         MUST(unlink("heap") == 0 || errno == ENOENT);
         MUST(zelamiku_heap_open(&heap, "heap", &PLAN, NULL) == ZELAMIKU_OK);
         if (i < 2) use(heap, i == 1);
-        MUST((i == 1 ? zelamiku_heap_abandon(heap) : zelamiku_heap_close(heap)) == ZELAMIKU_OK);
+        MUST((i == 1 ? zelamiku_heap_stop(heap, ZELAMIKU_ABANDONED) : zelamiku_heap_close(heap)) == ZELAMIKU_OK);
         read_image(&bases[i]);
     }
 }
@@ -64,18 +64,18 @@ static bool is_free(const image *it) {
 static void try_one(const image *altered) {
     static image after;
     zelamiku_heap heap;
-    zelamiku_report report;
+    zelamiku_report report = {.size = sizeof report};
     write_image(altered);
     zelamiku_status status = zelamiku_heap_open(&heap, "heap", &PLAN, &report);
     MUST(report.is_made == is_free(altered));
     if (status == ZELAMIKU_OK) {
         openings++;
         makings += report.is_made;
-        MUST(zelamiku_heap_stop(heap) == ZELAMIKU_OK);
+        MUST(zelamiku_heap_stop(heap, ZELAMIKU_CLOSED) == ZELAMIKU_OK);
         return;
     }
     refusals++;
-    MUST(status != ZELAMIKU_DEVICE && status != ZELAMIKU_LOST && zelamiku_heap_message()[0] != 0);
+    MUST(status != ZELAMIKU_DEVICE && status != ZELAMIKU_LOST && zelamiku_heap_failure(NULL)[0] != 0);
     read_image(&after);
     MUST(after.size == altered->size && memcmp(after.bytes, altered->bytes, after.size) == 0);
     MUST(access("heap.heapctl-new", F_OK) != 0);

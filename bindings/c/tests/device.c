@@ -1,4 +1,4 @@
-/* Tests of zelamiku_heap_open_on, over a device of this test's own, whose calls fail, tear and hang.
+/* Tests of heaps on a device of this test's own, whose calls fail, tear and hang.
  *
  *     device FOLDER [threads]     prints one line, and answers 0, where all is as it must be; with `threads` only what threads do at once */
 #define _GNU_SOURCE
@@ -9,14 +9,11 @@
 #include <unistd.h>
 #include "memory.h"
 
-#define MUST(is_so) \
-    do { \
-        if (!(is_so)) { \
-            fprintf(stderr, "line %d: %s (%s at call %u; %s)\n", __LINE__, #is_so, NAMES[fault], fault_at, zelamiku_heap_message()); \
-            exit(1); \
-        } \
-    } while (0)
-#define OK(call) MUST((call) == ZELAMIKU_OK)
+static const char *kind_of_fault; /* of the call that has met one */
+static void say_fault(void);
+#define SAY_MORE() say_fault()
+#include "must.h"
+
 
 /* What a fault does to a call. TORN: half of a write's bytes are there, and the answer is DEVICE. LATE: a write is whole, or a sync done, and the
  * answer is DEVICE. STRANGE: it answers what no function may. SILENT: as REFUSED, and errno stays what it was. */
@@ -33,12 +30,15 @@ enum { PATIENT = 240000 };              /* looks a millisecond apart, after whic
 static _Atomic bool refuses_more;       /* each call after the fault is refused: else who makes it again would do so at any moment */
 static _Atomic bool is_let_go, is_over; /* no call may come, and no line for the log */
 static _Atomic bool hook_hangs, is_in_hook;
-static const char *kind_of_fault;       /* of the call that has met it */
+
+static void say_fault(void) {
+    fprintf(stderr, "%s at call %u: ", NAMES[fault], fault_at);
+}
 
 static const zelamiku_field FIELDS[] = {{0, 0, 5, 0}, {1, 1, 6, 0}, {0, 0, 9, 1}};
 /* No round comes by itself. */
 static void note_line(void *of, uint32_t level, const char *text);
-static const zelamiku_plan PLAN = {.fields = FIELDS, .count = 3, .objects = 2, .lanes = 4, .capacity = 2000, .linger = UINT32_MAX, .log = note_line};
+static const zelamiku_plan PLAN = {.size = sizeof(zelamiku_plan), .fields = FIELDS, .count = 3, .objects = 2, .lanes = 4, .capacity = 2000, .linger = UINT32_MAX, .log = note_line};
 enum { SIZE = 1 << 18 };
 
 /* The heap of another host (value_on) has the plan too. */
@@ -110,14 +110,14 @@ static zelamiku_status flaky_sync(void *of) {
     return end_call(status);
 }
 
-static zelamiku_status flaky_size(void *of, uint64_t *size) {
+static zelamiku_status flaky_length(void *of, uint64_t *length) {
     unsigned met;
-    zelamiku_status status = begin_call("size", &met);
-    *size = met != NO_FAULT ? 12345 : ((memory *)of)->size;
+    zelamiku_status status = begin_call("length", &met);
+    *length = met != NO_FAULT ? 12345 : ((memory *)of)->size;
     return end_call(status);
 }
 
-static const zelamiku_device DEVICE = {flaky_read, flaky_write, flaky_sync, flaky_size, &held};
+static const zelamiku_device DEVICE = {sizeof(zelamiku_device), flaky_read, flaky_write, flaky_sync, flaky_length, &held};
 
 static void empty(void) {
     memset(held.now, 0, SIZE);
@@ -143,7 +143,7 @@ static zelamiku_heap heap;
 
 static void begin(void) {
     is_over = false;
-    OK(zelamiku_heap_open_on(&heap, "device", &DEVICE, &PLAN, NULL));
+    OK(open_on(&heap, "device", &DEVICE, &PLAN, NULL));
 }
 
 static zelamiku_thread begin_thread(void) {
@@ -187,7 +187,7 @@ static uint64_t value_on(const uint8_t *bytes) {
     zelamiku_device device = device_of(&copy);
     zelamiku_plan plan = PLAN;
     plan.must_exist = 1;
-    zelamiku_status status = zelamiku_heap_open_on(&other, "another host", &device, &plan, NULL);
+    zelamiku_status status = open_on(&other, "another host", &device, &plan, NULL);
     if (status == ZELAMIKU_OK) {
         OK(zelamiku_thread_begin(&own, other));
         OK(zelamiku_thread_enter(own, 0));
@@ -199,7 +199,7 @@ static uint64_t value_on(const uint8_t *bytes) {
         MUST(second == value + 1);
         OK(zelamiku_heap_close(other));
     } else {
-        MUST(status == ZELAMIKU_NOT_FORMATTED && other.number == 0);
+        MUST(status == ZELAMIKU_NO_HEAP && other.number == 0);
     }
     free_memory(&copy);
     return value;
@@ -218,19 +218,19 @@ static void make(void) {
 }
 
 static bool says(const char *text) {
-    return strstr(zelamiku_heap_message(), text) != NULL;
+    return strstr(zelamiku_heap_failure(NULL), text) != NULL;
 }
 
 /* ---- a life ---- */
 
 static void life(const char *folder) {
-    zelamiku_report report;
+    zelamiku_report report = {.size = sizeof report};
     char path[4096];
     uint64_t seen = 0, rounds = 0;
     empty();
     plant(NO_FAULT, 0);
-    OK(zelamiku_heap_open_on(&heap, "device", &DEVICE, &PLAN, &report));
-    MUST(report.is_made == 1 && report.told.found.fields == 3 && report.told.found.lanes == 4 && report.told.found.size < SIZE);
+    OK(open_on(&heap, "device", &DEVICE, &PLAN, &report));
+    MUST(report.is_made == 1 && report.fields == 3 && report.lanes == 4 && report.bytes < SIZE);
     zelamiku_thread own = begin_thread();
     MUST(load(own, 0) == 5 && load(own, 1) == 6 && load(own, 2) == 9);
     store(own, 7);
@@ -261,7 +261,7 @@ static void refuses(zelamiku_status wanted, const zelamiku_plan *plan, const cha
     memcpy(before.now, held.now, SIZE);
     heap.number = 1;
     is_over = false;
-    MUST(zelamiku_heap_open_on(&heap, "device", &DEVICE, plan, NULL) == wanted && heap.number == 0 && says(text));
+    MUST(open_on(&heap, "device", &DEVICE, plan, NULL) == wanted && heap.number == 0 && says(text));
     MUST(memcmp(before.now, held.now, SIZE) == 0);
     is_over = true;
     free_memory(&before);
@@ -272,18 +272,15 @@ static void refusals(void) {
     zelamiku_device device = DEVICE;
     device.sync = NULL;
     heap.number = 1;
-    MUST(zelamiku_heap_open_on(&heap, "device", &device, &PLAN, NULL) == ZELAMIKU_NOTHING && heap.number == 0 && says("four functions"));
-    MUST(zelamiku_heap_open_on(&heap, "device", NULL, &PLAN, NULL) == ZELAMIKU_NOTHING);
-    MUST(zelamiku_heap_open_on(&heap, NULL, &DEVICE, &PLAN, NULL) == ZELAMIKU_NOTHING);
-    MUST(zelamiku_heap_open_on(&heap, "device", &DEVICE, NULL, NULL) == ZELAMIKU_NOTHING);
-    MUST(zelamiku_heap_open_on(NULL, "device", &DEVICE, &PLAN, NULL) == ZELAMIKU_NOTHING);
+    MUST(open_on(&heap, "device", &device, &PLAN, NULL) == ZELAMIKU_BAD_ARGUMENT && heap.number == 0 && says("four functions"));
+    MUST(open_on(&heap, NULL, &DEVICE, &PLAN, NULL) == ZELAMIKU_BAD_ARGUMENT && open_on(NULL, "device", &DEVICE, &PLAN, NULL) == ZELAMIKU_BAD_ARGUMENT);
     empty();
     plant(NO_FAULT, 0);
     plan.must_exist = 1;
-    refuses(ZELAMIKU_NOT_FORMATTED, &plan, "device: open: there is no heap");
+    refuses(ZELAMIKU_NO_HEAP, &plan, "device: open: there is no heap");
     plan = PLAN;
     plan.lanes = 33;
-    refuses(ZELAMIKU_BAD_HEADER, &plan, "lanes is 33 in the plan");
+    refuses(ZELAMIKU_BAD_ARGUMENT, &plan, "lanes is 33 in the plan");
     plan.lanes = 32;
     refuses(ZELAMIKU_TOO_SMALL, &plan, "the device has 262144 bytes, and the heap takes");
     /* One byte anywhere in what the heap would take is something else's; past that nothing is looked at. */
@@ -326,7 +323,7 @@ static unsigned openings(unsigned what) {
         plant(what, at);
         is_over = false;
         heap.number = 1;
-        zelamiku_status status = zelamiku_heap_open_on(&heap, "device", &DEVICE, &PLAN, NULL);
+        zelamiku_status status = open_on(&heap, "device", &DEVICE, &PLAN, NULL);
         bool is_done = calls < at;
         fault_at = 0;
         if (is_done) {
@@ -334,7 +331,7 @@ static unsigned openings(unsigned what) {
             close_heap();
         } else {
             /* Also where the device has answered LOST, or nothing that it may: no heap is open that could be lost (zelamiku.h). */
-            MUST(status == ZELAMIKU_DEVICE && heap.number == 0 && zelamiku_heap_error() == cause() && says(strerror(cause())));
+            MUST(status == ZELAMIKU_DEVICE && heap.number == 0 && last_failure().error == cause() && says(strerror(cause())));
             is_over = true;
             if (strcmp(kind_of_fault, "read") == 0 || strcmp(kind_of_fault, "size") == 0) MUST(memcmp(before, held.now, SIZE) == 0);
         }
@@ -350,7 +347,7 @@ static void makes_again(const uint8_t *left) {
     zelamiku_heap other;
     memcpy(copy.now, left, SIZE);
     zelamiku_device device = device_of(&copy);
-    OK(zelamiku_heap_open_on(&other, "another host", &device, &PLAN, NULL));
+    OK(open_on(&other, "another host", &device, &PLAN, NULL));
     OK(zelamiku_heap_close(other));
     MUST(value_on(copy.durable) == 5);
     free_memory(&copy);
@@ -375,10 +372,10 @@ static unsigned makings(unsigned what) {
         empty();
         plant(what, at);
         is_over = false;
-        zelamiku_status status = zelamiku_heap_open_on(&heap, "device", &DEVICE, &PLAN, NULL);
+        zelamiku_status status = open_on(&heap, "device", &DEVICE, &PLAN, NULL);
         bool is_done = calls < at;
         fault_at = 0;
-        if (!is_done) MUST(status == ZELAMIKU_DEVICE && heap.number == 0 && zelamiku_heap_error() == cause());
+        if (!is_done) MUST(status == ZELAMIKU_DEVICE && heap.number == 0 && last_failure().error == cause());
         if (is_done) {
             OK(status);
             close_heap();
@@ -397,8 +394,8 @@ static unsigned makings(unsigned what) {
 /* Each later call of the heap answers its end. */
 static void after_loss(zelamiku_thread own) {
     uint64_t value = 0;
-    zelamiku_stats stats;
-    MUST(zelamiku_thread_await(own) == ZELAMIKU_LOST && zelamiku_heap_error() == ENOSPC && says("; make room, then close the heap and open it again"));
+    zelamiku_stats stats = {.size = sizeof stats};
+    MUST(zelamiku_thread_await(own) == ZELAMIKU_LOST && last_failure().error == ENOSPC && says("; make room, then close the heap and open it again"));
     MUST(zelamiku_thread_enter(own, 0) == ZELAMIKU_LOST && zelamiku_thread_load(own, 0, &value) == ZELAMIKU_LOST && value == 0);
     MUST(zelamiku_heap_stats(heap, &stats) == ZELAMIKU_OK && stats.sections == 1);
     MUST(zelamiku_heap_close(heap) == ZELAMIKU_LOST);
@@ -408,7 +405,7 @@ static void after_loss(zelamiku_thread own) {
 
 /* DEVICE is no end: the section is there still, and durable once the call was made again. */
 static void after_refusal(zelamiku_thread own) {
-    MUST(zelamiku_heap_error() == cause() && says(strerror(cause())) && says(cause() == EIO ? "; its disk has failed" : "; make room"));
+    MUST(last_failure().error == cause() && says(strerror(cause())) && says(cause() == EIO ? "; its disk has failed" : "; make room"));
     uint64_t crashed = value_on(held.durable);
     MUST(crashed == 7 || (crashed == 8 && fault == LATE));
     MUST(load(own, 0) == 8);
@@ -458,12 +455,12 @@ static unsigned rounds(unsigned what) {
 static void times(void) {
     enum { SLOW = 30000, LINGER = 300000 }; /* microseconds */
     zelamiku_plan plan = PLAN;
-    zelamiku_stats first, second;
+    zelamiku_stats first = {.size = sizeof first}, second = first;
     plan.linger = LINGER;
     empty();
     plant(NO_FAULT, 0);
     is_over = false;
-    OK(zelamiku_heap_open_on(&heap, "device", &DEVICE, &plan, NULL));
+    OK(open_on(&heap, "device", &DEVICE, &plan, NULL));
     zelamiku_thread own = begin_thread();
     takes = SLOW;
     store(own, 1);
@@ -479,7 +476,7 @@ static void times(void) {
     usleep(2 * LINGER); /* the helper has looked, and sleeps */
     store(own, 3);
     uint64_t begun = zelamiku_now();
-    for (unsigned tries = 0; zelamiku_thread_durable(own) < 3; tries++) {
+    for (unsigned tries = 0; progress(own).durable < 3; tries++) {
         MUST(tries < PATIENT);
         usleep(1000);
     }
@@ -497,13 +494,13 @@ static unsigned lossy_stops(bool abandons) {
         store(begin_thread(), 8);
         plant(REFUSED, at);
         refuses_more = true;
-        zelamiku_status status = abandons ? zelamiku_heap_abandon(heap) : zelamiku_heap_stop(heap);
+        zelamiku_status status = abandons ? zelamiku_heap_stop(heap, ZELAMIKU_ABANDONED) : zelamiku_heap_stop(heap, ZELAMIKU_CLOSED);
         bool is_done = calls < at;
         is_over = true;
         if (is_done)
             OK(status);
         else
-            MUST(status == ZELAMIKU_LOST && zelamiku_heap_error() == ENOSPC && says("lost: No space left on device; make room, then"));
+            MUST(status == ZELAMIKU_LOST && last_failure().error == ENOSPC && says("lost: No space left on device; make room, then"));
         uint64_t found = value_on(held.now);
         MUST(found == 8 || (found == 7 && !is_done));
         lost += found == 7;
@@ -536,7 +533,7 @@ static void *await_asleep(void *data) {
 
 static void *stop_heap(void *data) {
     sleeper *it = (sleeper *)data;
-    it->status = zelamiku_heap_stop(heap);
+    it->status = zelamiku_heap_stop(heap, ZELAMIKU_CLOSED);
     is_over = it->is_back = true;
     return NULL;
 }
@@ -556,7 +553,7 @@ static void until(_Atomic bool *is_so) {
 }
 
 static void until_entering(uint32_t count) {
-    zelamiku_stats stats = {.entering = count + 1};
+    zelamiku_stats stats = {.size = sizeof stats, .entering = count + 1};
     for (unsigned tries = 0; stats.entering != count; tries++) {
         MUST(tries < PATIENT);
         OK(zelamiku_heap_stats(heap, &stats));
@@ -611,7 +608,7 @@ static bool hangs(unsigned at, bool fails) {
         MUST(waiting.status == (is_lost ? ZELAMIKU_CLOSED : ZELAMIKU_OK));
     } else {
         MUST(pthread_join(threads[0], NULL) == 0 && waiting.status == ZELAMIKU_OK);
-        OK(zelamiku_heap_stop(heap));
+        OK(zelamiku_heap_stop(heap, ZELAMIKU_CLOSED));
         is_over = true;
     }
     MUST(pthread_join(threads[1], NULL) == 0 && entering.status == ZELAMIKU_CLOSED);

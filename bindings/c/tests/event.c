@@ -2,8 +2,7 @@
  *
  *     event FOLDER      answers 0 where all is as it must be
  *
- * With -DINLINE the calls of sections are those of zelamiku_inline.h. A machine that is slow, or stops for a while, is no mistake: times are
- * waited for in vain, or by what hangs. */
+ * A machine that is slow, or stops for a while, is no mistake: times are waited for in vain, or by what hangs. */
 #define _GNU_SOURCE
 #include <errno.h>
 #include <fcntl.h>
@@ -35,7 +34,6 @@ static int flaky_fdatasync(int file) {
 #define pwrite flaky_pwrite
 #define fdatasync flaky_fdatasync
 #include "../zelamiku_threads.c"
-#include "inline_calls.h"
 #include "must.h"
 
 enum { LANES = 6, A_WHILE = 20, PATIENCE = 240000 }; /* milliseconds; what isn't there after PATIENCE hangs */
@@ -44,7 +42,7 @@ static const zelamiku_field FIELDS[] = {{0, 0, 0, 0}, {1, 1, 0, 0}, {2, 2, 0, 0}
 static zelamiku_heap all;
 
 static void begin_heap(bool is_new) {
-    zelamiku_plan plan = {.fields = FIELDS, .count = 4, .objects = 4, .lanes = LANES, .ring = 4096, .linger = 2000};
+    zelamiku_plan plan = {.size = sizeof(zelamiku_plan), .fields = FIELDS, .count = 4, .objects = 4, .lanes = LANES, .ring = 4096, .linger = 2000};
     if (is_new) MUST(unlink("event.heap") == 0 || errno == ENOENT);
     MUST(zelamiku_heap_open(&all, "event.heap", &plan, NULL) == ZELAMIKU_OK);
 }
@@ -66,7 +64,7 @@ static zelamiku_thread begin_loop(int *event) {
 }
 
 static zelamiku_stats stats(void) {
-    zelamiku_stats found;
+    zelamiku_stats found = {.size = sizeof found};
     MUST(zelamiku_heap_stats(all, &found) == ZELAMIKU_OK);
     return found;
 }
@@ -74,9 +72,9 @@ static zelamiku_stats stats(void) {
 /* Whether no round is being made, and none comes unless a thread does something. */
 static bool is_at_rest(void) {
     heap *of = its_heap();
-    pthread_mutex_lock(&of->mutex);
+    lock(&of->mutex);
     bool is = !of->is_led && !of->has_work && cause_of(of, false) == ZELAMIKU_ROUND_NONE && !of->is_troubled;
-    pthread_mutex_unlock(&of->mutex);
+    unlock(&of->mutex);
     return is;
 }
 
@@ -108,7 +106,7 @@ static uint64_t ask_well(zelamiku_thread own) {
 
 /* Waits for the event, and asks for nothing more, until all that has ended is durable. */
 static void await_event(zelamiku_thread own, int event) {
-    while (ask_well(own) < zelamiku_thread_sections(own)) MUST(is_readable(event, PATIENCE));
+    while (ask_well(own) < progress(own).sections) MUST(is_readable(event, PATIENCE));
     MUST(!is_readable(event, 0));
 }
 
@@ -124,18 +122,18 @@ static void asks(void) {
     MUST(!is_readable(one, A_WHILE) && ask_well(a) == 0 && !is_readable(one, A_WHILE));
     /* Only who has asked is told, once. */
     add(a, 0);
-    MUST(ask_well(a) == 0 || zelamiku_thread_durable(a) == 1);
+    MUST(ask_well(a) == 0 || progress(a).durable == 1);
     await_event(a, one);
-    MUST(zelamiku_thread_durable(a) == 1 && !is_readable(one, A_WHILE) && !is_readable(two, 0));
+    MUST(progress(a).durable == 1 && !is_readable(one, A_WHILE) && !is_readable(two, 0));
     /* No news without an ask. */
     add(a, 0);
     MUST(!is_readable(one, 10 * A_WHILE));
-    UNTIL(zelamiku_thread_durable(a) == 2);
+    UNTIL(progress(a).durable == 2);
     MUST(!is_readable(one, A_WHILE) && ask_well(a) == 2 && !is_readable(one, A_WHILE));
     /* A thousand by one ask. */
     for (int i = 0; i < 1000; i++) add(a, 0);
     await_event(a, one);
-    MUST(zelamiku_thread_durable(a) == 1002 && stats().awaiting == 0);
+    MUST(progress(a).durable == 1002 && stats().awaiting == 0);
     /* One that has only looked: no round would come by itself. */
     uint64_t value = 0;
     MUST(zelamiku_thread_enter(b, 0) == ZELAMIKU_OK && zelamiku_thread_load(b, 0, &value) == ZELAMIKU_OK && value == 1002);
@@ -158,7 +156,7 @@ static void depends(void) {
     add(b, 1);
     MUST(ask_well(b) == 0);
     uint64_t rounds = rounds_at_rest();
-    MUST(!is_readable(event, 5 * A_WHILE) && zelamiku_thread_durable(b) == 0 && stats().awaiting == 1 && stats().rounds == rounds);
+    MUST(!is_readable(event, 5 * A_WHILE) && progress(b).durable == 0 && stats().awaiting == 1 && stats().rounds == rounds);
     MUST(zelamiku_thread_exit(a, 0) == ZELAMIKU_OK && is_readable(event, PATIENCE) && ask_well(b) == 1 && stats().awaiting == 0);
     /* Who gives its lane back waits no more. */
     MUST(zelamiku_thread_enter(a, 0) == ZELAMIKU_OK && zelamiku_thread_enter(a, 1) == ZELAMIKU_OK);
@@ -172,7 +170,7 @@ static void depends(void) {
 /* Sections of another monitor until there is no room: while syncs hang, or no round may give some. */
 static void fill(zelamiku_thread own, uint32_t object) {
     zelamiku_status status;
-    while ((status = zelamiku_thread_try_enter(own, object)) == ZELAMIKU_OK)
+    while ((status = zelamiku_thread_enter_until(own, object, 0)) == ZELAMIKU_OK)
         MUST(zelamiku_thread_store(own, object, 1) == ZELAMIKU_OK && zelamiku_thread_exit(own, object) == ZELAMIKU_OK);
     MUST(status == ZELAMIKU_BEHIND);
 }
@@ -187,7 +185,7 @@ static void room(void) {
     for (zelamiku_status status = ZELAMIKU_BEHIND; status != ZELAMIKU_OK;) {
         MUST(is_readable(one, PATIENCE));
         (void)ask_well(a);
-        status = zelamiku_thread_try_enter(a, 0);
+        status = zelamiku_thread_enter_until(a, 0, 0);
         MUST(status == ZELAMIKU_OK || status == ZELAMIKU_BEHIND);
     }
     MUST(zelamiku_thread_exit(a, 0) == ZELAMIKU_OK);
@@ -210,7 +208,7 @@ static void room(void) {
     do {
         MUST(is_readable(two, PATIENCE));
         (void)ask_well(b);
-    } while ((status = zelamiku_thread_try_enter(b, 1)) == ZELAMIKU_BEHIND);
+    } while ((status = zelamiku_thread_enter_until(b, 1, 0)) == ZELAMIKU_BEHIND);
     MUST(status == ZELAMIKU_OK && zelamiku_thread_exit(b, 1) == ZELAMIKU_OK);
     await_event(b, two);
     MUST(stats().awaiting == 0 && zelamiku_thread_end(a) == ZELAMIKU_OK && zelamiku_thread_end(b) == ZELAMIKU_OK);
@@ -227,11 +225,11 @@ static void ends_and_begins(void) {
     MUST(zelamiku_thread_end(a) == ZELAMIKU_OK && is_closed(event));
     MUST(zelamiku_thread_ask(a, &durable) == ZELAMIKU_NOTHING && durable == 0);
     MUST(zelamiku_thread_event(a, &other) == ZELAMIKU_NOTHING && other == -1);
-    MUST(zelamiku_thread_event(a, NULL) == ZELAMIKU_NOTHING && zelamiku_thread_ask(a, NULL) == ZELAMIKU_NOTHING);
+    MUST(zelamiku_thread_event(a, NULL) == ZELAMIKU_BAD_ARGUMENT && zelamiku_thread_ask(a, NULL) == ZELAMIKU_BAD_ARGUMENT);
     MUST(zelamiku_thread_ask((zelamiku_thread){0}, &durable) == ZELAMIKU_NOTHING);
     /* An event that is made after the ask tells of it too. */
     zelamiku_thread b = begin_thread();
-    MUST(zelamiku_thread_lane(b) == 0);
+    MUST(progress(b).lane == 0);
     __atomic_store_n(&syncs_hang, 1, __ATOMIC_SEQ_CST);
     add(b, 1);
     MUST(ask_well(b) == 0 && stats().awaiting == 1);
@@ -247,7 +245,7 @@ static void ends_and_begins(void) {
     MUST(setrlimit(RLIMIT_NOFILE, &none) == 0);
     zelamiku_status status = zelamiku_thread_event(c, &other);
     MUST(setrlimit(RLIMIT_NOFILE, &before) == 0);
-    MUST(status == ZELAMIKU_NO_MEMORY && other == -1 && zelamiku_heap_error() == EMFILE);
+    MUST(status == ZELAMIKU_NO_MEMORY && other == -1 && last_failure().error == EMFILE);
     MUST(zelamiku_thread_event(c, &other) == ZELAMIKU_OK && zelamiku_thread_end(c) == ZELAMIKU_OK && zelamiku_thread_end(b) == ZELAMIKU_OK);
     close_heap_well();
 }
@@ -291,7 +289,7 @@ static void closed_by_the_program(void) {
     give_away(event);
     add(a, 0);
     (void)ask_well(a);
-    UNTIL(zelamiku_thread_durable(a) == 1 && stats().awaiting == 0);
+    UNTIL(progress(a).durable == 1 && stats().awaiting == 0);
     MUST(ask_well(a) == 1 && is_untouched(event));
     pid_t child = fork();
     if (child == 0) _exit(is_untouched(event) && is_closed(two) ? 0 : 1);
@@ -330,7 +328,7 @@ static void failing_writes(void) {
     add(b, 1);
     UNTIL(stats().troubles == 1);
     __atomic_store_n(&writes_fail, 0, __ATOMIC_SEQ_CST);
-    UNTIL(zelamiku_thread_durable(b) == 1);
+    UNTIL(progress(b).durable == 1);
     add(a, 0);
     await_event(a, event);
     MUST(!is_readable(idle, 0));
@@ -341,12 +339,12 @@ static void failing_writes(void) {
     for (unsigned told = 1; told <= 2; told++) {
         __atomic_store_n(&failures, 1, __ATOMIC_SEQ_CST);
         MUST(is_readable(event, PATIENCE) && stats().troubles == troubles + told);
-        MUST(zelamiku_thread_ask(a, &durable) == ZELAMIKU_DEVICE && durable == 1 && zelamiku_heap_error() == ENOSPC);
+        MUST(zelamiku_thread_ask(a, &durable) == ZELAMIKU_DEVICE && durable == 1 && last_failure().error == ENOSPC);
         MUST(!is_readable(event, 0) && ask_well(a) == 1);
     }
     MUST(!is_readable(idle, 0));
     __atomic_store_n(&writes_fail, 0, __ATOMIC_SEQ_CST);
-    while (zelamiku_thread_durable(a) < 2) {
+    while (progress(a).durable < 2) {
         MUST(is_readable(event, PATIENCE));
         zelamiku_status status = zelamiku_thread_ask(a, &durable);
         MUST(status == ZELAMIKU_OK || status == ZELAMIKU_DEVICE);
@@ -364,14 +362,14 @@ static void failing_syncs(void) {
     __atomic_store_n(&syncs_fail, 1, __ATOMIC_SEQ_CST);
     add(a, 0);
     while (zelamiku_thread_ask(a, &durable) == ZELAMIKU_OK) MUST(is_readable(event, PATIENCE));
-    MUST(zelamiku_thread_ask(a, &durable) == ZELAMIKU_LOST && durable == 0 && zelamiku_heap_error() == EIO && !is_readable(event, 0));
+    MUST(zelamiku_thread_ask(a, &durable) == ZELAMIKU_LOST && durable == 0 && last_failure().error == EIO && !is_readable(event, 0));
     __atomic_store_n(&syncs_fail, 0, __ATOMIC_SEQ_CST);
     MUST(zelamiku_heap_close(all) == ZELAMIKU_LOST && is_readable(event, 0) && zelamiku_thread_end(a) == ZELAMIKU_LOST && is_closed(event));
 }
 
 static void *stop_soon(void *data) {
     usleep(50000);
-    MUST(zelamiku_heap_stop(all) == ZELAMIKU_OK);
+    MUST(zelamiku_heap_stop(all, ZELAMIKU_CLOSED) == ZELAMIKU_OK);
     return data;
 }
 
@@ -427,8 +425,8 @@ static void *loop(void *data) {
     MUST(edges >= 0 && epoll_ctl(edges, EPOLL_CTL_ADD, event, &edge) == 0);
     for (uint64_t sent = 0, durable = 0; sent < 400;) {
         for (unsigned clients = 1 + (unsigned)(sent * 7 % 16); clients > 0; clients--, sent++) add(own, (uint32_t)(sent % 4));
-        MUST(zelamiku_thread_ask(own, &durable) == ZELAMIKU_OK && durable <= zelamiku_thread_sections(own));
-        if (durable == zelamiku_thread_sections(own)) continue;
+        MUST(zelamiku_thread_ask(own, &durable) == ZELAMIKU_OK && durable <= progress(own).sections);
+        if (durable == progress(own).sections) continue;
         MUST(is_by_edge ? epoll_wait(edges, &edge, 1, PATIENCE) == 1 : is_readable(event, PATIENCE));
     }
     await_event(own, event);
@@ -471,9 +469,9 @@ static void *loop_until_the_end(void *data) {
         if (status == ZELAMIKU_OK) status = zelamiku_thread_store(own, 0, value + 1);
         if (status == ZELAMIKU_OK) status = zelamiku_thread_exit(own, 0);
         if (status != ZELAMIKU_OK || zelamiku_thread_ask(own, &durable) != ZELAMIKU_OK) break;
-        if (zelamiku_thread_sections(own) - durable > 8) MUST(is_readable(event, PATIENCE));
+        if (progress(own).sections - durable > 8) MUST(is_readable(event, PATIENCE));
     }
-    while (zelamiku_thread_ask(own, &durable) == ZELAMIKU_OK && durable < zelamiku_thread_sections(own)) MUST(is_readable(event, PATIENCE));
+    while (zelamiku_thread_ask(own, &durable) == ZELAMIKU_OK && durable < progress(own).sections) MUST(is_readable(event, PATIENCE));
     told = durable;
     MUST(zelamiku_thread_end(own) == ZELAMIKU_CLOSED && is_closed(event));
     return data;
@@ -486,7 +484,7 @@ static void ends_in_full_run(void) {
         MUST(pthread_create(&thread, NULL, loop_until_the_end, NULL) == 0);
         while (stats().sections < 3) usleep(100);
         usleep(i * 300);
-        MUST(zelamiku_heap_stop(all) == ZELAMIKU_OK && pthread_join(thread, NULL) == 0);
+        MUST(zelamiku_heap_stop(all, ZELAMIKU_CLOSED) == ZELAMIKU_OK && pthread_join(thread, NULL) == 0);
         begin_heap(false);
         zelamiku_thread own = begin_thread();
         uint64_t value = 0;
@@ -498,7 +496,7 @@ static void ends_in_full_run(void) {
 
 /* A thread that has never ended its use of a heap keeps its event until another heap has the place. Its handle is nobody's then. */
 static void places(void) {
-    static const zelamiku_plan SMALL = {.fields = FIELDS, .count = 4, .objects = 4, .lanes = 1};
+    static const zelamiku_plan SMALL = {.size = sizeof(zelamiku_plan), .fields = FIELDS, .count = 4, .objects = 4, .lanes = 1};
     int event;
     begin_heap(true);
     zelamiku_thread first = begin_thread(), second = begin_loop(&event);

@@ -187,8 +187,8 @@ static void *watched_malloc(size_t size) {
 
 static const zelamiku_field FIELD = {0, 0, 5, 0};
 /* No round comes by itself: which call of a round fails is told beforehand. */
-static zelamiku_plan plan = {.fields = &FIELD, .count = 1, .objects = 1, .lanes = 2, .capacity = 2000, .linger = UINT32_MAX};
-static zelamiku_report report;
+static zelamiku_plan plan = {.size = sizeof(zelamiku_plan), .fields = &FIELD, .count = 1, .objects = 1, .lanes = 2, .capacity = 2000, .linger = UINT32_MAX};
+static zelamiku_report report = {.size = sizeof report};
 
 static zelamiku_status open_heap(zelamiku_heap *heap) {
     return zelamiku_heap_open(heap, "heap", &plan, &report);
@@ -276,10 +276,10 @@ static void rights(void) {
 static void life(void) {
     zelamiku_heap heap;
     remove_file();
-    MUST(open_heap(&heap) == ZELAMIKU_OK && report.is_made == 1 && report.told.found.lanes == 2 && report.told.found.capacity == 2000);
+    MUST(open_heap(&heap) == ZELAMIKU_OK && report.is_made == 1 && report.lanes == 2 && report.capacity == 2000);
     MUST(add(heap, 2) == 7 && zelamiku_heap_close(heap) == ZELAMIKU_OK);
-    MUST(open_heap(&heap) == ZELAMIKU_OK && report.is_made == 0 && report.told.kept[0] == 1 && add(heap, 1) == 8);
-    MUST(zelamiku_heap_abandon(heap) == ZELAMIKU_OK && found() == 8);
+    MUST(open_heap(&heap) == ZELAMIKU_OK && report.is_made == 0 && report.kept[0] == 1 && add(heap, 1) == 8);
+    MUST(zelamiku_heap_stop(heap, ZELAMIKU_ABANDONED) == ZELAMIKU_OK && found() == 8);
 }
 
 /* An image of version 1, as a library from before there were transient fields left it, isn't opened but where the plan says so. Where the two
@@ -294,7 +294,7 @@ static void old(void) {
         MUST(pread(file, &gate, 1, SLOTS[i]) == 1);
         if (gate == 0xa5) MUST(pwrite(file, &version, 1, SLOTS[i] + 19) == 1);
     }
-    MUST(close(file) == 0 && open_heap(&heap) == ZELAMIKU_OLD_VERSION && strstr(zelamiku_heap_message(), "upgrades = 1") != NULL);
+    MUST(close(file) == 0 && open_heap(&heap) == ZELAMIKU_OLD_VERSION && strstr(zelamiku_heap_failure(NULL), "upgrades = 1") != NULL);
     plan.upgrades = 1;
     MUST(open_heap(&heap) == ZELAMIKU_OK && report.is_upgraded == 1 && add(heap, 0) == 8 && zelamiku_heap_close(heap) == ZELAMIKU_OK);
     MUST(open_heap(&heap) == ZELAMIKU_OK && report.is_upgraded == 0 && zelamiku_heap_close(heap) == ZELAMIKU_OK);
@@ -305,16 +305,16 @@ static void old(void) {
 /* One open has the file's heap at a time; and one that was replaced meanwhile has none. */
 static void others(void) {
     zelamiku_heap heap;
-    MUST(zelamiku_heap_open(&heap, "no folder/heap", &plan, NULL) == ZELAMIKU_DEVICE && strstr(zelamiku_heap_message(), "; make its folder first") != NULL);
+    MUST(zelamiku_heap_open(&heap, "no folder/heap", &plan, NULL) == ZELAMIKU_DEVICE && strstr(zelamiku_heap_failure(NULL), "; make its folder first") != NULL);
     life();
     int file = open("heap", O_RDWR | O_CLOEXEC);
     MUST(file >= 0 && flock(file, LOCK_SH | LOCK_NB) == 0);
-    MUST(open_heap(&heap) == ZELAMIKU_BUSY && strstr(zelamiku_heap_message(), "heap: open: another process has the heap") != NULL);
+    MUST(open_heap(&heap) == ZELAMIKU_BUSY && strstr(zelamiku_heap_failure(NULL), "heap: open: another process has the heap") != NULL);
     MUST(close(file) == 0 && found() == 8);
     file = open("spare", O_RDWR | O_CREAT | O_CLOEXEC, 0600);
     MUST(file >= 0 && close(file) == 0);
     replaces = 1;
-    MUST(open_heap(&heap) == ZELAMIKU_BUSY && strstr(zelamiku_heap_message(), "replaced or removed") != NULL);
+    MUST(open_heap(&heap) == ZELAMIKU_BUSY && strstr(zelamiku_heap_failure(NULL), "replaced or removed") != NULL);
     replaces = 0;
     MUST(rename("moved", "heap") == 0 && found() == 8);
     MUST(zelamiku_heap_open(&heap, "spare", &plan, NULL) == ZELAMIKU_OK && zelamiku_heap_close(heap) == ZELAMIKU_OK);
@@ -326,11 +326,11 @@ static void sizes(void) {
     life();
     MUST(truncate("heap", (off_t)1 << 40) == 0);
     most = 0;
-    MUST(found() == 8 && most == report.told.found.size);
+    MUST(found() == 8 && most == report.bytes);
     int file = open("heap", O_RDWR | O_CLOEXEC);
     MUST(pwrite(file, "\xff", 1, 24) == 1);
     most = 0;
-    MUST(open_heap(&heap) == ZELAMIKU_BAD_HEADER && most <= ZELAMIKU_HEAD_BYTES);
+    MUST(open_heap(&heap) == ZELAMIKU_DAMAGED_FILE && most <= ZELAMIKU_HEAD_BYTES);
     MUST(pwrite(file, "x", 1, 0) == 1 && open_heap(&heap) == ZELAMIKU_NOT_FORMATTED && most <= ZELAMIKU_HEAD_BYTES && close(file) == 0);
 }
 
@@ -345,7 +345,7 @@ static void rings(void) {
     for (int opens = 0; opens < 2; opens++) {
         MUST(open_heap(&heap) == ZELAMIKU_OK && zelamiku_thread_begin(&own, heap) == ZELAMIKU_OK);
         for (int section = 0; section < SECTIONS; section++) {
-            MUST(zelamiku_thread_try_enter(own, 0) == ZELAMIKU_OK);
+            MUST(zelamiku_thread_enter_until(own, 0, 0) == ZELAMIKU_OK);
             for (uint64_t i = 0; i < STORES; i++) MUST(zelamiku_thread_store(own, 0, i) == ZELAMIKU_OK);
             MUST(zelamiku_thread_exit(own, 0) == ZELAMIKU_OK);
         }
@@ -361,23 +361,17 @@ static void read_head(uint8_t *head) {
 
 /* ---- the helper's lane ---- */
 
-static zelamiku_stats stats_of(zelamiku_heap heap) {
-    zelamiku_stats stats;
-    MUST(zelamiku_heap_stats(heap, &stats) == ZELAMIKU_OK);
-    return stats;
-}
-
 /* Just so many threads may use the heap at once. Each of them makes a section durable, by rounds of so many syncs. */
 static void use_lanes(zelamiku_heap heap, uint32_t threads, uint64_t syncs) {
     zelamiku_thread own[ZELAMIKU_MOST_LANES], another;
     for (uint32_t i = 0; i < threads; i++) MUST(zelamiku_thread_begin(&own[i], heap) == ZELAMIKU_OK);
     MUST(zelamiku_thread_begin(&another, heap) == ZELAMIKU_NONE_LEFT);
-    zelamiku_stats before = stats_of(heap);
+    zelamiku_stats before = stats_now(heap);
     for (uint32_t i = 0; i < threads; i++) {
         MUST(zelamiku_thread_enter(own[i], 0) == ZELAMIKU_OK && zelamiku_thread_store(own[i], 0, 100 + i) == ZELAMIKU_OK);
         MUST(zelamiku_thread_exit(own[i], 0) == ZELAMIKU_OK && zelamiku_thread_await(own[i]) == ZELAMIKU_OK);
     }
-    zelamiku_stats after = stats_of(heap);
+    zelamiku_stats after = stats_now(heap);
     uint64_t two = after.two_sync_rounds - before.two_sync_rounds, four = after.four_sync_rounds - before.four_sync_rounds;
     MUST((syncs == 2 ? two : four) > 0 && (syncs == 2 ? four : two) == 0 && after.syncs - before.syncs == 2 * two + 4 * four);
     for (uint32_t i = 0; i < threads; i++) MUST(zelamiku_thread_end(own[i]) == ZELAMIKU_OK);
@@ -385,9 +379,8 @@ static void use_lanes(zelamiku_heap heap, uint32_t threads, uint64_t syncs) {
 
 /* The report has so many lanes, each with a section that was kept, and nothing of the helper's. */
 static void has_kept(uint32_t threads, uint64_t each) {
-    const zelamiku_found *found = &report.told.found;
-    MUST(report.is_made == 0 && found->lanes == threads && found->threads == threads && found->dropped == 0 && found->undone == 0);
-    for (uint32_t lane = 0; lane < ZELAMIKU_MOST_LANES; lane++) MUST(report.told.kept[lane] == (lane < threads ? each : 0));
+    MUST(report.is_made == 0 && report.lanes == threads && report.dropped == 0 && report.undone == 0);
+    for (uint32_t lane = 0; lane < ZELAMIKU_MOST_LANES; lane++) MUST(report.kept[lane] == (lane < threads ? each : 0));
 }
 
 /* A heap is made with a lane more than threads, which is the helper's, but with 32 of them. Neither a close nor a crash tells of it. */
@@ -410,12 +403,12 @@ static void lanes(void) {
         plan.lanes = threads;
         plan.log = note_warning;
         without_lane = 0;
-        MUST(open_heap(&heap) == ZELAMIKU_OK && report.is_made == 1 && report.told.found.lanes == threads && report.told.found.threads == threads);
+        MUST(open_heap(&heap) == ZELAMIKU_OK && report.is_made == 1 && report.lanes == threads);
         MUST(without_lane == (threads == 32));
         use_lanes(heap, threads, there > threads ? 2 : 4);
-        MUST(zelamiku_heap_abandon(heap) == ZELAMIKU_OK);
+        MUST(zelamiku_heap_stop(heap, ZELAMIKU_ABANDONED) == ZELAMIKU_OK);
         read_head(head);
-        MUST(zelamiku_head(head, sizeof head, &shape) == ZELAMIKU_OK && shape.lanes == there && shape.size == report.told.found.size);
+        MUST(zelamiku_head(head, sizeof head, &shape) == ZELAMIKU_OK && shape.lanes == there && shape.size == report.bytes);
         MUST(open_heap(&heap) == ZELAMIKU_OK);
         has_kept(threads, 1);
         use_lanes(heap, threads, there > threads ? 2 : 4);
@@ -429,7 +422,7 @@ static void lanes(void) {
     MUST(zelamiku_heap_close(heap) == ZELAMIKU_OK);
     plan.lanes = 5;
     without_lane = 0;
-    MUST(open_heap(&heap) == ZELAMIKU_OK && report.told.found.lanes == 5 && without_lane == 1);
+    MUST(open_heap(&heap) == ZELAMIKU_OK && report.lanes == 5 && without_lane == 1);
     use_lanes(heap, 5, 4);
     MUST(zelamiku_heap_close(heap) == ZELAMIKU_OK && open_heap(&heap) == ZELAMIKU_OK);
     has_kept(5, 1);
@@ -462,8 +455,8 @@ static void openings(void) {
     read_head(before);
     for (int call = 1; call <= 5; call++) {
         fails_in = call;
-        MUST(open_heap(&heap) == ZELAMIKU_DEVICE && fails_in == 0 && strstr(zelamiku_heap_message(), "No space left") != NULL);
-        MUST((strstr(zelamiku_heap_message(), "its folder can't be synced") != NULL) == (call == 5));
+        MUST(open_heap(&heap) == ZELAMIKU_DEVICE && fails_in == 0 && strstr(zelamiku_heap_failure(NULL), "No space left") != NULL);
+        MUST((strstr(zelamiku_heap_failure(NULL), "its folder can't be synced") != NULL) == (call == 5));
         read_head(after);
         MUST(memcmp(before, after, ZELAMIKU_HEAD_BYTES) == 0);
     }
@@ -497,9 +490,9 @@ static int failing_makings(void) {
             MUST(left > 0 && add(heap, 1) == 6 && zelamiku_heap_close(heap) == ZELAMIKU_OK);
             return call - 1;
         }
-        MUST(status == ZELAMIKU_DEVICE && zelamiku_heap_error() == ENOSPC && report.is_made == 0);
+        MUST(status == ZELAMIKU_DEVICE && last_failure().error == ENOSPC && report.is_made == 0);
         if (was_there)
-            MUST(stat("heap", &info) == 0 && (info.st_size == 0 || strstr(zelamiku_heap_message(), "its folder can't be synced") != NULL));
+            MUST(stat("heap", &info) == 0 && (info.st_size == 0 || strstr(zelamiku_heap_failure(NULL), "its folder can't be synced") != NULL));
         else
             MUST(is_missing("heap"));
         MUST(found() == 5 && (!was_there || mode_of("heap") == 0640));
@@ -511,7 +504,7 @@ static void unknown_drafts(void) {
     zelamiku_heap heap;
     remove_file();
     fstat_error = EIO;
-    MUST(open_heap(&heap) == ZELAMIKU_DEVICE && zelamiku_heap_error() == EIO && is_missing("heap") && is_missing(BESIDE_IT));
+    MUST(open_heap(&heap) == ZELAMIKU_DEVICE && last_failure().error == EIO && is_missing("heap") && is_missing(BESIDE_IT));
     fstat_error = 0;
     MUST(found() == 5);
 }
@@ -524,7 +517,7 @@ static int failing_rounds(void) {
         zelamiku_thread own;
         remove_file();
         MUST(open_heap(&heap) == ZELAMIKU_OK && add(heap, 2) == 7 && zelamiku_thread_begin(&own, heap) == ZELAMIKU_OK);
-        uint64_t rounds = stats_of(heap).two_sync_rounds;
+        uint64_t rounds = stats_now(heap).two_sync_rounds;
         fails_in = call;
         MUST(zelamiku_thread_enter(own, 0) == ZELAMIKU_OK && zelamiku_thread_store(own, 0, 8) == ZELAMIKU_OK);
         zelamiku_status status = zelamiku_thread_exit(own, 0);
@@ -535,11 +528,11 @@ static int failing_rounds(void) {
             MUST(left > 0 && zelamiku_heap_close(heap) == ZELAMIKU_OK && found() == 8);
             return call - 1;
         }
-        MUST(zelamiku_heap_error() == ENOSPC);
+        MUST(last_failure().error == ENOSPC);
         if (status == ZELAMIKU_DEVICE) {
             MUST(zelamiku_thread_await(own) == ZELAMIKU_OK);
-            UNTIL(stats_of(heap).two_sync_rounds == rounds + 1); /* which are counted after their sections */
-            MUST(zelamiku_heap_abandon(heap) == ZELAMIKU_OK && found() == 8);
+            UNTIL(stats_now(heap).two_sync_rounds == rounds + 1); /* which are counted after their sections */
+            MUST(zelamiku_heap_stop(heap, ZELAMIKU_ABANDONED) == ZELAMIKU_OK && found() == 8);
         } else {
             MUST(status == ZELAMIKU_LOST && zelamiku_heap_close(heap) == ZELAMIKU_LOST);
             uint64_t value = found();
@@ -626,7 +619,7 @@ static int old_makings(void) {
             } else {
                 int file = open("heap", O_RDONLY | O_CLOEXEC);
                 MUST(read(file, after, sizeof after) == (ssize_t)size && memcmp(image, after, size) == 0 && close(file) == 0);
-                MUST(strstr(zelamiku_heap_message(), "its first bytes are damaged") != NULL);
+                MUST(strstr(zelamiku_heap_failure(NULL), "its first bytes are damaged") != NULL);
             }
         }
     MUST(made > 0 && made < count);
@@ -683,7 +676,7 @@ static int opened_at_once(int start, int tried, int end) {
     if (read(start, &go, 1) != 0) return 3;
     zelamiku_status status = open_heap(&heap);
     int answer = status == ZELAMIKU_BUSY ? 0 : status == ZELAMIKU_OK ? 1 + (int)report.is_made : 3;
-    if (answer == 3) fprintf(stderr, "%s\n", zelamiku_heap_message());
+    if (answer == 3) fprintf(stderr, "%s\n", zelamiku_heap_failure(NULL));
     return write(tried, &go, 1) == 1 && read(end, &go, 1) == 0 ? answer : 3;
 }
 
@@ -783,7 +776,7 @@ static void links(void) {
         MUST(unlink("real/heap") == 0);
     }
     MUST(symlink("../circle", "real/circle") == 0 && symlink("real/circle", "circle") == 0);
-    MUST(zelamiku_heap_open(&heap, "circle", &plan, NULL) == ZELAMIKU_DEVICE && zelamiku_heap_error() == ELOOP);
+    MUST(zelamiku_heap_open(&heap, "circle", &plan, NULL) == ZELAMIKU_DEVICE && last_failure().error == ELOOP);
 }
 
 /* ---- copies ---- */
@@ -856,9 +849,9 @@ static int failing_copies(zelamiku_heap heap) {
             MUST(left > 0 && !is_old && value_at("copy") == value);
             return call - 1;
         }
-        MUST(status == ZELAMIKU_DEVICE && zelamiku_heap_error() == ENOSPC);
-        bool is_new = strstr(zelamiku_heap_message(), "copy: copy: the new copy is at the path, but its folder can't be synced: No space") != NULL;
-        MUST(is_new || strstr(zelamiku_heap_message(), "the copy can't be written: No space left on device; what was at the path is there still"));
+        MUST(status == ZELAMIKU_DEVICE && last_failure().error == ENOSPC);
+        bool is_new = strstr(zelamiku_heap_failure(NULL), "copy: copy: the new copy is at the path, but its folder can't be synced: No space") != NULL;
+        MUST(is_new || strstr(zelamiku_heap_failure(NULL), "the copy can't be written: No space left on device; what was at the path is there still"));
         MUST(is_old != is_new && (is_old || value_at("copy") == value));
     }
 }
@@ -881,7 +874,7 @@ static int copies(void) {
     make_file_of("copy.heapctl-new", "left", 4, 0600);
     int file = open("copy.heapctl-new", O_RDWR | O_CLOEXEC);
     MUST(file >= 0 && flock(file, LOCK_EX | LOCK_NB) == 0 && zelamiku_heap_copy(heap, "copy") == ZELAMIKU_BUSY);
-    MUST(strstr(zelamiku_heap_message(), "copy: copy: a heap, a copy or an image is being made there") != NULL);
+    MUST(strstr(zelamiku_heap_failure(NULL), "copy: copy: a heap, a copy or an image is being made there") != NULL);
     MUST(zelamiku_heap_open(&other, "copy", &plan, NULL) == ZELAMIKU_OK && zelamiku_heap_close(other) == ZELAMIKU_OK && unlink("copy") == 0);
     MUST(zelamiku_heap_open(&other, "copy", &plan, NULL) == ZELAMIKU_BUSY && is_missing("copy") && close(file) == 0);
     MUST(zelamiku_heap_copy(heap, "copy") == ZELAMIKU_OK && is_missing("copy.heapctl-new"));
@@ -912,7 +905,7 @@ static uint32_t astray_after(zelamiku_heap heap) {
     const struct heap *of = &heaps[heap.number >> 8 & 255];
     uint64_t before = of->path_checked; /* nobody leads now */
     UNTIL(add(heap, 0) > 0 && of->path_checked != before);
-    return stats_of(heap).is_astray;
+    return stats_now(heap).is_astray;
 }
 
 /* A file that is removed, or replaced, while its heap is open, by a path from the folder that the process was in: it is told once, and the heap
@@ -934,7 +927,7 @@ static void astray(void) {
 /* While another file has the path's heap, or did, whoever asks for it in this process is refused. */
 static void must_stay_alone(void) {
     zelamiku_heap other;
-    MUST(open_heap(&other) == ZELAMIKU_BUSY && strstr(zelamiku_heap_message(), "this process has its heap open already") != NULL);
+    MUST(open_heap(&other) == ZELAMIKU_BUSY && strstr(zelamiku_heap_failure(NULL), "this process has its heap open already") != NULL);
     MUST(zelamiku_heap_open(&other, "spare", &plan, NULL) == ZELAMIKU_OK && zelamiku_heap_copy(other, "heap") == ZELAMIKU_BUSY);
     MUST(zelamiku_heap_close(other) == ZELAMIKU_OK);
 }
@@ -955,7 +948,7 @@ static void closed_by_the_program(int at, const char *reused_for) {
     if (at == 0) must_stay_alone();
     stolen_at = at;
     MUST(zelamiku_thread_enter(own, 0) == ZELAMIKU_OK && zelamiku_thread_store(own, 0, 100) == ZELAMIKU_OK);
-    MUST(zelamiku_thread_exit(own, 0) == ZELAMIKU_OK && zelamiku_thread_await(own) == ZELAMIKU_LOST && zelamiku_heap_error() == EBADF);
+    MUST(zelamiku_thread_exit(own, 0) == ZELAMIKU_OK && zelamiku_thread_await(own) == ZELAMIKU_LOST && last_failure().error == EBADF);
     MUST(zelamiku_thread_end(own) == ZELAMIKU_LOST && zelamiku_heap_close(heap) == ZELAMIKU_LOST && stolen_at == 0);
     if (reused_for != NULL) MUST(fstat(file, &info) == 0 && close(file) == 0);
     if (reused_for != NULL && strcmp(reused_for, "notes") == 0) MUST(info.st_size == 0 && unlink("notes") == 0);
@@ -996,16 +989,16 @@ static void volumes(void) {
         return;
     }
     plan.must_exist = 1;
-    MUST(zelamiku_heap_open(&heap, path, &plan, NULL) == ZELAMIKU_NOT_FORMATTED && strstr(zelamiku_heap_message(), "there is no heap") != NULL);
+    MUST(zelamiku_heap_open(&heap, path, &plan, NULL) == ZELAMIKU_NO_HEAP && strstr(zelamiku_heap_failure(NULL), "there is no heap") != NULL);
     plan = usual;
     plan.capacity = 65536;
-    MUST(zelamiku_heap_open(&heap, path, &plan, NULL) == ZELAMIKU_TOO_SMALL && strstr(zelamiku_heap_message(), "the device has 1048576 bytes") != NULL);
+    MUST(zelamiku_heap_open(&heap, path, &plan, NULL) == ZELAMIKU_TOO_SMALL && strstr(zelamiku_heap_failure(NULL), "the device has 1048576 bytes") != NULL);
     plan = usual;
     MUST(zelamiku_heap_open(&heap, path, &plan, &report) == ZELAMIKU_OK && report.is_made == 1 && add(heap, 2) == 7);
-    MUST(zelamiku_heap_open(&other, path, &plan, NULL) == ZELAMIKU_BUSY && strstr(zelamiku_heap_message(), "the device is in use") != NULL);
+    MUST(zelamiku_heap_open(&other, path, &plan, NULL) == ZELAMIKU_BUSY && strstr(zelamiku_heap_failure(NULL), "the device is in use") != NULL);
     MUST(open(path, O_RDWR | O_EXCL | O_CLOEXEC) == -1 && errno == EBUSY);
     MUST(zelamiku_heap_copy(heap, "copy of a volume") == ZELAMIKU_OK && mode_of("copy of a volume") == 0600);
-    MUST(zelamiku_heap_copy(heap, path) == ZELAMIKU_DEVICE && zelamiku_heap_abandon(heap) == ZELAMIKU_OK);
+    MUST(zelamiku_heap_copy(heap, path) == ZELAMIKU_DEVICE && zelamiku_heap_stop(heap, ZELAMIKU_ABANDONED) == ZELAMIKU_OK);
     MUST(zelamiku_heap_open(&heap, path, &plan, &report) == ZELAMIKU_OK && report.is_made == 0 && add(heap, 1) == 8);
     MUST(zelamiku_heap_close(heap) == ZELAMIKU_OK && pwrite(volume, "x", 1, 0) == 1 && pread(volume, before, sizeof before, 0) == sizeof before);
     MUST(zelamiku_heap_open(&heap, path, &plan, NULL) == ZELAMIKU_NOT_FORMATTED);

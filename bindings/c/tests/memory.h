@@ -28,8 +28,8 @@ static inline zelamiku_status memory_sync(void *context) {
     return ZELAMIKU_OK;
 }
 
-static inline zelamiku_status memory_size(void *context, uint64_t *size) {
-    *size = ((memory *)context)->size;
+static inline zelamiku_status memory_length(void *context, uint64_t *length) {
+    *length = ((memory *)context)->size;
     return ZELAMIKU_OK;
 }
 
@@ -45,7 +45,14 @@ static inline void free_memory(memory *of) {
 }
 
 static inline zelamiku_device device_of(memory *of) {
-    zelamiku_device device = {memory_read, memory_write, memory_sync, memory_size, of};
+    zelamiku_device device = {.size = sizeof device, .read = memory_read, .write = memory_write, .sync = memory_sync, .length = memory_length, .context = of};
     return device;
+}
+
+static inline zelamiku_status open_on(zelamiku_heap *heap, const char *name, const zelamiku_device *device, const zelamiku_plan *plan,
+                                      zelamiku_report *report) {
+    zelamiku_plan with = *plan;
+    with.device = device;
+    return zelamiku_heap_open(heap, name, &with, report);
 }
 #endif

@@ -6,7 +6,7 @@
 
 int main(int argc, char **argv) {
     const zelamiku_field field = {0, 0, 0, 0};
-    const zelamiku_plan plan = {.fields = &field, .count = 1, .objects = 1, .lanes = 1, .capacity = 2000, .ring = 4096};
+    const zelamiku_plan plan = {.size = sizeof(zelamiku_plan), .fields = &field, .count = 1, .objects = 1, .lanes = 1, .capacity = 2000, .ring = 4096};
     zelamiku_heap heap;
     zelamiku_thread own;
     uint64_t value = 0;

@@ -38,7 +38,7 @@ static void *open_and_end(void *data) {
     char name[20];
     (void)snprintf(name, sizeof name, "%u.heap", seed);
     const zelamiku_field field = {0, 0, 0, 0};
-    zelamiku_plan plan = {.fields = &field, .count = 1, .objects = 1, .lanes = 2, .capacity = 2000, .ring = 4096, .linger = 200, .log = hear};
+    zelamiku_plan plan = {.size = sizeof(zelamiku_plan), .fields = &field, .count = 1, .objects = 1, .lanes = 2, .capacity = 2000, .ring = 4096, .linger = 200, .log = hear};
     for (unsigned turn = 0; !stopping; turn++) {
         zelamiku_heap heap;
         zelamiku_thread own, other;
@@ -50,7 +50,7 @@ static void *open_and_end(void *data) {
         threads[rand_r(&seed) % KEPT] = other.number;
         use(own, turn);
         zelamiku_status end = turn % 3 > 0 ? ZELAMIKU_CLOSED : turn % 2 > 0 ? ZELAMIKU_CLOSED : ZELAMIKU_ABANDONED;
-        MUST((turn % 3 > 0 ? zelamiku_heap_close(heap) : turn % 2 > 0 ? zelamiku_heap_stop(heap) : zelamiku_heap_abandon(heap)) == ZELAMIKU_OK);
+        MUST((turn % 3 > 0 ? zelamiku_heap_close(heap) : turn % 2 > 0 ? zelamiku_heap_stop(heap, ZELAMIKU_CLOSED) : zelamiku_heap_stop(heap, ZELAMIKU_ABANDONED)) == ZELAMIKU_OK);
         /* Its place is free once the thread that had a section open has learned of the end. */
         if (turn % 3 == 0) MUST(zelamiku_thread_exit(own, 0) == end);
         zelamiku_status told = zelamiku_thread_end(other);
@@ -63,19 +63,19 @@ static zelamiku_status ask(unsigned *seed, zelamiku_heap heap, zelamiku_thread t
     uint64_t rounds = 0;
     bool is = false;
     size_t told = 0;
-    zelamiku_stats stats;
+    zelamiku_stats stats = {.size = sizeof stats};
     zelamiku_wait waits[ZELAMIKU_MOST_LANES];
-    zelamiku_dropped dropped[SECTIONS];
+    zelamiku_dropped dropped = {.size = sizeof dropped};
     switch (rand_r(seed) % 8) {
     case 0: return zelamiku_heap_await_round(heap, UINT64_MAX, ZELAMIKU_NO_DEADLINE, &rounds); /* until its end */
     case 1: return zelamiku_heap_await_round(heap, 0, 1, &rounds);
     case 2: return zelamiku_heap_stats(heap, &stats);
     case 3: return zelamiku_heap_waits(heap, waits, ZELAMIKU_MOST_LANES, &told);
-    case 4: return zelamiku_heap_dropped(heap, 0, dropped, SECTIONS, &told);
+    case 4: return zelamiku_heap_dropped(heap, 0, &dropped);
     case 5: return zelamiku_heap_copy(heap, "copy");
     case 6: return zelamiku_thread_await_until(thread, ZELAMIKU_ALL_SECTIONS, ZELAMIKU_NO_DEADLINE, &is);
     default:
-        MUST(zelamiku_thread_sections(thread) <= SECTIONS && zelamiku_thread_durable(thread) <= SECTIONS);
+        MUST(progress(thread).sections <= SECTIONS && progress(thread).durable <= SECTIONS);
         return zelamiku_thread_await_until(thread, 1, 0, &is);
     }
 }
@@ -88,7 +88,7 @@ static void *ask_again(void *data) {
         zelamiku_status status = ask(&seed, heap, thread);
         bool is_end = status == ZELAMIKU_CLOSED || status == ZELAMIKU_ABANDONED || status == ZELAMIKU_NOTHING;
         /* A thread may have a section open, and another copy be underway. */
-        MUST(is_end || status == ZELAMIKU_OK || status == ZELAMIKU_UNFINISHED || status == ZELAMIKU_BUSY || status == ZELAMIKU_DEVICE);
+        MUST(is_end || status == ZELAMIKU_OK || status == ZELAMIKU_RUNNING || status == ZELAMIKU_BUSY || status == ZELAMIKU_DEVICE);
         asked++;
         answered_by_the_end += is_end;
     }

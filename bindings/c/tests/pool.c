@@ -38,10 +38,10 @@ static uint64_t pop(zelamiku_handle *session) {
 static void refusals(zelamiku_handle *session, zelamiku_handle *heap) {
     uint32_t slot = 7;
     zelamiku_handle none = ZELAMIKU_NONE;
-    MUST(zelamiku_pool_take(&none, HEAD, SLOTS, &slot) == ZELAMIKU_NOTHING && slot == ZELAMIKU_NO_SLOT);
-    MUST(zelamiku_pool_take(heap, HEAD, SLOTS, &slot) == ZELAMIKU_WRONG_KIND && slot == ZELAMIKU_NO_SLOT);
+    MUST(zelamiku_pool_take(&none, HEAD, SLOTS, &slot) == ZELAMIKU_NOTHING && slot == ZELAMIKU_NO_NUMBER);
+    MUST(zelamiku_pool_take(heap, HEAD, SLOTS, &slot) == ZELAMIKU_WRONG_KIND && slot == ZELAMIKU_NO_NUMBER);
     MUST(zelamiku_pool_give(heap, HEAD, SLOTS, 0) == ZELAMIKU_WRONG_KIND);
-    MUST(zelamiku_pool_take(session, HEAD, SLOTS, &slot) == ZELAMIKU_NOT_HELD && slot == ZELAMIKU_NO_SLOT);
+    MUST(zelamiku_pool_take(session, HEAD, SLOTS, &slot) == ZELAMIKU_NOT_HELD && slot == ZELAMIKU_NO_NUMBER);
     OK(zelamiku_try_enter(session, STACK));
     MUST(zelamiku_pool_give(session, HEAD, SLOTS, 0) == ZELAMIKU_NOT_TAKEN);
     MUST(zelamiku_pool_give(session, HEAD, SLOTS, SLOTS) == ZELAMIKU_NOT_TAKEN);
@@ -50,7 +50,7 @@ static void refusals(zelamiku_handle *session, zelamiku_handle *heap) {
     MUST(zelamiku_pool_take(session, UINT32_MAX, UINT32_MAX, &slot) == ZELAMIKU_UNKNOWN_FIELD);
     MUST(zelamiku_pool_give(session, HEAD, UINT32_MAX, 0) == ZELAMIKU_UNKNOWN_FIELD);
     OK(zelamiku_store(session, VALUE, 1000));
-    MUST(zelamiku_pool_take(session, VALUE, SLOTS, &slot) == ZELAMIKU_DAMAGED && slot == ZELAMIKU_NO_SLOT);
+    MUST(zelamiku_pool_take(session, VALUE, SLOTS, &slot) == ZELAMIKU_DAMAGED && slot == ZELAMIKU_NO_NUMBER);
     OK(zelamiku_store(session, VALUE, 0));
     MUST(zelamiku_pool_take(session, VALUE, SLOTS, &slot) == ZELAMIKU_POOL_EMPTY);
     OK(zelamiku_exit(session, STACK));
@@ -64,7 +64,7 @@ static void all_slots(zelamiku_handle *session) {
         OK(zelamiku_pool_take(session, HEAD, SLOTS, &slot));
         MUST(slot == i);
     }
-    MUST(zelamiku_pool_take(session, HEAD, SLOTS, &slot) == ZELAMIKU_POOL_EMPTY && slot == ZELAMIKU_NO_SLOT);
+    MUST(zelamiku_pool_take(session, HEAD, SLOTS, &slot) == ZELAMIKU_POOL_EMPTY && slot == ZELAMIKU_NO_NUMBER);
     OK(zelamiku_pool_give(session, HEAD, SLOTS, 3));
     OK(zelamiku_pool_give(session, HEAD, SLOTS, 1));
     OK(zelamiku_pool_take(session, HEAD, SLOTS, &slot));
@@ -76,7 +76,7 @@ static void all_slots(zelamiku_handle *session) {
 
 static void lay_out(zelamiku_field *fields) {
     zelamiku_field none[1] = {{7, 8, 9, 10}};
-    MUST(zelamiku_pool_fields(STACK, none, 1) == ZELAMIKU_EMPTY && none[0].owner == 7 && none[0].first == 9);
+    MUST(zelamiku_pool_fields(STACK, none, 1) == ZELAMIKU_BAD_ARGUMENT && none[0].owner == 7 && none[0].first == 9);
     for (uint32_t i = 0; i < FIELDS; i++) fields[i] = (zelamiku_field){STACK, STACK, 0, 0};
     fields[FIRST] = (zelamiku_field){OTHER, OTHER, 0, 0};
     OK(zelamiku_pool_fields(STACK, &fields[HEAD], SLOTS + 1));
@@ -125,7 +125,7 @@ int main(void) {
     zelamiku_free(&session);
     zelamiku_free(&heap);
     zelamiku_told told = {0};
-    zelamiku_dropped none = {0};
+    zelamiku_dropped_section none = {0};
     OK(zelamiku_open(&heap, device, (size_t)size, 1, ZELAMIKU_LEAST_RING, &told, &none, 0));
     OK(zelamiku_session(&heap, &session));
     /* Two slots are taken, and three free. */

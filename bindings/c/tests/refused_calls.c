@@ -149,17 +149,12 @@ static long refused_syscall(long number, long answer) {
 #undef fcntl
 #undef rename
 
-#define MUST(is_so) \
-    do { \
-        if (!(is_so)) { \
-            fprintf(stderr, "line %d: %s: call %lu refused_one, errno %d: %s\n", __LINE__, #is_so, (unsigned long)refused_one, (int)with, zelamiku_heap_message()); \
-            exit(1); \
-        } \
-    } while (0)
+#define SAY_MORE() fprintf(stderr, "call %lu is refused, errno %d: ", (unsigned long)refused_one, (int)with)
+#include "must.h"
 
 enum { OBJECTS_THERE = 2, FIELDS_THERE = 2, LIVES = 5 };
 static const zelamiku_field FIELDS[FIELDS_THERE] = {{0, 0, 10, 0}, {1, 1, 20, 0}};
-static const zelamiku_plan PLAN = {.fields = FIELDS, .count = FIELDS_THERE, .objects = OBJECTS_THERE, .lanes = 2, .capacity = 2000, .ring = 4096};
+static const zelamiku_plan PLAN = {.size = sizeof(zelamiku_plan), .fields = FIELDS, .count = FIELDS_THERE, .objects = OBJECTS_THERE, .lanes = 2, .capacity = 2000, .ring = 4096};
 static uint64_t kept, tried; /* the value that is durable, and one that may be */
 
 /* How a life begins. */
@@ -176,13 +171,13 @@ static zelamiku_status told; /* what the first call of this life that failed ret
 /* Whether the status and its cause are those of the call that was refused. */
 static bool is_of_refusal(zelamiku_status status) {
     if (status == ZELAMIKU_NO_MEMORY && with == ENOMEM) return true;
-    return (status == ZELAMIKU_NO_MEMORY || status == ZELAMIKU_DEVICE || status == ZELAMIKU_LOST) && zelamiku_heap_error() == with;
+    return (status == ZELAMIKU_NO_MEMORY || status == ZELAMIKU_DEVICE || status == ZELAMIKU_LOST) && last_failure().error == with;
 }
 
 /* OK, or the one call that reports what was refused, and why. Later calls fail only where the heap is lost. */
 static bool passes(zelamiku_status status) {
     if (status == ZELAMIKU_OK) return true;
-    MUST(with != 0 && zelamiku_heap_message()[0] != 0);
+    MUST(with != 0 && zelamiku_heap_failure(NULL)[0] != 0);
     if (told == ZELAMIKU_OK) MUST(is_of_refusal(status));
     else MUST(told == ZELAMIKU_LOST && status == ZELAMIKU_LOST);
     told = status;
@@ -264,10 +259,9 @@ static void fork_now(void) {
 /* So many sections depend on one that never ends that recovery has to be asked twice for all that it dropped. */
 static void many_dropped(void) {
     enum { SECTIONS = 300 };
-    static zelamiku_dropped all[SECTIONS + 1];
     zelamiku_heap heap;
     zelamiku_thread holder, own;
-    size_t told = 0;
+    zelamiku_report report = {.size = sizeof report};
     MUST(unlink("heap") == 0 && zelamiku_heap_open(&heap, "heap", &PLAN, NULL) == ZELAMIKU_OK);
     MUST(zelamiku_thread_begin(&holder, heap) == ZELAMIKU_OK && zelamiku_thread_begin(&own, heap) == ZELAMIKU_OK);
     MUST(zelamiku_thread_enter(holder, 0) == ZELAMIKU_OK && zelamiku_thread_enter(holder, 1) == ZELAMIKU_OK);
@@ -276,13 +270,16 @@ static void many_dropped(void) {
         MUST(zelamiku_thread_enter(own, 1) == ZELAMIKU_OK && zelamiku_thread_store(own, 1, i) == ZELAMIKU_OK);
         MUST(zelamiku_thread_exit(own, 1) == ZELAMIKU_OK);
     }
-    MUST(zelamiku_heap_stop(heap) == ZELAMIKU_OK && zelamiku_thread_exit(holder, 0) == ZELAMIKU_CLOSED);
+    MUST(zelamiku_heap_stop(heap, ZELAMIKU_CLOSED) == ZELAMIKU_OK && zelamiku_thread_exit(holder, 0) == ZELAMIKU_CLOSED);
     MUST(zelamiku_thread_end(holder) == ZELAMIKU_CLOSED && zelamiku_thread_end(own) == ZELAMIKU_CLOSED);
-    MUST(zelamiku_heap_open(&heap, "heap", &PLAN, NULL) == ZELAMIKU_OK);
-    MUST(zelamiku_heap_dropped(heap, 0, all, SECTIONS + 1, &told) == ZELAMIKU_OK && told == SECTIONS + 1);
-    for (size_t i = 1; i < told; i++) MUST(all[i].lane >= all[i - 1].lane && (all[i].lane > all[i - 1].lane || all[i].section == all[i - 1].section + 1));
-    MUST(zelamiku_heap_dropped(heap, 0, NULL, 1, &told) == ZELAMIKU_NOTHING && zelamiku_heap_dropped(heap, 0, NULL, 0, &told) == ZELAMIKU_OK);
-    MUST(zelamiku_heap_dropped(heap, 0, all, 1, NULL) == ZELAMIKU_NOTHING && zelamiku_heap_close(heap) == ZELAMIKU_OK);
+    MUST(zelamiku_heap_open(&heap, "heap", &PLAN, &report) == ZELAMIKU_OK && report.dropped == SECTIONS + 1);
+    zelamiku_dropped before = dropped_section(heap, 0);
+    for (size_t i = 1; i <= SECTIONS; i++) {
+        zelamiku_dropped next = dropped_section(heap, i);
+        MUST(next.lane > before.lane || (next.lane == before.lane && next.section == before.section + 1));
+        before = next;
+    }
+    MUST(dropped_section(heap, SECTIONS + 1).why == ZELAMIKU_NOT_DROPPED && zelamiku_heap_close(heap) == ZELAMIKU_OK);
 }
 
 /* ---- what the system refuses by itself ---- */
@@ -299,10 +296,10 @@ static void copies(void) {
     memset(long_path, 'x', sizeof long_path - 1);
     zelamiku_heap heap = open_one("heap");
     MUST(mkfifo("pipe", 0600) == 0 && mkdir("folder", 0700) == 0);
-    MUST(zelamiku_heap_copy(heap, "pipe") == ZELAMIKU_DEVICE && zelamiku_heap_error() == EINVAL);
-    MUST(zelamiku_heap_copy(heap, "folder") == ZELAMIKU_DEVICE && zelamiku_heap_error() == EISDIR);
-    MUST(zelamiku_heap_copy(heap, long_path) == ZELAMIKU_DEVICE && zelamiku_heap_error() == ENAMETOOLONG);
-    MUST(zelamiku_heap_copy(heap, "") == ZELAMIKU_DEVICE && zelamiku_heap_error() == ENOENT);
+    MUST(zelamiku_heap_copy(heap, "pipe") == ZELAMIKU_DEVICE && last_failure().error == EINVAL);
+    MUST(zelamiku_heap_copy(heap, "folder") == ZELAMIKU_DEVICE && last_failure().error == EISDIR);
+    MUST(zelamiku_heap_copy(heap, long_path) == ZELAMIKU_DEVICE && last_failure().error == ENAMETOOLONG);
+    MUST(zelamiku_heap_copy(heap, "") == ZELAMIKU_DEVICE && last_failure().error == ENOENT);
     forks = true;
     MUST(zelamiku_heap_copy(heap, "copy") == ZELAMIKU_OK && !forks && zelamiku_heap_close(heap) == ZELAMIKU_OK);
 }
@@ -312,7 +309,7 @@ static void calls_alone(void) {
     zelamiku_handle handle = ZELAMIKU_NONE;
     uint64_t size, made = 0;
     int file = open("calls", O_RDWR | O_CREAT | O_CLOEXEC, 0600), reading = open("calls", O_RDONLY | O_CLOEXEC);
-    MUST(file >= 0 && reading >= 0 && zelamiku_make_calls(NULL, file, &made) == ZELAMIKU_NOTHING);
+    MUST(file >= 0 && reading >= 0 && zelamiku_make_calls(NULL, file, &made) == ZELAMIKU_BAD_ARGUMENT);
     MUST(zelamiku_format(&handle, OBJECTS_THERE, FIELDS, FIELDS_THERE, 2, 2000, 1, 4096, &size) == ZELAMIKU_OK);
     MUST(zelamiku_make_calls(&handle, reading, NULL) == ZELAMIKU_DEVICE && errno == EBADF);
     MUST(zelamiku_make_calls(&handle, file, &made) == ZELAMIKU_OK && made > 0 && zelamiku_make_calls(&handle, file, NULL) == ZELAMIKU_OK);
@@ -334,7 +331,7 @@ static void paths(void) {
         MUST(mkdir(name, 0700) == 0 && chdir(name) == 0 && getcwd(here, sizeof here) != NULL);
         memset(name, 'd', 200);
     }
-    MUST(zelamiku_heap_open(&heap, "heap", &PLAN, NULL) == ZELAMIKU_DEVICE && zelamiku_heap_error() == ENAMETOOLONG && is_missing("heap"));
+    MUST(zelamiku_heap_open(&heap, "heap", &PLAN, NULL) == ZELAMIKU_DEVICE && last_failure().error == ENAMETOOLONG && is_missing("heap"));
 }
 
 /* Statuses have texts, also those that are none. */

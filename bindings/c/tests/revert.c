@@ -4,7 +4,7 @@
  *     revert FOLDER threads              only what several threads do at once: for ThreadSanitizer
  *
  * Random steps (20,000): a model of few lines tells each answer beforehand. So many times (20) a process is killed in the midst of transfers, and
- * each second transfer is taken back. With -DINLINE the calls of sections are those of zelamiku_inline.h. */
+ * each second transfer is taken back. */
 #define _GNU_SOURCE
 #include <errno.h>
 #include <fcntl.h>
@@ -48,7 +48,6 @@ static void *scarce_alloc(size_t line, size_t size) {
 #undef fdatasync
 #undef aligned_alloc
 
-#include "inline_calls.h"
 
 /* Four objects have 800 fields each, of which each fourth is transient: the field F belongs to object F % 4 and begins with F. Object 4 has a
  * pool, and a field for each of its slots. */
@@ -71,8 +70,8 @@ static void declare(void) {
 }
 
 static zelamiku_report reopen_by(uint32_t reverts) {
-    zelamiku_plan plan = {.fields = fields, .count = FIELDS, .objects = OBJECTS, .lanes = LANES, .reverts = reverts};
-    zelamiku_report report;
+    zelamiku_plan plan = {.size = sizeof(zelamiku_plan), .fields = fields, .count = FIELDS, .objects = OBJECTS, .lanes = LANES, .reverts = reverts};
+    zelamiku_report report = {.size = sizeof report};
     OK(zelamiku_heap_open(&all, "revert.heap", &plan, &report));
     return report;
 }
@@ -113,7 +112,7 @@ static uint64_t seen(uint32_t field) {
 }
 
 static bool says(const char *text) {
-    return strstr(zelamiku_heap_message(), text) != NULL;
+    return strstr(zelamiku_heap_failure(NULL), text) != NULL;
 }
 
 /* ---- what is put back ---- */
@@ -140,10 +139,10 @@ static void values(void) {
     OK(zelamiku_thread_store(own, 8, 3));
     OK(zelamiku_thread_exit(own, 0));
     MUST(seen(4) == 7 && seen(8) == 3 && seen(12) == 12 && seen(16) == 16);
-    MUST(zelamiku_thread_sections(own) == 2);
+    MUST(progress(own).sections == 2);
     OK(zelamiku_thread_await(own));
-    OK(zelamiku_heap_abandon(all));
-    MUST(reopen().told.found.dropped == 0 && seen(4) == 7 && seen(8) == 3 && seen(12) == 12 && seen(16) == 16);
+    OK(zelamiku_heap_stop(all, ZELAMIKU_ABANDONED));
+    MUST(reopen().dropped == 0 && seen(4) == 7 && seen(8) == 3 && seen(12) == 12 && seen(16) == 16);
     close_all();
 }
 
@@ -216,14 +215,14 @@ static void freed(void) {
     OK(zelamiku_thread_exit(own, 1));
     MUST(seen(1) == 51);
     for (int i = 0; i < 2; i++) {
-        MUST(zelamiku_thread_revert(own) == ZELAMIKU_NOT_HELD && says("revert: the section has given back a monitor under which it had stored"));
+        MUST(zelamiku_thread_revert(own) == ZELAMIKU_NOT_REVERTED && says("revert: the section has freed a monitor under which it had stored"));
         MUST(load(own, 0) == 50);
         /* What it stores from now on neither. */
         OK(zelamiku_thread_store(own, 4, 54));
     }
     OK(zelamiku_thread_enter(own, 1));
     OK(zelamiku_thread_store(own, 1, 52));
-    MUST(zelamiku_thread_revert(own) == ZELAMIKU_NOT_HELD && load(own, 1) == 52);
+    MUST(zelamiku_thread_revert(own) == ZELAMIKU_NOT_REVERTED && load(own, 1) == 52);
     OK(zelamiku_thread_exit(own, 1));
     OK(zelamiku_thread_exit(own, 0));
     MUST(seen(0) == 50 && seen(1) == 52 && seen(4) == 54);
@@ -247,7 +246,7 @@ static void far_guards(void) {
     MUST(load(own, FAR) == 0);
     OK(zelamiku_thread_store(own, FAR, 8));
     OK(zelamiku_thread_exit(own, 300));
-    MUST(zelamiku_thread_revert(own) == ZELAMIKU_NOT_HELD);
+    MUST(zelamiku_thread_revert(own) == ZELAMIKU_NOT_REVERTED);
     OK(zelamiku_thread_exit(own, 44));
     MUST(seen(FAR) == 8);
     close_all();
@@ -265,7 +264,7 @@ static void one_by_one(void) {
             OK(zelamiku_thread_store(own, SMALL + i, 1));
             if (i + 1 < others || others > 15) OK(zelamiku_thread_exit(own, 5 + i));
         }
-        MUST(zelamiku_thread_revert(own) == (others == 1 ? ZELAMIKU_OK : ZELAMIKU_NOT_HELD) && load(own, 0) == (others == 1 ? 0 : 7));
+        MUST(zelamiku_thread_revert(own) == (others == 1 ? ZELAMIKU_OK : ZELAMIKU_NOT_REVERTED) && load(own, 0) == (others == 1 ? 0 : 7));
         if (others <= 15) OK(zelamiku_thread_exit(own, 4 + others));
         OK(zelamiku_thread_exit(own, 0));
         /* All that can be held at once are taken back. */
@@ -292,7 +291,7 @@ static void *notify_soon(void *data) {
         usleep(1000);
         OK(zelamiku_thread_enter(own, object));
         OK(zelamiku_thread_store(own, object, 99));
-        OK(zelamiku_thread_notify(own, object, &lane));
+        OK(notify_one(own, object, &lane));
         if (lane == ZELAMIKU_NOBODY) OK(zelamiku_thread_revert(own));
         OK(zelamiku_thread_exit(own, object));
     }
@@ -332,17 +331,17 @@ static void waits(void) {
     OK(zelamiku_thread_store(own, 4, 44));
     OK(zelamiku_thread_store(own, 5, 44));
     wait_for(own, 1);
-    MUST(zelamiku_thread_revert(own) == ZELAMIKU_NOT_HELD && load(own, 4) == 44 && load(own, 5) == 44);
+    MUST(zelamiku_thread_revert(own) == ZELAMIKU_NOT_REVERTED && load(own, 4) == 44 && load(own, 5) == 44);
     OK(zelamiku_thread_exit(own, 1));
     OK(zelamiku_thread_exit(own, 0));
-    MUST(zelamiku_thread_sections(own) == 2);
+    MUST(progress(own).sections == 2);
     close_all();
 }
 
 /* ---- pools ---- */
 
 static uint32_t take_slot(zelamiku_thread own) {
-    uint32_t slot = ZELAMIKU_NO_SLOT;
+    uint32_t slot = ZELAMIKU_NO_NUMBER;
     OK(zelamiku_thread_take(own, HEAD, SLOTS, &slot));
     return slot;
 }
@@ -361,7 +360,7 @@ static void pools(void) {
             MUST(take_slot(own) == expected);
             OK(zelamiku_thread_store(own, IN_SLOT + expected, 7));
         }
-        MUST(zelamiku_thread_take(own, HEAD, SLOTS, &slot) == ZELAMIKU_POOL_EMPTY && slot == ZELAMIKU_NO_SLOT);
+        MUST(zelamiku_thread_take(own, HEAD, SLOTS, &slot) == ZELAMIKU_POOL_EMPTY && slot == ZELAMIKU_NO_NUMBER);
         OK(zelamiku_thread_give(own, HEAD, SLOTS, 1));
         OK(zelamiku_thread_give(own, HEAD, SLOTS, 5));
         MUST(zelamiku_thread_give(own, HEAD, SLOTS, 5) == ZELAMIKU_NOT_TAKEN && zelamiku_thread_give(own, HEAD, SLOTS, SLOTS) == ZELAMIKU_NOT_TAKEN);
@@ -432,9 +431,9 @@ static void full_sections(void) {
         OK(zelamiku_thread_revert(own));
         for (int lock = 0; lock < 4; lock++) OK(zelamiku_thread_exit(own, 0));
         if (is_two) OK(zelamiku_thread_exit(own, 1));
-        MUST(zelamiku_thread_sections(own) == 1);
+        MUST(progress(own).sections == 1);
         OK(zelamiku_thread_await(own));
-        OK(zelamiku_heap_abandon(all));
+        OK(zelamiku_heap_stop(all, ZELAMIKU_ABANDONED));
         (void)reopen();
         for (uint32_t field = 0; field < PLAIN; field += 4) MUST(seen(field) == field);
         close_all();
@@ -450,9 +449,9 @@ static void room_for_monitors(void) {
     for (unsigned i = 0; i < 497; i++) OK(zelamiku_thread_store(own, persistent(0, i), 1));
     /* 996 of 1,000, with the pool's monitor 998. Its calls would need four more. */
     OK(zelamiku_thread_enter(own, POOL));
-    MUST(zelamiku_thread_take(own, HEAD, SLOTS, &slot) == ZELAMIKU_SECTION_FULL && slot == ZELAMIKU_NO_SLOT);
+    MUST(zelamiku_thread_take(own, HEAD, SLOTS, &slot) == ZELAMIKU_SECTION_FULL && slot == ZELAMIKU_NO_NUMBER);
     for (int i = 0; i < 2; i++) OK(zelamiku_thread_store(own, 0, 2));
-    MUST(zelamiku_thread_take(own, HEAD, SLOTS, &slot) == ZELAMIKU_SECTION_FULL && slot == ZELAMIKU_NO_SLOT);
+    MUST(zelamiku_thread_take(own, HEAD, SLOTS, &slot) == ZELAMIKU_SECTION_FULL && slot == ZELAMIKU_NO_NUMBER);
     MUST(zelamiku_thread_give(own, HEAD, SLOTS, 3) == ZELAMIKU_NOT_TAKEN && zelamiku_thread_enter(own, 1) == ZELAMIKU_SECTION_FULL);
     MUST(zelamiku_thread_wait(own, POOL) == ZELAMIKU_SECTION_FULL && says("wait for object 4: the section would have more"));
     OK(zelamiku_thread_revert(own));
@@ -493,7 +492,7 @@ static void room_between(void) {
     for (unsigned i = 0; i < 400; i++) OK(zelamiku_thread_store(own, persistent(0, i), 1));
     OK(zelamiku_thread_exit(own, 1));
     /* 404 records, a monitor, and 401 values: there is room for 194 more to the same fields. */
-    MUST(store_all(own, 0, false) == 194 && zelamiku_thread_revert(own) == ZELAMIKU_NOT_HELD);
+    MUST(store_all(own, 0, false) == 194 && zelamiku_thread_revert(own) == ZELAMIKU_NOT_REVERTED);
     MUST(zelamiku_thread_store(own, 1, 1) == ZELAMIKU_NOT_HELD && zelamiku_thread_store(own, 2, 1) == ZELAMIKU_NOT_HELD);
     OK(zelamiku_thread_exit(own, 0));
     close_all();
@@ -520,17 +519,15 @@ static void refusals(void) {
     /* A heap that keeps nothing. */
     (void)reopen_by(0);
     own = begin_thread();
-    for (int i = 0; i < 2; i++) {
-        MUST(zelamiku_thread_revert(own) == ZELAMIKU_WRONG_KIND);
-        MUST(says("revert.heap: revert: the heap's plan doesn't keep what a section changes; open it with reverts = 1"));
-        if (i > 0) break;
-        OK(zelamiku_thread_enter(own, 0));
-        MUST(zelamiku_thread_store(own, 1, 7) == ZELAMIKU_NOT_HELD);
-        OK(zelamiku_thread_revert(own)); /* nothing is stored yet */
-        OK(zelamiku_thread_store(own, 12, 77));
-        MUST(is_transient(12) && zelamiku_thread_revert(own) == ZELAMIKU_WRONG_KIND);
-        OK(zelamiku_thread_store(own, 0, 77));
-    }
+    MUST(zelamiku_thread_revert(own) == ZELAMIKU_NOT_HELD);
+    OK(zelamiku_thread_enter(own, 0));
+    MUST(zelamiku_thread_store(own, 1, 7) == ZELAMIKU_NOT_HELD);
+    OK(zelamiku_thread_revert(own)); /* nothing is stored yet */
+    OK(zelamiku_thread_store(own, 12, 77));
+    MUST(is_transient(12) && zelamiku_thread_revert(own) == ZELAMIKU_NOT_REVERTED);
+    OK(zelamiku_thread_store(own, 0, 77));
+    MUST(zelamiku_thread_revert(own) == ZELAMIKU_NOT_REVERTED);
+    MUST(says("revert.heap: revert: the heap's plan doesn't keep what a section changes; open it with reverts = 1"));
     OK(zelamiku_thread_exit(own, 0));
     MUST(seen(0) == 77);
     close_all();
@@ -539,14 +536,14 @@ static void refusals(void) {
 
 /* A heap of another device keeps the values too; and memory may be refused to one of the lanes. */
 static void other_devices(void) {
-    zelamiku_plan plan = {.fields = fields, .count = FIELDS, .objects = OBJECTS, .lanes = LANES, .reverts = 1, .fingerprint = 5};
+    zelamiku_plan plan = {.size = sizeof(zelamiku_plan), .fields = fields, .count = FIELDS, .objects = OBJECTS, .lanes = LANES, .reverts = 1, .fingerprint = 5};
     memory held = new_memory(1 << 24);
     zelamiku_device device = device_of(&held);
     for (unsigned lane = 1; lane <= LANES; lane++) {
         allocations_left = lane;
-        MUST(zelamiku_heap_open_on(&all, "a device", &device, &plan, NULL) == ZELAMIKU_NO_MEMORY && all.number == 0);
+        MUST(open_on(&all, "a device", &device, &plan, NULL) == ZELAMIKU_NO_MEMORY && all.number == 0);
     }
-    OK(zelamiku_heap_open_on(&all, "a device", &device, &plan, NULL));
+    OK(open_on(&all, "a device", &device, &plan, NULL));
     zelamiku_thread own = begin_thread();
     OK(zelamiku_thread_enter(own, 1));
     OK(zelamiku_thread_store(own, 1, 7));
@@ -561,7 +558,7 @@ static void other_devices(void) {
 
 /* Memory is refused to one of the lanes: no heap is open then, and nothing is left of it. */
 static void scarce_memory(void) {
-    zelamiku_plan plan = {.fields = fields, .count = FIELDS, .objects = OBJECTS, .lanes = LANES, .reverts = 1, .fingerprint = 5};
+    zelamiku_plan plan = {.size = sizeof(zelamiku_plan), .fields = fields, .count = FIELDS, .objects = OBJECTS, .lanes = LANES, .reverts = 1, .fingerprint = 5};
     MUST(unlink("revert.heap") == 0 || errno == ENOENT);
     for (unsigned lane = 1; lane <= LANES; lane++) {
         allocations_left = lane;
@@ -582,11 +579,11 @@ static void scarce_memory(void) {
 /* ---- the heap's end ---- */
 
 static void stop_it(void) {
-    OK(zelamiku_heap_stop(all));
+    OK(zelamiku_heap_stop(all, ZELAMIKU_CLOSED));
 }
 
 static void abandon_it(void) {
-    OK(zelamiku_heap_abandon(all));
+    OK(zelamiku_heap_stop(all, ZELAMIKU_ABANDONED));
 }
 
 /* A sync fails, and the helper has told it. */
@@ -701,7 +698,7 @@ static void step_store(zelamiku_thread own, uint32_t field, uint64_t value) {
 }
 
 static void step_revert(zelamiku_thread own) {
-    MUST(zelamiku_thread_revert(own) == (model.held == 0 || model.is_past ? ZELAMIKU_NOT_HELD : ZELAMIKU_OK));
+    MUST(zelamiku_thread_revert(own) == (model.held == 0 ? ZELAMIKU_NOT_HELD : model.is_past ? ZELAMIKU_NOT_REVERTED : ZELAMIKU_OK));
     if (model.held == 0 || model.is_past) return;
     for (uint32_t field = 0; field < PLAIN; field++)
         if (model.is_changed[field]) model.value[field] = model.before[field];
@@ -724,7 +721,7 @@ static void exit_all(zelamiku_thread own) {
 static void compare_all(zelamiku_thread *own, bool has_crashed) {
     exit_all(*own);
     OK(zelamiku_thread_await(*own));
-    if (has_crashed) OK(zelamiku_heap_abandon(all));
+    if (has_crashed) OK(zelamiku_heap_stop(all, ZELAMIKU_ABANDONED));
     if (has_crashed) (void)reopen();
     if (has_crashed) *own = begin_thread();
     for (uint32_t field = 0; has_crashed && field < PLAIN; field++)
@@ -908,7 +905,7 @@ static void kills(unsigned times) {
         usleep(i * 977 % 5000);
         MUST(kill(child, SIGKILL) == 0 && waitpid(child, &status, 0) == child && WIFSIGNALED(status));
         all_transfers += *count;
-        dropped += reopen().told.found.dropped;
+        dropped += reopen().dropped;
         check_sum();
         close_all();
     }

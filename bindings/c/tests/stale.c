@@ -9,17 +9,11 @@
 #include <stdio.h>
 #include <stdlib.h>
 #include <string.h>
-#include "zelamiku.h"
+#include "memory.h"
 
-#define MUST(is_so) \
-    do { \
-        if (!(is_so)) { \
-            fprintf(stderr, "line %d: %s; life: %s at call %u, opening: %s at call %u, seed %u; %s\n", __LINE__, #is_so, NAMES[first], \
-                    first_at, NAMES[second], second_at, seed, zelamiku_heap_message()); \
-            exit(1); \
-        } \
-    } while (0)
-#define OK(call) MUST((call) == ZELAMIKU_OK)
+static void say_seed(void);
+#define SAY_MORE() say_seed()
+#include "must.h"
 
 enum { SIZE = 2160 + 24 * 3 + 16 * 2 * 2000, SECTIONS = 3 };
 enum fault { FAILED_SYNC, KILL, CRASH, FAULTS };
@@ -32,6 +26,10 @@ static enum fault first, second, fault; /* of the life, of the opening; the one 
 static unsigned first_at, second_at, seed, dice;
 static unsigned calls, fault_at; /* of syncs alone, where one is to fail; fault_at 0: none comes */
 static bool is_over;             /* the fault has come: no call is made any more */
+
+static void say_seed(void) {
+    fprintf(stderr, "life: %s at call %u, opening: %s at call %u, seed %u: ", NAMES[first], first_at, NAMES[second], second_at, seed);
+}
 
 static unsigned roll(unsigned most) {
     dice = dice * 1664525 + 1013904223;
@@ -104,7 +102,7 @@ static zelamiku_status cached_size(void *of, uint64_t *size) {
     return ZELAMIKU_OK;
 }
 
-static const zelamiku_device DEVICE = {cached_read, cached_write, cached_sync, cached_size, NULL};
+static const zelamiku_device DEVICE = {sizeof(zelamiku_device), cached_read, cached_write, cached_sync, cached_size, NULL};
 static const zelamiku_field FIELDS[] = {{0, 0, 0, 0}, {1, 1, 0, 0}, {0, 0, 0, 0}};
 static zelamiku_heap heap;
 static uint64_t begun, acknowledged;
@@ -112,12 +110,12 @@ static unsigned openings;
 
 /* `lanes` 1 leaves the last of the heap's two lanes to the helper, whose rounds take two syncs; with 2 they take four. */
 static zelamiku_status open_heap(uint32_t lanes, enum fault which, unsigned at) {
-    zelamiku_plan plan = {.fields = FIELDS, .count = 3, .objects = 2, .lanes = lanes, .capacity = 2000, .linger = UINT32_MAX};
+    zelamiku_plan plan = {.size = sizeof(zelamiku_plan), .fields = FIELDS, .count = 3, .objects = 2, .lanes = lanes, .capacity = 2000, .linger = UINT32_MAX};
     calls = 0;
     fault = which;
     fault_at = at;
     is_over = false;
-    return zelamiku_heap_open_on(&heap, "stale", &DEVICE, &plan, NULL);
+    return open_on(&heap, "stale", &DEVICE, &plan, NULL);
 }
 
 /* Sections that count two fields under two monitors and one under the first, each awaited, until the fault. */
@@ -137,7 +135,7 @@ static bool count_on(unsigned sections) {
     }
     bool is_whole = status == ZELAMIKU_OK && !is_over;
     is_over = true; /* the process ends here */
-    (void)!zelamiku_heap_abandon(heap);
+    (void)!zelamiku_heap_stop(heap, ZELAMIKU_ABANDONED);
     return is_whole;
 }
 
@@ -181,7 +179,7 @@ static bool is_making_over(uint32_t lanes) {
     OK(open_heap(lanes, FAILED_SYNC, 0));
     unsigned syncs = calls;
     is_over = true;
-    (void)!zelamiku_heap_abandon(heap);
+    (void)!zelamiku_heap_stop(heap, ZELAMIKU_ABANDONED);
     empty();
     MUST(open_heap(lanes, FAILED_SYNC, syncs) != ZELAMIKU_OK);
     return true;
@@ -194,12 +192,12 @@ static bool is_cut_off(bool (*is_ended)(uint32_t), uint32_t lanes, bool *is_open
     *is_opening_cut = open_heap(lanes, second, second_at) != ZELAMIKU_OK;
     if (!*is_opening_cut) {
         is_over = true;
-        (void)!zelamiku_heap_abandon(heap);
+        (void)!zelamiku_heap_stop(heap, ZELAMIKU_ABANDONED);
     }
     OK(open_heap(lanes, CRASH, 0));
     check();
     if (seed % 2 == 0) (void)count_on(1);
-    else (void)!zelamiku_heap_abandon(heap);
+    else (void)!zelamiku_heap_stop(heap, ZELAMIKU_ABANDONED);
     crash();
     OK(open_heap(lanes, CRASH, 0));
     check();

@@ -2,8 +2,8 @@
  *
  *     threads FOLDER [MILLISECONDS]      answers 0 where all is as it must be
  *
- * With -DINLINE the calls of sections are those of zelamiku_inline.h. Nothing here depends on how quick the machine is, or on whether it stops
- * for a while, but for two lines that it prints: what hangs is waited for, for minutes. */
+ * Nothing here depends on how quick the machine is, or on whether it stops for a while, but for two lines that it prints: what hangs is waited
+ * for, for minutes. */
 #define _GNU_SOURCE
 #include <errno.h>
 #include <fcntl.h>
@@ -151,13 +151,6 @@ static long own_SYS_futex(void *word, int what, uint32_t value, const struct tim
     return answer;
 }
 
-static unsigned yields;
-
-static int counted_yield(void) {
-    __atomic_add_fetch(&yields, 1, __ATOMIC_SEQ_CST);
-    return sched_yield();
-}
-
 /* A system whose threads have time slices of so many nanoseconds at first; 0: one that tells none. */
 static uint64_t usual_slice = 2100000;
 static _Thread_local uint64_t own_slice, inherited_slice; /* 0: the usual one */
@@ -206,15 +199,12 @@ static int own_PR_SET_TIMERSLACK(unsigned long nanoseconds, unsigned long b, uns
 #define syscall(number, ...) own_##number(__VA_ARGS__)
 #define zelamiku_round lasting_round
 #define zelamiku_call_failed lasting_failure
-#define sched_yield() counted_yield()
 #include "../zelamiku_threads.c"
-#undef sched_yield
 #undef zelamiku_call_failed
 #undef zelamiku_round
 #undef syscall
 #undef prctl
 
-#include "inline_calls.h"
 
 enum { LANES = 8, TOTAL = 0, LIST = 1, COUNT = 1, TAKEN = 2, ROUNDS = 500 };
 
@@ -228,7 +218,7 @@ static void make_haste(void) {
     heaps[all.number >> 8 & 255].poll_until = UINT64_MAX;
 }
 
-static char last_warning[ZELAMIKU_MOST_MESSAGE];
+static char last_warning[MOST_TEXT];
 static pthread_mutex_t warning_mutex = PTHREAD_MUTEX_INITIALIZER;
 
 static void count_lines(void *of, uint32_t level, const char *text) {
@@ -240,10 +230,10 @@ static void count_lines(void *of, uint32_t level, const char *text) {
 }
 
 static zelamiku_report begin_by(uint32_t capacity, uint32_t ring, uint32_t linger) {
-    zelamiku_plan plan = {.fields = FIELDS, .count = 3, .objects = 2, .lanes = LANES, .capacity = capacity, .ring = ring, .linger = linger,
-                          .log = count_lines, .log_of = logged};
-    zelamiku_report report;
-    MUST(zelamiku_heap_open(&all, "threads.heap", &plan, &report) == ZELAMIKU_OK && report.told.found.lanes == LANES);
+    zelamiku_plan plan = {.size = sizeof(zelamiku_plan), .fields = FIELDS, .count = 3, .objects = 2, .lanes = LANES, .capacity = capacity, .ring = ring, .linger = linger,
+                          .log = count_lines, .log_context = logged};
+    zelamiku_report report = {.size = sizeof report};
+    MUST(zelamiku_heap_open(&all, "threads.heap", &plan, &report) == ZELAMIKU_OK && report.lanes == LANES);
     return report;
 }
 
@@ -267,7 +257,7 @@ static zelamiku_thread begin_thread(void) {
 }
 
 static zelamiku_stats stats(void) {
-    zelamiku_stats found;
+    zelamiku_stats found = {.size = sizeof found};
     MUST(zelamiku_heap_stats(all, &found) == ZELAMIKU_OK);
     return found;
 }
@@ -275,9 +265,9 @@ static zelamiku_stats stats(void) {
 /* Whether no round is being made, and none comes unless a thread does something. */
 static bool is_at_rest(void) {
     heap *of = &heaps[all.number >> 8 & 255];
-    pthread_mutex_lock(&of->mutex);
+    lock(&of->mutex);
     bool is = !of->is_led && !of->has_work && cause_of(of, false) == ZELAMIKU_ROUND_NONE && !of->is_troubled;
-    pthread_mutex_unlock(&of->mutex);
+    unlock(&of->mutex);
     return is;
 }
 
@@ -312,8 +302,8 @@ static void *count(void *data) {
     zelamiku_thread own = begin_thread();
     for (unsigned i = 1; i <= ROUNDS; i++) {
         add(own, TOTAL, 0, 1);
-        MUST(zelamiku_thread_sections(own) == i);
-        if ((uintptr_t)data < 4 && i % 8 == 0) MUST(zelamiku_thread_await(own) == ZELAMIKU_OK && zelamiku_thread_durable(own) == i);
+        MUST(progress(own).sections == i);
+        if ((uintptr_t)data < 4 && i % 8 == 0) MUST(zelamiku_thread_await(own) == ZELAMIKU_OK && progress(own).durable == i);
     }
     MUST(zelamiku_thread_end(own) == ZELAMIKU_OK);
     return NULL;
@@ -336,7 +326,7 @@ static void *pass(void *data) {
             MUST(zelamiku_thread_load(own, TAKEN, &value) == ZELAMIKU_OK);
             MUST(zelamiku_thread_store(own, TAKEN, value + 1) == ZELAMIKU_OK);
         }
-        MUST(zelamiku_thread_notify_all(own, LIST, &woken) == ZELAMIKU_OK && zelamiku_thread_exit(own, LIST) == ZELAMIKU_OK);
+        MUST(zelamiku_thread_notify(own, LIST, true, &woken) == ZELAMIKU_OK && zelamiku_thread_exit(own, LIST) == ZELAMIKU_OK);
     }
     MUST(zelamiku_thread_end(own) == ZELAMIKU_OK);
     return NULL;
@@ -361,8 +351,8 @@ static void unawaited(void) {
     begin_anew();
     zelamiku_thread own = begin_thread();
     for (unsigned sections = 20000; sections <= 20001; sections++) {
-        for (uint64_t i = zelamiku_thread_sections(own); i < sections; i++) add(own, TOTAL, 0, 1);
-        UNTIL(zelamiku_thread_durable(own) >= sections);
+        for (uint64_t i = progress(own).sections; i < sections; i++) add(own, TOTAL, 0, 1);
+        UNTIL(progress(own).durable >= sections);
     }
     MUST(zelamiku_heap_close(all) == ZELAMIKU_OK);
 }
@@ -420,9 +410,9 @@ static void room_that_is_not_waited_for(void) {
     __atomic_store_n(&syncs_hang, 1, __ATOMIC_SEQ_CST);
     while ((status = zelamiku_thread_enter_until(own, TOTAL, zelamiku_now() + 20000000)) == ZELAMIKU_OK)
         MUST(zelamiku_thread_store(own, 0, 7) == ZELAMIKU_OK && zelamiku_thread_exit(own, TOTAL) == ZELAMIKU_OK);
-    MUST(status == ZELAMIKU_BEHIND && zelamiku_thread_try_enter(own, TOTAL) == ZELAMIKU_BEHIND);
+    MUST(status == ZELAMIKU_BEHIND && zelamiku_thread_enter_until(own, TOTAL, 0) == ZELAMIKU_BEHIND);
     __atomic_store_n(&syncs_hang, 0, __ATOMIC_SEQ_CST);
-    UNTIL((status = zelamiku_thread_try_enter(own, TOTAL)) != ZELAMIKU_BEHIND);
+    UNTIL((status = zelamiku_thread_enter_until(own, TOTAL, 0)) != ZELAMIKU_BEHIND);
     MUST(status == ZELAMIKU_OK && zelamiku_thread_exit(own, TOTAL) == ZELAMIKU_OK && zelamiku_heap_close(all) == ZELAMIKU_OK);
 }
 
@@ -431,7 +421,7 @@ static void room_that_is_not_waited_for(void) {
 /* How many sections of three records a thread ends until it has no room, while the calls of a round that has taken the first one last. */
 static unsigned sections_in(uint32_t ring) {
     MUST(unlink("threads.heap") == 0 || errno == ENOENT);
-    MUST(begin_by(65536, ring, UINT32_MAX).told.found.capacity == 65536);
+    MUST(begin_by(65536, ring, UINT32_MAX).capacity == 65536);
     zelamiku_thread own = begin_thread();
     zelamiku_status status;
     unsigned sections = 0, before = __atomic_load_n(&syncs, __ATOMIC_SEQ_CST);
@@ -440,7 +430,7 @@ static unsigned sections_in(uint32_t ring) {
     add(own, TOTAL, 0, 1);
     MUST(zelamiku_thread_await_until(own, 1, 0, &is) == ZELAMIKU_OK && !is);
     UNTIL(__atomic_load_n(&syncs, __ATOMIC_SEQ_CST) != before);
-    for (; (status = zelamiku_thread_try_enter(own, TOTAL)) == ZELAMIKU_OK; sections++)
+    for (; (status = zelamiku_thread_enter_until(own, TOTAL, 0)) == ZELAMIKU_OK; sections++)
         MUST(zelamiku_thread_store(own, 0, 7) == ZELAMIKU_OK && zelamiku_thread_exit(own, TOTAL) == ZELAMIKU_OK);
     MUST(status == ZELAMIKU_BEHIND);
     __atomic_store_n(&syncs_hang, 0, __ATOMIC_SEQ_CST);
@@ -452,9 +442,9 @@ static unsigned sections_in(uint32_t ring) {
  * ring, and a ring that is larger than its log holds no more than that. */
 static void rings(void) {
     MUST(sections_in(4096) == 1033 && sections_in(0) == 5129 && sections_in(16384) == 5129 && sections_in(65536) == 21513);
-    MUST(unlink("threads.heap") == 0 && begin_by(0, 0, 1000).told.found.capacity == 16384 && zelamiku_heap_close(all) == ZELAMIKU_OK);
-    MUST(unlink("threads.heap") == 0 && begin_by(0, 65536, 1000).told.found.capacity == 65536 && zelamiku_heap_close(all) == ZELAMIKU_OK);
-    MUST(begin_by(0, 4096, 1000).told.found.capacity == 65536 && zelamiku_heap_close(all) == ZELAMIKU_OK);
+    MUST(unlink("threads.heap") == 0 && begin_by(0, 0, 1000).capacity == 16384 && zelamiku_heap_close(all) == ZELAMIKU_OK);
+    MUST(unlink("threads.heap") == 0 && begin_by(0, 65536, 1000).capacity == 65536 && zelamiku_heap_close(all) == ZELAMIKU_OK);
+    MUST(begin_by(0, 4096, 1000).capacity == 65536 && zelamiku_heap_close(all) == ZELAMIKU_OK);
 }
 
 /* A section's end asks for a round once three quarters of what sections fill are sent, and not durable. */
@@ -468,7 +458,7 @@ static void asks_in_time(void) {
     usleep(20000);
     MUST(stats().rounds == rounds);
     add(own, TOTAL, 0, 1);
-    UNTIL(zelamiku_thread_durable(own) >= 1474 && stats().rounds > rounds);
+    UNTIL(progress(own).durable >= 1474 && stats().rounds > rounds);
     MUST(stats().last_cause == ZELAMIKU_ROUND_FULL && zelamiku_heap_close(all) == ZELAMIKU_OK);
 }
 
@@ -477,7 +467,7 @@ static void *go_on_and_notify(void *data) {
     usleep(20000);
     __atomic_store_n(&syncs_hang, 0, __ATOMIC_SEQ_CST);
     for (uint32_t woken = ZELAMIKU_NOBODY; woken == ZELAMIKU_NOBODY;) {
-        MUST(zelamiku_thread_enter(own, TOTAL) == ZELAMIKU_OK && zelamiku_thread_notify(own, TOTAL, &woken) == ZELAMIKU_OK);
+        MUST(zelamiku_thread_enter(own, TOTAL) == ZELAMIKU_OK && notify_one(own, TOTAL, &woken) == ZELAMIKU_OK);
         MUST(zelamiku_thread_exit(own, TOTAL) == ZELAMIKU_OK);
     }
     MUST(zelamiku_thread_end(own) == ZELAMIKU_OK);
@@ -510,7 +500,7 @@ static void *await_each(void *data) {
     zelamiku_thread own = begin_thread();
     for (unsigned i = 1; i <= 100; i++) {
         add(own, LIST, TAKEN, 1);
-        MUST(zelamiku_thread_await(own) == ZELAMIKU_OK && zelamiku_thread_durable(own) == i);
+        MUST(zelamiku_thread_await(own) == ZELAMIKU_OK && progress(own).durable == i);
     }
     MUST(zelamiku_thread_end(own) == ZELAMIKU_OK);
     return data;
@@ -544,9 +534,9 @@ static void bounded_rounds(void) {
     zelamiku_thread own = begin_thread();
     (void)rounds_at_rest(); /* so that there is room */
     add_while_syncs_hang(own, 500);
-    UNTIL(zelamiku_thread_durable(own) == 500);
+    UNTIL(progress(own).durable == 500);
     add_while_syncs_hang(own, 500);
-    MUST(zelamiku_thread_await(own) == ZELAMIKU_OK && zelamiku_thread_durable(own) == 1000);
+    MUST(zelamiku_thread_await(own) == ZELAMIKU_OK && progress(own).durable == 1000);
     /* Of 1,500 records 200 at most are taken while syncs hang, and the others by six rounds and a shorter one, each time. */
     MUST(__atomic_load_n(&short_rounds, __ATOMIC_SEQ_CST) >= 12);
     for (unsigned i = 0; i < 500; i++) add(own, TOTAL, 0, 1);
@@ -557,7 +547,7 @@ static void bounded_rounds(void) {
     run(pass, LANES);
     own = begin_thread();
     for (unsigned i = 0; i < 500; i++) add(own, TOTAL, 0, 1);
-    MUST(zelamiku_heap_stop(all) == ZELAMIKU_OK && last_bound == ZELAMIKU_ALL && zelamiku_thread_end(own) == ZELAMIKU_CLOSED);
+    MUST(zelamiku_heap_stop(all, ZELAMIKU_CLOSED) == ZELAMIKU_OK && last_bound == ZELAMIKU_ALL && zelamiku_thread_end(own) == ZELAMIKU_CLOSED);
     (void)begin_again(0);
     MUST(look(TOTAL, 0) == 3 * 2000 + 2000 + LANES * ROUNDS && zelamiku_heap_close(all) == ZELAMIKU_OK);
     few = 0;
@@ -590,9 +580,9 @@ static void *wait_once(void *data) {
     zelamiku_status status = zelamiku_thread_wait(own, TOTAL);
     if (status != ZELAMIKU_OK) return (void *)(uintptr_t)status;
     /* By both locks. */
-    MUST(zelamiku_thread_exit(own, TOTAL) == ZELAMIKU_OK && zelamiku_thread_sections(own) == 1);
+    MUST(zelamiku_thread_exit(own, TOTAL) == ZELAMIKU_OK && progress(own).sections == 1);
     MUST(zelamiku_thread_exit(own, TOTAL) == ZELAMIKU_OK && zelamiku_thread_exit(own, TOTAL) == ZELAMIKU_NOT_HELD);
-    MUST(zelamiku_thread_sections(own) == 2 && zelamiku_thread_await(own) == ZELAMIKU_OK);
+    MUST(progress(own).sections == 2 && zelamiku_thread_await(own) == ZELAMIKU_OK);
     MUST(zelamiku_thread_end(own) == ZELAMIKU_OK);
     (void)data;
     return NULL;
@@ -612,18 +602,18 @@ static void refusals(void) {
     MUST(pthread_create(&waiter, NULL, wait_once, NULL) == 0);
     await_waiter(own);
     MUST(zelamiku_heap_close(all) == ZELAMIKU_RUNNING);
-    MUST(zelamiku_thread_notify(own, TOTAL, &woken) == ZELAMIKU_NOT_HELD && woken == ZELAMIKU_NOBODY);
+    MUST(notify_one(own, TOTAL, &woken) == ZELAMIKU_NOT_HELD && woken == ZELAMIKU_NOBODY);
     MUST(zelamiku_thread_enter(own, TOTAL) == ZELAMIKU_OK);
-    MUST(zelamiku_thread_look(own, TOTAL, &sight) == ZELAMIKU_OK && sight.owner == zelamiku_thread_lane(own) && sight.locks == 1);
+    MUST(zelamiku_thread_look(own, TOTAL, &sight) == ZELAMIKU_OK && sight.owner == progress(own).lane && sight.locks == 1);
     /* The waiter's: the second one that was lent. */
-    MUST(zelamiku_thread_notify(own, TOTAL, &woken) == ZELAMIKU_OK && zelamiku_thread_lane(own) == 0 && woken == 1);
-    MUST(zelamiku_thread_notify(own, TOTAL, &woken) == ZELAMIKU_OK && woken == ZELAMIKU_NOBODY);
-    MUST(zelamiku_thread_end(own) == ZELAMIKU_UNFINISHED && zelamiku_thread_exit(own, TOTAL) == ZELAMIKU_OK);
+    MUST(notify_one(own, TOTAL, &woken) == ZELAMIKU_OK && progress(own).lane == 0 && woken == 1);
+    MUST(notify_one(own, TOTAL, &woken) == ZELAMIKU_OK && woken == ZELAMIKU_NOBODY);
+    MUST(zelamiku_thread_end(own) == ZELAMIKU_RUNNING && zelamiku_thread_exit(own, TOTAL) == ZELAMIKU_OK);
     MUST(pthread_join(waiter, NULL) == 0);
     for (unsigned i = 0; i < LANES - 1; i++) others[i] = begin_thread();
     MUST(zelamiku_thread_begin(&others[LANES - 1], all) == ZELAMIKU_NONE_LEFT && stats().lent == LANES);
     MUST(zelamiku_thread_end(others[0]) == ZELAMIKU_OK && zelamiku_thread_begin(&others[0], all) == ZELAMIKU_OK);
-    MUST(zelamiku_thread_sections(others[0]) == 0 && zelamiku_thread_await(others[0]) == ZELAMIKU_OK);
+    MUST(progress(others[0]).sections == 0 && zelamiku_thread_await(others[0]) == ZELAMIKU_OK);
     MUST(zelamiku_thread_enter(others[0], LIST) == ZELAMIKU_OK && zelamiku_heap_close(all) == ZELAMIKU_RUNNING);
     MUST(zelamiku_thread_exit(others[0], LIST) == ZELAMIKU_OK);
     /* Those that are lent and have nothing open don't matter. */
@@ -653,16 +643,16 @@ static void *ask_for_newest(void *data) {
     while (!stop_asking) {
         zelamiku_thread other = {newest};
         bool is = false;
-        MUST(zelamiku_thread_sections(other) <= EACH && zelamiku_thread_durable(other) <= EACH);
+        MUST(progress(other).sections <= EACH && progress(other).durable <= EACH);
         zelamiku_status status = data == NULL ? ZELAMIKU_OK : zelamiku_thread_await_until(other, 1, 0, &is);
-        MUST(status == ZELAMIKU_OK || status == ZELAMIKU_NOTHING || status == ZELAMIKU_UNFINISHED);
+        MUST(status == ZELAMIKU_OK || status == ZELAMIKU_NOTHING || status == ZELAMIKU_RUNNING);
     }
     return data;
 }
 
 /* A thread that has ended is asked for, while its lane is lent again and again. */
 static void asks_for_others(void) {
-    zelamiku_plan plan = {.fields = FIELDS, .count = 3, .objects = 2, .lanes = 1, .linger = 100};
+    zelamiku_plan plan = {.size = sizeof(zelamiku_plan), .fields = FIELDS, .count = 3, .objects = 2, .lanes = 1, .linger = 100};
     pthread_t threads[4];
     stop_asking = false;
     newest = 0;
@@ -687,7 +677,7 @@ static void enters_with_deadlines(void) {
     begin_anew();
     zelamiku_thread own = begin_thread(), other = begin_thread();
     pthread_t thread;
-    MUST(zelamiku_thread_enter(other, TOTAL) == ZELAMIKU_OK && zelamiku_thread_try_enter(own, TOTAL) == ZELAMIKU_HELD);
+    MUST(zelamiku_thread_enter(other, TOTAL) == ZELAMIKU_OK && zelamiku_thread_enter_until(own, TOTAL, 0) == ZELAMIKU_HELD);
     MUST(zelamiku_thread_enter_until(own, TOTAL, zelamiku_now() + 5000000) == ZELAMIKU_HELD && stats().entering == 0);
     MUST(pthread_create(&thread, NULL, hold_for_a_moment, &other) == 0);
     MUST(zelamiku_thread_enter_until(own, TOTAL, zelamiku_now() + 600000000000) == ZELAMIKU_OK);
@@ -701,22 +691,20 @@ static void tells_earlier_sections(void) {
     begin_anew();
     zelamiku_thread first = begin_thread();
     for (unsigned i = 0; i < 3; i++) add(first, TOTAL, 0, 1);
-    MUST(zelamiku_thread_earlier(first) == 0 && zelamiku_thread_end(first) == ZELAMIKU_OK);
+    MUST(progress(first).earlier == 0 && zelamiku_thread_end(first) == ZELAMIKU_OK);
     zelamiku_thread second = begin_thread();
-    MUST(zelamiku_thread_earlier(first) == 0 && zelamiku_thread_lane(second) == 0 && zelamiku_thread_earlier(second) == 3);
+    MUST(progress(first).earlier == 0 && progress(second).lane == 0 && progress(second).earlier == 3);
     add(second, TOTAL, 0, 1);
     MUST(zelamiku_thread_enter(second, TOTAL) == ZELAMIKU_OK && zelamiku_thread_store(second, 0, 9) == ZELAMIKU_OK);
-    MUST(zelamiku_heap_abandon(all) == ZELAMIKU_OK && zelamiku_thread_earlier(second) == 3);
+    MUST(zelamiku_heap_stop(all, ZELAMIKU_ABANDONED) == ZELAMIKU_OK && progress(second).earlier == 3);
     MUST(zelamiku_thread_exit(second, TOTAL) == ZELAMIKU_ABANDONED);
     zelamiku_report report = begin_again(4000);
 #ifndef MOCKED
-    zelamiku_dropped dropped = {0, 0, 0, 0, 0};
-    size_t told = 0;
-    MUST(report.told.kept[0] == 4 && zelamiku_heap_dropped(all, 0, &dropped, 1, &told) == ZELAMIKU_OK && told == 1);
-    MUST(dropped.lane == 0 && dropped.section - 3 == 2);
+    zelamiku_dropped dropped = dropped_section(all, 0);
+    MUST(report.kept[0] == 4 && report.dropped == 1 && dropped.lane == 0 && dropped.section - 3 == 2);
 #endif
     first = begin_thread();
-    MUST(zelamiku_thread_earlier(first) == 0 && zelamiku_heap_close(all) == ZELAMIKU_OK);
+    MUST(progress(first).earlier == 0 && zelamiku_heap_close(all) == ZELAMIKU_OK);
     (void)report;
 }
 
@@ -731,19 +719,19 @@ static void failing_writes(void) {
     __atomic_store_n(&writes_fail, 1, __ATOMIC_SEQ_CST);
     add(own, TOTAL, 0, 1);
     for (int i = 0; i < 3; i++) {
-        MUST(zelamiku_thread_await(own) == ZELAMIKU_DEVICE && zelamiku_heap_error() == ENOSPC);
-        MUST(strstr(zelamiku_heap_message(), "threads.heap: await: a write has failed: No space left on device") != NULL);
+        MUST(zelamiku_thread_await(own) == ZELAMIKU_DEVICE && last_failure().error == ENOSPC);
+        MUST(strstr(zelamiku_heap_failure(NULL), "threads.heap: await: a write has failed: No space left on device") != NULL);
     }
-    MUST(zelamiku_thread_durable(own) == 1 && zelamiku_heap_close(all) == ZELAMIKU_DEVICE);
+    MUST(progress(own).durable == 1 && zelamiku_heap_close(all) == ZELAMIKU_DEVICE);
     /* A lane without room is told too. */
     zelamiku_status status = ZELAMIKU_OK;
     while ((status = zelamiku_thread_enter(own, TOTAL)) == ZELAMIKU_OK)
         MUST(zelamiku_thread_store(own, 0, 7) == ZELAMIKU_OK && zelamiku_thread_exit(own, TOTAL) == ZELAMIKU_OK);
-    MUST(status == ZELAMIKU_DEVICE && zelamiku_heap_error() == ENOSPC);
+    MUST(status == ZELAMIKU_DEVICE && last_failure().error == ENOSPC);
     __atomic_store_n(&writes_fail, 0, __ATOMIC_SEQ_CST);
     /* A round that began before may be told. */
     while ((status = zelamiku_thread_await(own)) == ZELAMIKU_DEVICE) {}
-    MUST(status == ZELAMIKU_OK && zelamiku_thread_durable(own) == zelamiku_thread_sections(own));
+    MUST(status == ZELAMIKU_OK && progress(own).durable == progress(own).sections);
     /* A line may come after those that wait are woken. */
     UNTIL(__atomic_load_n(&logged[ZELAMIKU_LOG_INFO], __ATOMIC_SEQ_CST) != infos);
     MUST(stats().troubles >= 3 && logged[ZELAMIKU_LOG_WARNING] == warnings + 1 && logged[ZELAMIKU_LOG_INFO] == infos + 1);
@@ -761,7 +749,7 @@ static void writes_again(void) {
     UNTIL(stats().troubles > 0);
     __atomic_store_n(&writes_fail, 0, __ATOMIC_SEQ_CST);
     /* Of a round its sections are told before its cause. */
-    UNTIL(zelamiku_thread_durable(own) == 1 && stats().last_cause == ZELAMIKU_ROUND_AGAIN);
+    UNTIL(progress(own).durable == 1 && stats().last_cause == ZELAMIKU_ROUND_AGAIN);
     MUST(zelamiku_heap_close(all) == ZELAMIKU_OK);
 }
 
@@ -784,10 +772,10 @@ static void failing_syncs(void) {
     __atomic_store_n(&syncs_fail, 0, __ATOMIC_SEQ_CST);
     unsigned before = __atomic_load_n(&syncs, __ATOMIC_SEQ_CST);
     MUST(pthread_join(waiter, &answer) == 0 && (uintptr_t)answer == ZELAMIKU_LOST);
-    MUST(zelamiku_thread_enter(own, TOTAL) == ZELAMIKU_LOST && zelamiku_heap_error() == EIO);
-    MUST(strstr(zelamiku_heap_message(), "Input/output error; close the heap and open it again; if that fails with EIO, mount the file system") != NULL);
-    MUST(zelamiku_thread_begin(&other, all) == ZELAMIKU_LOST && zelamiku_heap_error() == EIO);
-    MUST(zelamiku_heap_close(all) == ZELAMIKU_LOST && zelamiku_heap_error() == EIO);
+    MUST(zelamiku_thread_enter(own, TOTAL) == ZELAMIKU_LOST && last_failure().error == EIO);
+    MUST(strstr(zelamiku_heap_failure(NULL), "Input/output error; close the heap and open it again; if that fails with EIO, mount the file system") != NULL);
+    MUST(zelamiku_thread_begin(&other, all) == ZELAMIKU_LOST && last_failure().error == EIO);
+    MUST(zelamiku_heap_close(all) == ZELAMIKU_LOST && last_failure().error == EIO);
     MUST(__atomic_load_n(&syncs, __ATOMIC_SEQ_CST) == before && logged[ZELAMIKU_LOG_ERROR] == 1);
     (void)begin_again(4000);
     uint64_t value = look(TOTAL, 0);
@@ -798,7 +786,7 @@ static void failing_syncs(void) {
 
 /* Ends the heap: by a stop, an abandon, or a sync that fails. */
 static zelamiku_status end_by(unsigned how, zelamiku_thread other) {
-    if (how < 2) MUST((how == 0 ? zelamiku_heap_stop(all) : zelamiku_heap_abandon(all)) == ZELAMIKU_OK);
+    if (how < 2) MUST((how == 0 ? zelamiku_heap_stop(all, ZELAMIKU_CLOSED) : zelamiku_heap_stop(all, ZELAMIKU_ABANDONED)) == ZELAMIKU_OK);
     if (how < 2) return how == 0 ? ZELAMIKU_CLOSED : ZELAMIKU_ABANDONED;
     __atomic_store_n(&syncs_fail, 1, __ATOMIC_SEQ_CST);
     add(other, LIST, COUNT, 1);
@@ -820,8 +808,8 @@ static void cut_off(void) {
         zelamiku_status why = end_by(how % 3, other);
         if (how < 3) MUST(zelamiku_thread_exit(own, TOTAL) == why);
         MUST(zelamiku_thread_await_until(own, ZELAMIKU_ALL_SECTIONS, ZELAMIKU_NO_DEADLINE, &is) == why && !is);
-        MUST(zelamiku_thread_await(own) == why && strstr(zelamiku_heap_message(), "threads.heap: await: ") == zelamiku_heap_message());
-        MUST(zelamiku_heap_error() == (why == ZELAMIKU_LOST ? EIO : 0));
+        MUST(zelamiku_thread_await(own) == why && strstr(zelamiku_heap_failure(NULL), "threads.heap: await: ") == zelamiku_heap_failure(NULL));
+        MUST(last_failure().error == (why == ZELAMIKU_LOST ? EIO : 0));
         MUST(zelamiku_thread_await_until(own, 2, ZELAMIKU_NO_DEADLINE, &is) == why && !is);
         MUST(zelamiku_thread_await_until(own, 1, ZELAMIKU_NO_DEADLINE, &is) == ZELAMIKU_OK && is);
         MUST(zelamiku_thread_end(own) == why && zelamiku_thread_await(own) == why);
@@ -835,9 +823,9 @@ static zelamiku_thread holder;
 
 static void *wait_by_holder(void *data) {
     MUST(zelamiku_thread_enter(holder, TOTAL) == ZELAMIKU_OK && zelamiku_thread_store(holder, 0, 1) == ZELAMIKU_OK);
-    MUST(zelamiku_thread_wait(holder, TOTAL) == ZELAMIKU_OK && zelamiku_thread_await(holder) == ZELAMIKU_UNFINISHED);
+    MUST(zelamiku_thread_wait(holder, TOTAL) == ZELAMIKU_OK && zelamiku_thread_await(holder) == ZELAMIKU_RUNNING);
     MUST(zelamiku_thread_exit(holder, TOTAL) == ZELAMIKU_OK && zelamiku_thread_await(holder) == ZELAMIKU_OK);
-    MUST(zelamiku_thread_durable(holder) == 2);
+    MUST(progress(holder).durable == 2);
     return data;
 }
 
@@ -854,21 +842,21 @@ static void awaits_in_sections(void) {
     add(own, LIST, COUNT, 1);
     MUST(zelamiku_thread_enter(own, LIST) == ZELAMIKU_OK && zelamiku_thread_enter(own, TOTAL) == ZELAMIKU_OK);
     for (unsigned locks = 2; locks > 0; locks--) {
-        MUST(zelamiku_thread_await(own) == ZELAMIKU_UNFINISHED);
-        MUST(strcmp(zelamiku_heap_message(), "threads.heap: await: the thread holds a monitor; exit it before") == 0);
-        MUST(zelamiku_thread_await_until(own, ZELAMIKU_ALL_SECTIONS, 0, &is) == ZELAMIKU_UNFINISHED && !is);
-        MUST(zelamiku_thread_await_until(own, 2, ZELAMIKU_NO_DEADLINE, &is) == ZELAMIKU_UNFINISHED && !is);
+        MUST(zelamiku_thread_await(own) == ZELAMIKU_RUNNING);
+        MUST(strcmp(zelamiku_heap_failure(NULL), "threads.heap: await: the thread has a section open; exit its monitors before") == 0);
+        MUST(zelamiku_thread_await_until(own, ZELAMIKU_ALL_SECTIONS, 0, &is) == ZELAMIKU_RUNNING && !is);
+        MUST(zelamiku_thread_await_until(own, 2, ZELAMIKU_NO_DEADLINE, &is) == ZELAMIKU_RUNNING && !is);
         MUST(zelamiku_thread_await_until(own, 1, ZELAMIKU_NO_DEADLINE, &is) == ZELAMIKU_OK && is);
         MUST(zelamiku_thread_exit(own, locks == 2 ? TOTAL : LIST) == ZELAMIKU_OK);
     }
-    MUST(zelamiku_thread_await(own) == ZELAMIKU_OK && zelamiku_thread_durable(own) == 2);
+    MUST(zelamiku_thread_await(own) == ZELAMIKU_OK && progress(own).durable == 2);
     holder = begin_thread();
     MUST(pthread_create(&waiter, NULL, wait_by_holder, NULL) == 0);
     await_waiter(own);
-    while (zelamiku_thread_sections(holder) == 0) sched_yield();
+    while (progress(holder).sections == 0) sched_yield();
     MUST(zelamiku_thread_await_until(holder, ZELAMIKU_ALL_SECTIONS, ZELAMIKU_NO_DEADLINE, &is) == ZELAMIKU_OK && is);
-    MUST(zelamiku_thread_durable(holder) == 1 && zelamiku_thread_enter(own, TOTAL) == ZELAMIKU_OK);
-    MUST(zelamiku_thread_notify(own, TOTAL, &woken) == ZELAMIKU_OK && zelamiku_thread_exit(own, TOTAL) == ZELAMIKU_OK);
+    MUST(progress(holder).durable == 1 && zelamiku_thread_enter(own, TOTAL) == ZELAMIKU_OK);
+    MUST(notify_one(own, TOTAL, &woken) == ZELAMIKU_OK && zelamiku_thread_exit(own, TOTAL) == ZELAMIKU_OK);
     MUST(pthread_join(waiter, NULL) == 0 && zelamiku_heap_close(all) == ZELAMIKU_OK);
 }
 
@@ -886,12 +874,12 @@ static void deadlines(void) {
     MUST(zelamiku_thread_await_until(own, 1, ZELAMIKU_NO_DEADLINE, &is) == ZELAMIKU_OK && is);
     uint64_t due = zelamiku_now() + 50000000;
     MUST(zelamiku_thread_await_until(own, ZELAMIKU_ALL_SECTIONS, due, &is) == ZELAMIKU_OK && !is && zelamiku_now() >= due);
-    MUST(zelamiku_thread_await_until(own, 2, 0, &is) == ZELAMIKU_OK && !is && zelamiku_thread_durable(own) == 1);
+    MUST(zelamiku_thread_await_until(own, 2, 0, &is) == ZELAMIKU_OK && !is && progress(own).durable == 1);
     MUST(zelamiku_heap_await_round(all, stats().rounds, zelamiku_now() + 10000000, &rounds) == ZELAMIKU_OK && rounds == stats().rounds);
     MUST(add(own, TOTAL, 0, 1) == 2 && stats().awaiting == 0);
     __atomic_store_n(&syncs_hang, 0, __ATOMIC_SEQ_CST);
     MUST(zelamiku_heap_await_round(all, rounds, ZELAMIKU_NO_DEADLINE, &rounds) == ZELAMIKU_OK);
-    MUST(zelamiku_thread_await(own) == ZELAMIKU_OK && zelamiku_thread_durable(own) == 3 && zelamiku_heap_close(all) == ZELAMIKU_OK);
+    MUST(zelamiku_thread_await(own) == ZELAMIKU_OK && progress(own).durable == 3 && zelamiku_heap_close(all) == ZELAMIKU_OK);
 }
 
 /* ---- sections that only look ---- */
@@ -910,36 +898,36 @@ static void looks_make_no_rounds(void) {
     begin_anew();
     zelamiku_thread own = begin_thread();
     add(own, TOTAL, 0, 1);
-    UNTIL(zelamiku_thread_durable(own) >= 1);
+    UNTIL(progress(own).durable >= 1);
     uint64_t before = rounds_at_rest();
     unsigned synced = __atomic_load_n(&syncs, __ATOMIC_SEQ_CST);
     MUST(stats().last_cause == ZELAMIKU_ROUND_LINGER);
     look_often(own, 50, 10000);
-    MUST(rounds_at_rest() == before && __atomic_load_n(&syncs, __ATOMIC_SEQ_CST) == synced && zelamiku_thread_durable(own) == 1);
-    MUST(zelamiku_thread_await(own) == ZELAMIKU_OK && zelamiku_thread_durable(own) == 51 && stats().rounds == before + 1);
+    MUST(rounds_at_rest() == before && __atomic_load_n(&syncs, __ATOMIC_SEQ_CST) == synced && progress(own).durable == 1);
+    MUST(zelamiku_thread_await(own) == ZELAMIKU_OK && progress(own).durable == 51 && stats().rounds == before + 1);
     /* Also who doesn't sleep for it, and who waits for a round alone. */
     look_often(own, 5, 5000);
     MUST(zelamiku_thread_await_until(own, ZELAMIKU_ALL_SECTIONS, 0, &is) == ZELAMIKU_OK);
-    UNTIL(zelamiku_thread_durable(own) >= 56);
+    UNTIL(progress(own).durable >= 56);
     look_often(own, 5, 5000);
-    MUST(zelamiku_heap_await_round(all, rounds_at_rest(), ZELAMIKU_NO_DEADLINE, &rounds) == ZELAMIKU_OK && zelamiku_thread_durable(own) == 61);
+    MUST(zelamiku_heap_await_round(all, rounds_at_rest(), ZELAMIKU_NO_DEADLINE, &rounds) == ZELAMIKU_OK && progress(own).durable == 61);
     /* They go with the round of a section that has stored, before or after them. */
     zelamiku_thread other = begin_thread();
     look_often(own, 5, 5000);
     add(other, LIST, COUNT, 1);
     look_often(own, 1, 0);
-    UNTIL(zelamiku_thread_durable(other) >= 1 && zelamiku_thread_durable(own) >= 66);
+    UNTIL(progress(other).durable >= 1 && progress(own).durable >= 66);
     MUST(rounds_at_rest() <= rounds + 2 && stats().last_cause == ZELAMIKU_ROUND_LINGER);
     /* What has no room asks for rounds. */
     look_often(own, 20000, 0);
-    MUST(zelamiku_thread_durable(own) > 10000 && zelamiku_heap_close(all) == ZELAMIKU_OK);
+    MUST(progress(own).durable > 10000 && zelamiku_heap_close(all) == ZELAMIKU_OK);
 }
 
 /* Nor does what stores nothing durable: to a transient field, by a store, a take or a give that is refused. */
 static void still_sections(uint32_t reverts) {
     enum { VALUE, PASSING, HEAD, SLOTS = 2, ALL = HEAD + 1 + SLOTS, EACH_KIND = 5 };
     zelamiku_field fields[ALL] = {{0, 0, 10, 0}, {0, 0, 5, 1}};
-    zelamiku_plan plan = {.fields = fields, .count = ALL, .objects = 1, .lanes = 1, .linger = 1000, .reverts = reverts};
+    zelamiku_plan plan = {.size = sizeof(zelamiku_plan), .fields = fields, .count = ALL, .objects = 1, .lanes = 1, .linger = 1000, .reverts = reverts};
     uint32_t slot;
     MUST(zelamiku_pool_fields(0, &fields[HEAD], 1 + SLOTS) == ZELAMIKU_OK && (unlink("still.heap") == 0 || errno == ENOENT));
     MUST(zelamiku_heap_open(&all, "still.heap", &plan, NULL) == ZELAMIKU_OK);
@@ -947,7 +935,7 @@ static void still_sections(uint32_t reverts) {
     MUST(zelamiku_thread_enter(own, 0) == ZELAMIKU_OK);
     for (unsigned i = 0; i < SLOTS; i++) MUST(zelamiku_thread_take(own, HEAD, SLOTS, &slot) == ZELAMIKU_OK);
     MUST(zelamiku_thread_exit(own, 0) == ZELAMIKU_OK);
-    UNTIL(zelamiku_thread_durable(own) == 1);
+    UNTIL(progress(own).durable == 1);
     uint64_t rounds = rounds_at_rest();
     unsigned synced = __atomic_load_n(&syncs, __ATOMIC_SEQ_CST);
     for (unsigned i = 0; i < 4 * EACH_KIND; i++) {
@@ -961,12 +949,12 @@ static void still_sections(uint32_t reverts) {
         MUST(zelamiku_thread_exit(own, 0) == ZELAMIKU_OK);
         usleep(3000);
     }
-    MUST(rounds_at_rest() == rounds && __atomic_load_n(&syncs, __ATOMIC_SEQ_CST) == synced && zelamiku_thread_durable(own) == 1);
+    MUST(rounds_at_rest() == rounds && __atomic_load_n(&syncs, __ATOMIC_SEQ_CST) == synced && progress(own).durable == 1);
     MUST(zelamiku_thread_enter(own, 0) == ZELAMIKU_OK && zelamiku_thread_give(own, HEAD, SLOTS, 0) == ZELAMIKU_OK);
     MUST(zelamiku_thread_exit(own, 0) == ZELAMIKU_OK);
-    UNTIL(zelamiku_thread_durable(own) == zelamiku_thread_sections(own));
+    UNTIL(progress(own).durable == progress(own).sections);
     add(own, 0, VALUE, 1);
-    UNTIL(zelamiku_thread_durable(own) == zelamiku_thread_sections(own));
+    UNTIL(progress(own).durable == progress(own).sections);
     MUST(zelamiku_heap_close(all) == ZELAMIKU_OK && unlink("still.heap") == 0);
 }
 
@@ -978,7 +966,7 @@ static void looks_depend_on_stores(void) {
     for (unsigned i = 1; i <= 20; i++) {
         add(other, TOTAL, 0, 1);
         add(own, TOTAL, 0, 0);
-        MUST(zelamiku_thread_await(own) == ZELAMIKU_OK && zelamiku_thread_durable(own) == i && zelamiku_thread_durable(other) == i);
+        MUST(zelamiku_thread_await(own) == ZELAMIKU_OK && progress(own).durable == i && progress(other).durable == i);
     }
     MUST(stats().rounds == rounds + 20 && zelamiku_heap_close(all) == ZELAMIKU_OK);
 }
@@ -992,9 +980,9 @@ static void waits_end_what_is_stored(void) {
     holder = begin_thread();
     MUST(pthread_create(&waiter, NULL, wait_by_holder, NULL) == 0);
     await_waiter(own);
-    UNTIL(zelamiku_thread_durable(holder) >= 1);
+    UNTIL(progress(holder).durable >= 1);
     uint64_t rounds = rounds_at_rest();
-    MUST(zelamiku_thread_enter(own, TOTAL) == ZELAMIKU_OK && zelamiku_thread_notify(own, TOTAL, &woken) == ZELAMIKU_OK);
+    MUST(zelamiku_thread_enter(own, TOTAL) == ZELAMIKU_OK && notify_one(own, TOTAL, &woken) == ZELAMIKU_OK);
     UNTIL(stats().entering == 1);
     MUST(rounds_at_rest() == rounds && zelamiku_thread_exit(own, TOTAL) == ZELAMIKU_OK);
     MUST(pthread_join(waiter, NULL) == 0 && zelamiku_heap_close(all) == ZELAMIKU_OK);
@@ -1034,7 +1022,7 @@ static void ends_beside_failing_syncs(void) {
         UNTIL(stats().awaiting > 0);
         add(own, TOTAL, 0, 1);
         MUST(pthread_create(&other, NULL, fail_soon, NULL) == 0);
-        MUST((stops ? zelamiku_heap_stop(all) : zelamiku_heap_close(all)) == ZELAMIKU_LOST && zelamiku_heap_error() == EIO);
+        MUST((stops ? zelamiku_heap_stop(all, ZELAMIKU_CLOSED) : zelamiku_heap_close(all)) == ZELAMIKU_LOST && last_failure().error == EIO);
         MUST(pthread_join(other, NULL) == 0 && ends(waiter, &answer));
         MUST((uintptr_t)answer == ZELAMIKU_LOST || (stops && (uintptr_t)answer == ZELAMIKU_CLOSED));
         __atomic_store_n(&syncs_fail, 0, __ATOMIC_SEQ_CST);
@@ -1074,19 +1062,16 @@ static void stops(zelamiku_status why) {
     MUST(zelamiku_thread_enter(holder, TOTAL) == ZELAMIKU_OK);
     MUST(pthread_create(&wants, NULL, want_monitor, NULL) == 0);
     UNTIL(stats().entering > 0);
-    MUST((why == ZELAMIKU_CLOSED ? zelamiku_heap_stop(all) : zelamiku_heap_abandon(all)) == ZELAMIKU_OK);
+    MUST((why == ZELAMIKU_CLOSED ? zelamiku_heap_stop(all, ZELAMIKU_CLOSED) : zelamiku_heap_stop(all, ZELAMIKU_ABANDONED)) == ZELAMIKU_OK);
     MUST(ends(waits, &answer[0]) && ends(wants, &answer[1]) && ends(awaits, &answer[2]));
     for (int i = 0; i < 3; i++) MUST((zelamiku_status)(uintptr_t)answer[i] == why);
     MUST(zelamiku_thread_exit(holder, TOTAL) == why && zelamiku_thread_end(holder) == why && zelamiku_thread_end(own) == why);
     zelamiku_report report = begin_again(4000);
 #ifndef MOCKED
-    zelamiku_dropped both[2], second[2];
-    size_t told = 0;
-    MUST(report.told.found.dropped == 2 && look(TOTAL, 0) == 1);
-    MUST(zelamiku_heap_dropped(all, 0, both, 2, &told) == ZELAMIKU_OK && told == 2);
-    MUST(zelamiku_heap_dropped(all, 1, second, 2, &told) == ZELAMIKU_OK && told == 1);
-    MUST(second[0].lane == both[1].lane && second[0].section == both[1].section);
-    MUST(both[0].lane != both[1].lane || both[0].section != both[1].section);
+    zelamiku_dropped first = dropped_section(all, 0), second = dropped_section(all, 1);
+    MUST(report.dropped == 2 && look(TOTAL, 0) == 1);
+    MUST(first.lane < second.lane || (first.lane == second.lane && first.section < second.section));
+    MUST(dropped_section(all, 2).why == ZELAMIKU_NOT_DROPPED);
 #endif
     MUST(look(LIST, COUNT) == 5 && zelamiku_heap_close(all) == ZELAMIKU_OK);
     (void)report;
@@ -1136,7 +1121,7 @@ static void stops_in_full_run(void) {
         begin_anew();
         for (unsigned k = 0; k < LANES; k++) MUST(pthread_create(&threads[k], NULL, count_until_the_end, (void *)(uintptr_t)k) == 0);
         usleep(i * 37 % 2000);
-        MUST((i % 2 == 0 ? zelamiku_heap_stop(all) : zelamiku_heap_abandon(all)) == ZELAMIKU_OK);
+        MUST((i % 2 == 0 ? zelamiku_heap_stop(all, ZELAMIKU_CLOSED) : zelamiku_heap_stop(all, ZELAMIKU_ABANDONED)) == ZELAMIKU_OK);
         for (unsigned k = 0; k < LANES; k++) MUST(ends(threads[k], NULL));
     }
 }
@@ -1207,7 +1192,7 @@ static void lost_lanes(void) {
     begin_anew();
     zelamiku_thread own = begin_thread();
     pthread_t waiter = hold_back(wait_and_begin_anew);
-    MUST(zelamiku_thread_enter(own, TOTAL) == ZELAMIKU_OK && zelamiku_thread_notify(own, TOTAL, &woken) == ZELAMIKU_OK && woken == 1);
+    MUST(zelamiku_thread_enter(own, TOTAL) == ZELAMIKU_OK && notify_one(own, TOTAL, &woken) == ZELAMIKU_OK && woken == 1);
     MUST(zelamiku_thread_exit(own, TOTAL) == ZELAMIKU_OK);
     (void)rounds_at_rest();
     unsigned before = __atomic_load_n(&failures, __ATOMIC_SEQ_CST);
@@ -1218,13 +1203,13 @@ static void lost_lanes(void) {
     MUST(let_go_on(waiter) == ZELAMIKU_LOST);
     __atomic_store_n(&failures_last, 0, __ATOMIC_SEQ_CST);
     MUST(zelamiku_thread_await(own) == ZELAMIKU_LOST && zelamiku_thread_end(own) == ZELAMIKU_LOST);
-    MUST(zelamiku_heap_close(all) == ZELAMIKU_LOST && zelamiku_heap_error() == EIO);
+    MUST(zelamiku_heap_close(all) == ZELAMIKU_LOST && last_failure().error == EIO);
     __atomic_store_n(&syncs_fail, 0, __ATOMIC_SEQ_CST);
 }
 
 /* Opens heaps and closes them, more than there are places. */
 static void use_all_places(void) {
-    zelamiku_plan plan = {.fields = FIELDS, .count = 3, .objects = 2, .lanes = 1, .capacity = 2000, .ring = 4096};
+    zelamiku_plan plan = {.size = sizeof(zelamiku_plan), .fields = FIELDS, .count = 3, .objects = 2, .lanes = 1, .capacity = 2000, .ring = 4096};
     zelamiku_heap other;
     for (int i = 0; i < ZELAMIKU_MOST_HEAPS + 10; i++)
         MUST(zelamiku_heap_open(&other, "other.heap", &plan, NULL) == ZELAMIKU_OK && zelamiku_heap_close(other) == ZELAMIKU_OK);
@@ -1280,7 +1265,7 @@ static void places_with_fewer_lanes(void) {
     MUST(zelamiku_heap_close(all) == ZELAMIKU_OK);
     use_all_places();
     for (unsigned i = 0; i < LANES; i++) {
-        MUST(zelamiku_thread_sections(before[i]) == 0 && zelamiku_thread_lane(before[i]) == ZELAMIKU_NOBODY);
+        MUST(progress(before[i]).sections == 0 && progress(before[i]).lane == ZELAMIKU_NOBODY);
         MUST(zelamiku_thread_await(before[i]) == ZELAMIKU_NOTHING && zelamiku_thread_enter(before[i], TOTAL) == ZELAMIKU_NOTHING);
         MUST(zelamiku_thread_end(before[i]) == ZELAMIKU_NOTHING);
     }
@@ -1318,7 +1303,7 @@ static void await_waits(size_t count, zelamiku_wait *waits) {
 
 /* All lanes are in the circle, so that only who sleeps can tell who has what. It is told once, and nothing is done to it. */
 static void circles(unsigned size) {
-    zelamiku_plan plan = {.fields = FIELDS, .count = 3, .objects = MOST_IN_CIRCLE, .lanes = size, .log = count_lines, .log_of = logged};
+    zelamiku_plan plan = {.size = sizeof(zelamiku_plan), .fields = FIELDS, .count = 3, .objects = MOST_IN_CIRCLE, .lanes = size, .log = count_lines, .log_context = logged};
     pthread_t threads[MOST_IN_CIRCLE];
     zelamiku_wait waits[ZELAMIKU_MOST_LANES];
     void *answer;
@@ -1344,7 +1329,7 @@ static void circles(unsigned size) {
     }
     pthread_mutex_unlock(&warning_mutex);
     await_waits(size, waits);
-    MUST(zelamiku_heap_abandon(all) == ZELAMIKU_OK);
+    MUST(zelamiku_heap_stop(all, ZELAMIKU_ABANDONED) == ZELAMIKU_OK);
     for (unsigned i = 0; i < size; i++) MUST(ends(threads[i], &answer) && (uintptr_t)answer == ZELAMIKU_ABANDONED);
     for (unsigned i = 0; i < size; i++) MUST(zelamiku_thread_end(in_circle[i]) == ZELAMIKU_ABANDONED);
 }
@@ -1365,16 +1350,16 @@ static void waits_are_listed(void) {
     MUST(zelamiku_thread_enter(own, TOTAL) == ZELAMIKU_OK);
     MUST(pthread_create(&wants, NULL, want_monitor, NULL) == 0);
     await_waits(1, waits);
-    MUST(waits[0].object == TOTAL && waits[0].owner == zelamiku_thread_lane(own) && waits[0].in_circle == 0 && waits[0].lane != waits[0].owner);
-    MUST(zelamiku_thread_notify(own, TOTAL, &woken) == ZELAMIKU_OK && woken < LANES);
+    MUST(waits[0].object == TOTAL && waits[0].owner == progress(own).lane && waits[0].in_circle == 0 && waits[0].lane != waits[0].owner);
+    MUST(notify_one(own, TOTAL, &woken) == ZELAMIKU_OK && woken < LANES);
     await_waits(2, waits);
-    for (int i = 0; i < 2; i++) MUST(waits[i].object == TOTAL && waits[i].owner == zelamiku_thread_lane(own) && waits[i].in_circle == 0);
+    for (int i = 0; i < 2; i++) MUST(waits[i].object == TOTAL && waits[i].owner == progress(own).lane && waits[i].in_circle == 0);
     MUST(waits[0].lane < waits[1].lane && (waits[0].lane == woken || waits[1].lane == woken));
     MUST(zelamiku_heap_waits(all, waits, 1, &told) == ZELAMIKU_OK && told == 1);
     MUST(zelamiku_heap_waits(all, NULL, 0, &told) == ZELAMIKU_OK && told == 0);
     usleep(1200000);
     MUST(__atomic_load_n(&logged[ZELAMIKU_LOG_WARNING], __ATOMIC_SEQ_CST) == warnings);
-    MUST(zelamiku_heap_abandon(all) == ZELAMIKU_OK && ends(waiter, NULL) && ends(wants, NULL));
+    MUST(zelamiku_heap_stop(all, ZELAMIKU_ABANDONED) == ZELAMIKU_OK && ends(waiter, NULL) && ends(wants, NULL));
     MUST(zelamiku_heap_waits(all, waits, 1, &told) == ZELAMIKU_ABANDONED && told == 0);
 }
 
@@ -1425,7 +1410,7 @@ static void copies(void) {
     MUST(zelamiku_thread_await(own) == ZELAMIKU_OK && zelamiku_heap_copy(all, "last copy") == ZELAMIKU_OK);
     uint64_t total = 3 + 4 * ROUNDS;
     zelamiku_heap before = all;
-    zelamiku_plan plan = {.fields = FIELDS, .count = 3, .objects = 2, .lanes = LANES};
+    zelamiku_plan plan = {.size = sizeof(zelamiku_plan), .fields = FIELDS, .count = 3, .objects = 2, .lanes = LANES};
     static const char *const NAMES[] = {"copy", "other copy", "last copy"};
     for (unsigned i = 0; i < 3; i++) {
         MUST(zelamiku_heap_open(&all, NAMES[i], &plan, NULL) == ZELAMIKU_OK);
@@ -1437,14 +1422,21 @@ static void copies(void) {
     MUST(zelamiku_heap_close(all) == ZELAMIKU_OK);
 }
 
-/* ---- slices ---- */
-
-static zelamiku_heap open_keeping(uint32_t keeps_slice) {
-    zelamiku_plan plan = {.fields = FIELDS, .count = 3, .objects = 2, .lanes = LANES, .linger = UINT32_MAX, .keeps_slice = keeps_slice};
-    zelamiku_heap opened;
-    MUST(zelamiku_heap_open(&opened, "slices.heap", &plan, NULL) == ZELAMIKU_OK);
-    return opened;
+/* A thread of a heap that had the place before was kept from running since it has looked at its handle, and writes that it is busy into a lane of
+ * this heap, which nobody has. */
+static void stale_marks(void) {
+    zelamiku_heap heap;
+    zelamiku_thread own;
+    zelamiku_plan small = {.size = sizeof(zelamiku_plan), .fields = FIELDS, .count = 3, .objects = 2, .lanes = 1, .capacity = 2000};
+    MUST(zelamiku_heap_open(&heap, "stale.heap", &small, NULL) == ZELAMIKU_OK);
+    for (int i = 0; i < 2; i++) {
+        MUST(zelamiku_thread_begin(&own, heap) == ZELAMIKU_OK && zelamiku_thread_end(own) == ZELAMIKU_OK);
+        seat_of(own)->is_busy = 1;
+    }
+    MUST(zelamiku_heap_close(heap) == ZELAMIKU_OK);
 }
+
+/* ---- slices ---- */
 
 static int slack_after; /* of the last of these threads */
 
@@ -1482,12 +1474,13 @@ static void await_asked(unsigned count) {
     UNTIL(__atomic_load_n(&slices_asked, __ATOMIC_SEQ_CST) >= count);
 }
 
-/* A thread that waits for rounds, and the helper, ask once for a short slice, where they have the system's. With a slice of one's own, where
- * the plan says so, on an older system and under a filter nothing changes. */
+/* A thread that waits for rounds, and the helper, ask once for a short slice, where they have the system's. With a slice of one's own, on an older
+ * system and under a filter nothing changes. */
 static void slices(void) {
     MUST(unlink("slices.heap") == 0 || errno == ENOENT);
     slices_asked = 0;
-    all = open_keeping(0);
+    zelamiku_plan plan = {.size = sizeof(zelamiku_plan), .fields = FIELDS, .count = 3, .objects = 2, .lanes = LANES, .linger = UINT32_MAX};
+    MUST(zelamiku_heap_open(&all, "slices.heap", &plan, NULL) == ZELAMIKU_OK);
     await_asked(2);
     MUST(slice_after(0) == SHORT_SLICE && slices_asked == 4 && slack_after == 1);
     MUST(slice_after(5000000) == 5000000 && slices_asked == 6 && slack_after == 5000000);
@@ -1502,25 +1495,7 @@ static void slices(void) {
     filter = 2;
     MUST(slice_after(0) == 0 && slices_asked == 8 && slack_after == USUAL_SLACK);
     filter = 0;
-    MUST(zelamiku_heap_close(all) == ZELAMIKU_OK);
-    all = open_keeping(1);
-    MUST(slice_after(0) == 0 && zelamiku_heap_close(all) == ZELAMIKU_OK && slices_asked == 8 && slack_after == USUAL_SLACK);
-    MUST(unlink("slices.heap") == 0);
-}
-
-/* Who looks for a round's end, and has let somebody else run, keeps all from looking for a while. */
-static void looks_that_last(void) {
-    heap *of = &heaps[0]; /* no heap is there */
-    of->processors = 4;
-    of->spin_time = MOST_SPIN;
-    of->rounds = 7;
-    uint64_t now = zelamiku_now();
-    unsigned before = yields;
-    /* With the first look it is seen, and not at the end of its time. */
-    look_for_round(of, of->round_bell, now - LONG_SPIN - 1, now + SECOND);
-    MUST(of->no_spin_before == 7 + UNSPUN_ROUNDS && yields == before + 1);
-    of->no_spin_before = of->processors = 0;
-    of->spin_time = of->rounds = 0;
+    MUST(zelamiku_heap_close(all) == ZELAMIKU_OK && unlink("slices.heap") == 0);
 }
 
 /* ---- turns, and rest ---- */
@@ -1538,7 +1513,7 @@ static void *take_turn(void *data) {
 
 /* Until so many threads sleep for monitors, and go on only once somebody rings for them: each has looked for a circle before. */
 static void await_sleepers(unsigned count) {
-    UNTIL(stats().entering == count && count_sleepers(ZELAMIKU_SEATS, sizeof ZELAMIKU_SEATS, true) == count);
+    UNTIL(stats().entering == count && count_sleepers(zelamiku_seats, sizeof zelamiku_seats, true) == count);
 }
 
 /* Threads that sleep for one monitor get it in the order in which they came, also where the one that has it gives it back before, takes it
@@ -1583,7 +1558,7 @@ static void rest_for(unsigned milliseconds) {
     usleep(milliseconds * 1000);
     printf("at rest for %u ms: %.6f s of processor time\n", milliseconds, processor_time() - begun);
     MUST(__atomic_load_n(&gone_on, __ATOMIC_SEQ_CST) == before && count_sleepers(NULL, 0, false) == 2);
-    MUST(zelamiku_thread_enter(own, TOTAL) == ZELAMIKU_OK && zelamiku_thread_notify(own, TOTAL, &woken) == ZELAMIKU_OK && woken < LANES);
+    MUST(zelamiku_thread_enter(own, TOTAL) == ZELAMIKU_OK && notify_one(own, TOTAL, &woken) == ZELAMIKU_OK && woken < LANES);
     MUST(zelamiku_thread_exit(own, TOTAL) == ZELAMIKU_OK && pthread_join(waiter, NULL) == 0 && zelamiku_heap_close(all) == ZELAMIKU_OK);
 }
 
@@ -1628,8 +1603,8 @@ int main(int argc, char **argv) {
     waits_are_listed();
     waits_in_full_run();
     copies();
+    stale_marks();
     slices();
-    looks_that_last();
     turns(0);
     for (int i = 0; i < 5; i++) turns(20);
     rest_for(argc > 2 ? (unsigned)strtoul(argv[2], NULL, 10) : 200);

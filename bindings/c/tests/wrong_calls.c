@@ -23,11 +23,11 @@ static bool has_message(zelamiku_status status) {
 
 static void look_at(zelamiku_status status, zelamiku_status expected, const char *text, const char *call, int line) {
     calls++;
-    bool is_told = !has_message(expected) || strstr(zelamiku_heap_message(), text) != NULL;
+    bool is_told = !has_message(expected) || strstr(zelamiku_heap_failure(NULL), text) != NULL;
     if (status == expected && is_told) return;
     wrong++;
     fprintf(stderr, "line %d: %s: %s, and not %s; it says: %s\n", line, call, zelamiku_status_text(status), zelamiku_status_text(expected),
-            zelamiku_heap_message());
+            zelamiku_heap_failure(NULL));
 }
 
 /* A call, what it must answer, and what its message must have in it. */
@@ -36,7 +36,7 @@ static void look_at(zelamiku_status status, zelamiku_status expected, const char
 
 enum { OBJECTS = 20, FIELDS = 4 + 9, HEAD = 4, SLOTS = 8, POOL = 1 };
 static zelamiku_field fields[FIELDS];
-static zelamiku_plan plan = {.fields = fields, .count = FIELDS, .objects = OBJECTS, .lanes = 3, .capacity = 2000};
+static zelamiku_plan plan = {.size = sizeof(zelamiku_plan), .fields = fields, .count = FIELDS, .objects = OBJECTS, .lanes = 3, .capacity = 2000};
 
 static void prepare(void) {
     for (uint32_t i = 0; i < 4; i++) fields[i] = (zelamiku_field){i, i, i, i == 3};
@@ -47,38 +47,38 @@ static void prepare(void) {
 
 static void bad_plans(void) {
     zelamiku_heap heap;
-    zelamiku_report report;
+    zelamiku_report report = {.size = sizeof report};
     zelamiku_plan bad = plan;
     zelamiku_field one = {0, 0, 0, 0};
-    IS(zelamiku_heap_open(NULL, "a", &plan, NULL), NOTHING, "NULL");
-    IS(zelamiku_heap_open(&heap, NULL, &plan, NULL), NOTHING, "NULL");
-    IS(zelamiku_heap_open(&heap, "a", NULL, NULL), NOTHING, "NULL");
+    IS(zelamiku_heap_open(NULL, "a", &plan, NULL), BAD_ARGUMENT, "NULL");
+    IS(zelamiku_heap_open(&heap, NULL, &plan, NULL), BAD_ARGUMENT, "NULL");
+    IS(zelamiku_heap_open(&heap, "a", NULL, NULL), BAD_ARGUMENT, "NULL");
     bad.fields = NULL;
-    IS(zelamiku_heap_open(&heap, "a", &bad, &report), NOTHING, "NULL");
+    IS(zelamiku_heap_open(&heap, "a", &bad, &report), BAD_ARGUMENT, "NULL");
     bad = plan, bad.objects = 0;
-    IS(zelamiku_heap_open(&heap, "a", &bad, &report), EMPTY, "objects is 0");
+    IS(zelamiku_heap_open(&heap, "a", &bad, &report), BAD_ARGUMENT, "objects is 0");
     bad = plan, bad.objects = 4097;
-    IS(zelamiku_heap_open(&heap, "a", &bad, &report), TOO_MANY, "objects is 4097 in the plan; it may be 1 to 4096");
+    IS(zelamiku_heap_open(&heap, "a", &bad, &report), BAD_ARGUMENT, "objects is 4097 in the plan; it may be 1 to 4096");
     bad = plan, bad.count = 0;
-    IS(zelamiku_heap_open(&heap, "a", &bad, &report), EMPTY, "count of fields is 0");
+    IS(zelamiku_heap_open(&heap, "a", &bad, &report), BAD_ARGUMENT, "count of fields is 0");
     bad.fields = NULL;
-    IS(zelamiku_heap_open(&heap, "a", &bad, &report), EMPTY, "count of fields is 0");
+    IS(zelamiku_heap_open(&heap, "a", &bad, &report), BAD_ARGUMENT, "count of fields is 0");
     bad = plan, bad.count = 16385;
-    IS(zelamiku_heap_open(&heap, "a", &bad, &report), TOO_MANY, "16384");
+    IS(zelamiku_heap_open(&heap, "a", &bad, &report), BAD_ARGUMENT, "16384");
     bad = plan, bad.lanes = 33;
-    IS(zelamiku_heap_open(&heap, "a", &bad, &report), BAD_HEADER, "lanes is 33 in the plan; it may be 1 to 32");
+    IS(zelamiku_heap_open(&heap, "a", &bad, &report), BAD_ARGUMENT, "lanes is 33 in the plan; it may be 1 to 32");
     bad = plan, bad.capacity = 1999;
-    IS(zelamiku_heap_open(&heap, "a", &bad, &report), BAD_HEADER, "capacity is 1999");
+    IS(zelamiku_heap_open(&heap, "a", &bad, &report), BAD_ARGUMENT, "capacity is 1999");
     bad = plan, bad.capacity = 1048577;
-    IS(zelamiku_heap_open(&heap, "a", &bad, &report), BAD_HEADER, "1048576");
+    IS(zelamiku_heap_open(&heap, "a", &bad, &report), BAD_ARGUMENT, "1048576");
     bad = plan, bad.ring = 4095;
-    IS(zelamiku_heap_open(&heap, "a", &bad, &report), RING, "ring is 4095 in the plan; it may be 4096 to 65536");
+    IS(zelamiku_heap_open(&heap, "a", &bad, &report), BAD_ARGUMENT, "ring is 4095 in the plan; it may be 4096 to 65536");
     bad = plan, bad.ring = 65537, bad.capacity = 0;
-    IS(zelamiku_heap_open(&heap, "a", &bad, &report), RING, "ring is 65537");
+    IS(zelamiku_heap_open(&heap, "a", &bad, &report), BAD_ARGUMENT, "ring is 65537");
     bad = plan, bad.fields = &one, bad.count = 1, one.owner = OBJECTS;
-    IS(zelamiku_heap_open(&heap, "a", &bad, &report), UNKNOWN_OBJECT, "the owner of field 0 is 20");
+    IS(zelamiku_heap_open(&heap, "a", &bad, &report), BAD_ARGUMENT, "the owner of field 0 is 20");
     one.owner = 0, one.guard = UINT32_MAX;
-    IS(zelamiku_heap_open(&heap, "a", &bad, &report), UNKNOWN_OBJECT, "the guard of field 0 is 4294967295");
+    IS(zelamiku_heap_open(&heap, "a", &bad, &report), BAD_ARGUMENT, "the guard of field 0 is 4294967295");
     MUST(heap.number == 0 && access("a", F_OK) != 0);
 }
 
@@ -97,7 +97,7 @@ static void bad_paths(void) {
     IS(zelamiku_heap_open(&heap, "fifo", &plan, NULL), DEVICE, "it is neither a regular file nor a block device");
     IS(zelamiku_heap_open(&heap, "circle", &plan, NULL), DEVICE, "Too many levels");
     IS(zelamiku_heap_open(&heap, "dangling", &plan, NULL), DEVICE, "No such file");
-    MUST(zelamiku_heap_error() == ENOENT);
+    MUST(last_failure().error == ENOENT);
 }
 
 static void write_file(const char *path, const char *bytes, size_t size) {
@@ -136,7 +136,7 @@ static void other_files(void) {
 /* A heap that is there, and plans that differ from it. */
 static void other_plans(void) {
     zelamiku_heap heap;
-    zelamiku_report report;
+    zelamiku_report report = {.size = sizeof report};
     zelamiku_field changed[FIELDS];
     memcpy(changed, fields, sizeof fields);
     zelamiku_plan bad = plan;
@@ -164,32 +164,32 @@ static void other_plans(void) {
     /* Fewer lanes, another first value: the heap is the plan's. */
     changed[0].is_transient = 0, changed[0].first = 77, bad.lanes = 1;
     IS(zelamiku_heap_open(&heap, "plans", &bad, &report), OK, "");
-    MUST(report.told.found.lanes == 3 && report.difference == ZELAMIKU_SAME && report.is_made == 0);
+    MUST(report.lanes == 3 && report.difference == ZELAMIKU_SAME && report.is_made == 0);
     IS(zelamiku_heap_close(heap), OK, "");
 }
 
 /* A path without a heap is refused where the plan says that there must be one, and nothing is made of it. */
 static void must_exist(void) {
     zelamiku_heap heap;
-    zelamiku_report report;
+    zelamiku_report report = {.size = sizeof report};
     zelamiku_plan strict = plan;
     static const char ZEROS[300], CUT_OFF[2200] = "MONIHEAP", NONE[] = "there is no heap; mount its volume, or open without must_exist to make one";
     strict.must_exist = 1;
-    IS(zelamiku_heap_open(&heap, "absent", &strict, &report), NOT_FORMATTED, "absent: open: there is no heap: No such file or directory; mount its");
-    MUST(zelamiku_heap_error() == ENOENT && access("absent", F_OK) != 0 && report.is_made == 0);
-    IS(zelamiku_heap_open(&heap, "no such folder/heap", &strict, NULL), NOT_FORMATTED, "there is no heap: No such file or directory; mount its");
+    IS(zelamiku_heap_open(&heap, "absent", &strict, &report), NO_HEAP, "absent: open: there is no heap: No such file or directory; mount its");
+    MUST(last_failure().error == ENOENT && access("absent", F_OK) != 0 && report.is_made == 0);
+    IS(zelamiku_heap_open(&heap, "no such folder/heap", &strict, NULL), NO_HEAP, "there is no heap: No such file or directory; mount its");
     write_file("empty", "", 0);
-    IS(zelamiku_heap_open(&heap, "empty", &strict, NULL), NOT_FORMATTED, NONE);
-    MUST(zelamiku_heap_error() == 0);
+    IS(zelamiku_heap_open(&heap, "empty", &strict, NULL), NO_HEAP, NONE);
+    MUST(last_failure().error == 0);
     must_have("empty", "", 0);
     write_file("empty", ZEROS, 200);
-    IS(zelamiku_heap_open(&heap, "empty", &strict, NULL), NOT_FORMATTED, NONE);
+    IS(zelamiku_heap_open(&heap, "empty", &strict, NULL), NO_HEAP, NONE);
     must_have("empty", ZEROS, 200);
     write_file("empty", CUT_OFF, 200);
     IS(zelamiku_heap_open(&heap, "empty", &strict, NULL), NOT_FORMATTED, "its first bytes are damaged");
     must_have("empty", CUT_OFF, 200);
     write_file("empty", CUT_OFF, sizeof CUT_OFF);
-    IS(zelamiku_heap_open(&heap, "empty", &strict, NULL), NOT_FORMATTED, NONE);
+    IS(zelamiku_heap_open(&heap, "empty", &strict, NULL), NO_HEAP, NONE);
     must_have("empty", CUT_OFF, sizeof CUT_OFF);
     IS(zelamiku_heap_open(&heap, "notes", &strict, NULL), NOT_FORMATTED, "notes: open: it has no heap, and isn't empty");
     MUST(access("empty.heapctl-new", F_OK) != 0 && access("absent.heapctl-new", F_OK) != 0);
@@ -202,7 +202,7 @@ static void must_exist(void) {
 /* Opens the heap, and sees what the report says of it. */
 static void look_at_fingerprint(const zelamiku_plan *of, zelamiku_status expected, uint32_t difference, uint64_t has, uint64_t planned, int line) {
     zelamiku_heap heap;
-    zelamiku_report report;
+    zelamiku_report report = {.size = sizeof report};
     char text[100] = "";
     if (difference == ZELAMIKU_DIFFERENT_FINGERPRINT)
         (void)snprintf(text, sizeof text, "the plan's fingerprint is %llu, the heap has %llu: its names or their order differ", (unsigned long long)planned,
@@ -210,7 +210,7 @@ static void look_at_fingerprint(const zelamiku_plan *of, zelamiku_status expecte
     zelamiku_status status = zelamiku_heap_open(&heap, "fingerprint", of, &report);
     look_at(status, expected, text, "the open of a heap with a fingerprint", line);
     bool is_so = report.difference == difference && report.has == has && report.planned == planned;
-    if (expected == ZELAMIKU_OK) is_so = is_so && report.told.found.fields == of->count;
+    if (expected == ZELAMIKU_OK) is_so = is_so && report.fields == of->count;
     if (!is_so) wrong++, fprintf(stderr, "line %d: difference %u, %llu and %llu\n", line, report.difference, (unsigned long long)report.has,
                                  (unsigned long long)report.planned);
     if (status == ZELAMIKU_OK) MUST(zelamiku_heap_close(heap) == ZELAMIKU_OK);
@@ -250,7 +250,7 @@ static void fingerprints(void) {
     /* One field less may be planned. */
     MUST(most != NULL);
     more.fields = most, more.count = 16384, more.fingerprint = 1;
-    IS(zelamiku_heap_open(&heap, "most", &more, NULL), TOO_MANY, "count of fields is 16384 in the plan; it may be 1 to 16383");
+    IS(zelamiku_heap_open(&heap, "most", &more, NULL), BAD_ARGUMENT, "count of fields is 16384 in the plan; it may be 1 to 16383");
     more.count = 16383;
     for (unsigned i = 0; i < 2; i++) IS(zelamiku_heap_open(&heap, "most", &more, NULL), OK, ""), IS(zelamiku_heap_close(heap), OK, "");
     free(most);
@@ -258,13 +258,13 @@ static void fingerprints(void) {
 
 static void damaged(void) {
     zelamiku_heap heap;
-    zelamiku_report report;
+    zelamiku_report report = {.size = sizeof report};
     MUST(zelamiku_heap_open(&heap, "damaged", &plan, NULL) == ZELAMIKU_OK && zelamiku_heap_close(heap) == ZELAMIKU_OK);
     static const struct {
         off_t at;
         uint8_t byte;
-        zelamiku_status status;
-    } CASES[] = {{9, 77, ZELAMIKU_BAD_HEADER}, {64, 0, ZELAMIKU_NO_CONTROL}, {20, 255, ZELAMIKU_BAD_HEADER}};
+        uint32_t damage;
+    } CASES[] = {{9, 77, ZELAMIKU_DAMAGED_HEADER}, {64, 0, ZELAMIKU_DAMAGED_CONTROL}, {20, 255, ZELAMIKU_DAMAGED_HEADER}};
     for (size_t i = 0; i < sizeof CASES / sizeof *CASES; i++) {
         uint8_t before[2];
         int file = open("damaged", O_RDWR | O_CLOEXEC);
@@ -272,11 +272,13 @@ static void damaged(void) {
         uint8_t none = 0;
         MUST(pwrite(file, &CASES[i].byte, 1, CASES[i].at) == 1);
         if (CASES[i].at == 64) MUST(pwrite(file, &none, 1, 1112) == 1);
-        look_at(zelamiku_heap_open(&heap, "damaged", &plan, &report), CASES[i].status, "take the back-up", "a damaged heap", __LINE__);
+        IS(zelamiku_heap_open(&heap, "damaged", &plan, &report), DAMAGED_FILE, "take the back-up");
+        MUST(report.damage == CASES[i].damage && report.bad_lane == ZELAMIKU_NOBODY);
         MUST(pwrite(file, before, 1, CASES[i].at) == 1 && pwrite(file, before + 1, 1, 1112) == 1 && close(file) == 0);
     }
     MUST(truncate("damaged", 2000) == 0);
-    IS(zelamiku_heap_open(&heap, "damaged", &plan, &report), TOO_SMALL, "damaged: open: the bytes are fewer");
+    IS(zelamiku_heap_open(&heap, "damaged", &plan, &report), DAMAGED_FILE, "damaged: open: the bytes are fewer");
+    MUST(report.damage == ZELAMIKU_DAMAGED_LENGTH);
 }
 
 /* ---- handles ---- */
@@ -290,56 +292,63 @@ static void by_nobody(zelamiku_thread thread, zelamiku_status status, const char
     zelamiku_sight sight;
 #define ANSWERS(call) look_at((call), status, text, #call, __LINE__)
     ANSWERS(zelamiku_thread_enter(thread, 0));
-    ANSWERS(zelamiku_thread_try_enter(thread, 0));
+    ANSWERS(zelamiku_thread_enter_until(thread, 0, 0));
     ANSWERS(zelamiku_thread_enter_until(thread, 0, 1));
     ANSWERS(zelamiku_thread_exit(thread, 0));
     ANSWERS(zelamiku_thread_load(thread, 0, &value));
     ANSWERS(zelamiku_thread_store(thread, 0, 1));
     ANSWERS(zelamiku_thread_revert(thread));
     ANSWERS(zelamiku_thread_wait(thread, 0));
-    ANSWERS(zelamiku_thread_notify(thread, 0, &count));
-    ANSWERS(zelamiku_thread_notify_all(thread, 0, &lanes));
+    ANSWERS(zelamiku_thread_notify(thread, 0, false, &lanes));
+    ANSWERS(zelamiku_thread_notify(thread, 0, true, NULL));
     ANSWERS(zelamiku_thread_take(thread, HEAD, SLOTS, &count));
     ANSWERS(zelamiku_thread_give(thread, HEAD, SLOTS, 0));
     ANSWERS(zelamiku_thread_look(thread, 0, &sight));
-    MUST(value == 0 && sight.owner == ZELAMIKU_NOBODY);
+    MUST(value == 0 && lanes == 0 && sight.owner == ZELAMIKU_NOBODY);
     if (status == ZELAMIKU_NOTHING) {
         ANSWERS(zelamiku_thread_await(thread));
         ANSWERS(zelamiku_thread_await_until(thread, 3, 1, &is));
         ANSWERS(zelamiku_thread_event(thread, &event));
         ANSWERS(zelamiku_thread_ask(thread, &lanes));
         MUST(event == -1 && lanes == 0);
-        MUST(!is && zelamiku_thread_sections(thread) == 0 && zelamiku_thread_durable(thread) == 0);
-        MUST(zelamiku_thread_earlier(thread) == 0 && zelamiku_thread_lane(thread) == ZELAMIKU_NOBODY);
+        MUST(!is);
+    }
+    zelamiku_progress found = {.size = sizeof found, .lane = 1, .sections = 1, .durable = 1, .earlier = 1, .is_open = 1, .end = 1};
+    if (status == ZELAMIKU_NOTHING || status == ZELAMIKU_FORKED) {
+        ANSWERS(zelamiku_thread_progress(thread, &found));
+        MUST(found.lane == ZELAMIKU_NOBODY && found.sections == 0 && found.durable == 0 && found.earlier == 0 && found.is_open == 0 && found.end == 0);
+    } else {
+        MUST(zelamiku_thread_progress(thread, &found) == ZELAMIKU_OK && found.end == (uint32_t)status && found.lane < 3);
     }
     ANSWERS(zelamiku_thread_end(thread));
 }
 
 static void by_no_heap(zelamiku_heap heap, zelamiku_status status, const char *text) {
     zelamiku_thread thread = {1};
-    zelamiku_stats stats;
+    zelamiku_stats stats = {.size = sizeof stats};
     uint64_t rounds = 1;
+    zelamiku_dropped dropped = {.size = sizeof dropped};
     size_t told = 1;
     ANSWERS(zelamiku_thread_begin(&thread, heap));
     if (status == ZELAMIKU_NOTHING) {
         ANSWERS(zelamiku_heap_stats(heap, &stats));
-        ANSWERS(zelamiku_heap_dropped(heap, 0, NULL, 0, &told));
+        ANSWERS(zelamiku_heap_dropped(heap, 0, &dropped));
     }
     ANSWERS(zelamiku_heap_waits(heap, NULL, 0, &told));
     ANSWERS(zelamiku_heap_await_round(heap, 0, 1, &rounds));
     ANSWERS(zelamiku_heap_copy(heap, "copy"));
     ANSWERS(zelamiku_heap_close(heap));
-    ANSWERS(zelamiku_heap_stop(heap));
-    ANSWERS(zelamiku_heap_abandon(heap));
+    ANSWERS(zelamiku_heap_stop(heap, ZELAMIKU_CLOSED));
+    ANSWERS(zelamiku_heap_stop(heap, ZELAMIKU_ABANDONED));
     MUST(thread.number == 0);
 }
 
 static void handles(void) {
     zelamiku_heap heap, second;
     zelamiku_thread own, other, garbage = {0x123456789abcdefu}, none = {0}, all_ones = {UINT64_MAX};
-    by_nobody(none, ZELAMIKU_NOTHING, "nothing is behind the handle");
-    by_nobody(garbage, ZELAMIKU_NOTHING, "nothing is behind the handle");
-    by_nobody(all_ones, ZELAMIKU_NOTHING, "nothing is behind the handle");
+    by_nobody(none, ZELAMIKU_NOTHING, "nothing is open by this handle");
+    by_nobody(garbage, ZELAMIKU_NOTHING, "nothing is open by this handle");
+    by_nobody(all_ones, ZELAMIKU_NOTHING, "nothing is open by this handle");
     by_no_heap((zelamiku_heap){0}, ZELAMIKU_NOTHING, "nothing");
     by_no_heap((zelamiku_heap){12345}, ZELAMIKU_NOTHING, "nothing");
     MUST(zelamiku_heap_open(&heap, "handles", &plan, NULL) == ZELAMIKU_OK);
@@ -363,14 +372,14 @@ static void handles(void) {
     MUST(zelamiku_thread_begin(&own, heap) == ZELAMIKU_OK && zelamiku_thread_begin(&third, heap) == ZELAMIKU_OK);
     IS(zelamiku_thread_begin(&fourth, heap), NONE_LEFT, "handles: begin: all lanes are in use");
     by_nobody(fourth, ZELAMIKU_NOTHING, "nothing");
-    IS(zelamiku_thread_begin(NULL, heap), NOTHING, "NULL");
-    IS(zelamiku_heap_stats(heap, NULL), NOTHING, "NULL");
-    IS(zelamiku_heap_copy(heap, NULL), NOTHING, "NULL");
-    IS(zelamiku_heap_await_round(heap, 0, 1, NULL), NOTHING, "NULL");
-    IS(zelamiku_heap_dropped(heap, 0, NULL, 0, NULL), NOTHING, "NULL");
-    IS(zelamiku_heap_waits(heap, NULL, 0, NULL), NOTHING, "NULL");
+    IS(zelamiku_thread_begin(NULL, heap), BAD_ARGUMENT, "NULL");
+    IS(zelamiku_heap_stats(heap, NULL), BAD_ARGUMENT, "NULL");
+    IS(zelamiku_heap_copy(heap, NULL), BAD_ARGUMENT, "NULL");
+    IS(zelamiku_heap_await_round(heap, 0, 1, NULL), BAD_ARGUMENT, "NULL");
+    IS(zelamiku_heap_dropped(heap, 0, NULL), BAD_ARGUMENT, "NULL");
+    IS(zelamiku_heap_waits(heap, NULL, 0, NULL), BAD_ARGUMENT, "NULL");
     size_t told = 1;
-    IS(zelamiku_heap_waits(heap, NULL, 1, &told), NOTHING, "NULL");
+    IS(zelamiku_heap_waits(heap, NULL, 1, &told), BAD_ARGUMENT, "NULL");
     IS(zelamiku_heap_close(heap), OK, "");
     by_nobody(own, ZELAMIKU_CLOSED, "handles: ");
     by_nobody(third, ZELAMIKU_CLOSED, "the heap was closed or stopped");
@@ -383,16 +392,15 @@ static void sections(void) {
     zelamiku_heap heap;
     zelamiku_thread own, other;
     uint64_t value = 5, lanes = 5;
-    uint32_t count = 5, slot = 0;
+    uint32_t slot = 0;
     bool is = true;
     MUST(zelamiku_heap_open(&heap, "sections", &plan, NULL) == ZELAMIKU_OK);
     MUST(zelamiku_thread_begin(&own, heap) == ZELAMIKU_OK && zelamiku_thread_begin(&other, heap) == ZELAMIKU_OK);
-    IS(zelamiku_thread_load(own, 0, NULL), NOTHING, "NULL");
-    IS(zelamiku_thread_notify(own, 0, NULL), NOTHING, "NULL");
-    IS(zelamiku_thread_notify_all(own, 0, NULL), NOTHING, "NULL");
-    IS(zelamiku_thread_take(own, HEAD, SLOTS, NULL), NOTHING, "NULL");
-    IS(zelamiku_thread_look(own, 0, NULL), NOTHING, "NULL");
-    IS(zelamiku_thread_await_until(own, 0, 0, NULL), NOTHING, "NULL");
+    IS(zelamiku_thread_load(own, 0, NULL), BAD_ARGUMENT, "NULL");
+    IS(zelamiku_thread_progress(own, NULL), BAD_ARGUMENT, "NULL");
+    IS(zelamiku_thread_take(own, HEAD, SLOTS, NULL), BAD_ARGUMENT, "NULL");
+    IS(zelamiku_thread_look(own, 0, NULL), BAD_ARGUMENT, "NULL");
+    IS(zelamiku_thread_await_until(own, 0, 0, NULL), BAD_ARGUMENT, "NULL");
     for (unsigned in = 0; in < 2; in++) {
         /* Without a monitor, and with another one. */
         if (in == 1) MUST(zelamiku_thread_enter(own, 2) == ZELAMIKU_OK);
@@ -404,21 +412,19 @@ static void sections(void) {
         IS(zelamiku_thread_exit(own, OBJECTS), UNKNOWN_OBJECT, "exit object 20");
         IS(zelamiku_thread_wait(own, 0), NOT_HELD, "object 0");
         IS(zelamiku_thread_wait(own, OBJECTS), UNKNOWN_OBJECT, "object 20");
-        IS(zelamiku_thread_notify(own, 0, &count), NOT_HELD, "object 0");
-        IS(zelamiku_thread_notify(own, OBJECTS, &count), UNKNOWN_OBJECT, "object 20");
-        IS(zelamiku_thread_notify_all(own, 0, &lanes), NOT_HELD, "object 0");
-        IS(zelamiku_thread_notify_all(own, OBJECTS, &lanes), UNKNOWN_OBJECT, "object 20");
+        for (unsigned all = 0; all < 2; all++) {
+            IS(zelamiku_thread_notify(own, 0, all == 1, &lanes), NOT_HELD, "object 0");
+            IS(zelamiku_thread_notify(own, OBJECTS, all == 1, &lanes), UNKNOWN_OBJECT, "object 20");
+        }
         IS(zelamiku_thread_take(own, HEAD, SLOTS, &slot), NOT_HELD, "4");
         IS(zelamiku_thread_give(own, HEAD, SLOTS, 0), NOT_HELD, "");
         IS(zelamiku_thread_take(own, 99, SLOTS, &slot), UNKNOWN_FIELD, "99");
         IS(zelamiku_thread_enter(own, OBJECTS), UNKNOWN_OBJECT, "sections: enter object 20");
-        IS(zelamiku_thread_try_enter(own, UINT32_MAX), UNKNOWN_OBJECT, "object 4294967295");
-        IS(zelamiku_thread_enter_until(own, OBJECTS, 0), UNKNOWN_OBJECT, "object 20");
-        MUST(value == 0 && count == ZELAMIKU_NOBODY && lanes == 0 && slot == ZELAMIKU_NO_SLOT);
+        IS(zelamiku_thread_enter_until(own, UINT32_MAX, 0), UNKNOWN_OBJECT, "object 4294967295");
+        MUST(value == 0 && lanes == 0 && slot == ZELAMIKU_NO_NUMBER);
     }
-    IS(zelamiku_thread_end(own), UNFINISHED, "sections: end: the thread holds a monitor; exit it before");
+    IS(zelamiku_thread_end(own), RUNNING, "sections: end: the thread holds a monitor; exit it before");
     IS(zelamiku_heap_close(heap), RUNNING, "sections: close: a section is open or a thread waits");
-    IS(zelamiku_thread_try_enter(other, 2), HELD, "");
     IS(zelamiku_thread_enter_until(other, 2, 0), HELD, "");
     IS(zelamiku_thread_enter_until(other, 2, zelamiku_now() + 1000000), HELD, "");
     IS(zelamiku_thread_exit(own, 2), OK, "");
@@ -451,12 +457,12 @@ static void limits(void) {
     IS(zelamiku_thread_exit(own, 0), NOT_HELD, "exit object 0");
     /* A pool. */
     MUST(zelamiku_thread_enter(own, POOL) == ZELAMIKU_OK);
-    IS(zelamiku_thread_give(own, HEAD, SLOTS, 0), NOT_TAKEN, "limits: give back slot 0");
-    IS(zelamiku_thread_give(own, HEAD, SLOTS, SLOTS), NOT_TAKEN, "slot 8");
+    IS(zelamiku_thread_give(own, HEAD, SLOTS, 0), NOT_TAKEN, "limits: give to the pool at field 4");
+    IS(zelamiku_thread_give(own, HEAD, SLOTS, SLOTS), NOT_TAKEN, "field 4");
     for (uint32_t i = 0; i < SLOTS; i++) MUST(zelamiku_thread_take(own, HEAD, SLOTS, &slot) == ZELAMIKU_OK);
     IS(zelamiku_thread_take(own, HEAD, SLOTS, &slot), POOL_EMPTY, "");
-    MUST(slot == ZELAMIKU_NO_SLOT && zelamiku_thread_give(own, HEAD, SLOTS, 3) == ZELAMIKU_OK);
-    IS(zelamiku_thread_give(own, HEAD, SLOTS, 3), NOT_TAKEN, "slot 3");
+    MUST(slot == ZELAMIKU_NO_NUMBER && zelamiku_thread_give(own, HEAD, SLOTS, 3) == ZELAMIKU_OK);
+    IS(zelamiku_thread_give(own, HEAD, SLOTS, 3), NOT_TAKEN, "field 4");
     MUST(zelamiku_thread_store(own, HEAD, 1000) == ZELAMIKU_OK);
     IS(zelamiku_thread_take(own, HEAD, SLOTS, &slot), DAMAGED, "limits: take of the pool at field 4");
     IS(zelamiku_thread_exit(own, POOL), OK, "");
@@ -491,7 +497,7 @@ static void *sleeps_in_vain(void *data) {
 static void abandoned(void) {
     zelamiku_heap heap;
     zelamiku_thread dead, waiting, own;
-    zelamiku_report report;
+    zelamiku_report report = {.size = sizeof report};
     pthread_t thread, waiter;
     void *answer;
     uint64_t value = 0;
@@ -501,10 +507,9 @@ static void abandoned(void) {
     MUST(zelamiku_thread_exit(own, 1) == ZELAMIKU_OK && zelamiku_thread_enter(own, 2) == ZELAMIKU_OK);
     MUST(pthread_create(&thread, NULL, hold, &dead) == 0 && pthread_join(thread, NULL) == 0);
     MUST(pthread_create(&waiter, NULL, sleeps_in_vain, &waiting) == 0);
-    zelamiku_stats stats = {0};
-    while (stats.entering == 0) MUST(zelamiku_heap_stats(heap, &stats) == ZELAMIKU_OK);
+    while (stats_now(heap).entering == 0) {}
     IS(zelamiku_heap_close(heap), RUNNING, "or stop the heap");
-    IS(zelamiku_heap_abandon(heap), OK, "");
+    IS(zelamiku_heap_stop(heap, ZELAMIKU_ABANDONED), OK, "");
     MUST(pthread_join(waiter, &answer) == 0);
     look_at((zelamiku_status)(uintptr_t)answer, ZELAMIKU_ABANDONED, "", "an enter that slept", __LINE__);
     IS(zelamiku_thread_load(own, 2, &value), ABANDONED, "abandoned: load: the heap was abandoned; open it again");
@@ -513,15 +518,12 @@ static void abandoned(void) {
     by_nobody(dead, ZELAMIKU_ABANDONED, "the heap was abandoned");
     by_no_heap(heap, ZELAMIKU_ABANDONED, "abandoned");
     IS(zelamiku_heap_open(&heap, "abandoned", &plan, &report), OK, "");
-    MUST(report.told.found.dropped == 2 && zelamiku_thread_begin(&own, heap) == ZELAMIKU_OK);
-    zelamiku_dropped dropped[3];
-    size_t told = 0;
-    MUST(zelamiku_heap_dropped(heap, 0, dropped, 3, &told) == ZELAMIKU_OK && told == 2 && dropped[0].why == ZELAMIKU_NOT_ENDED);
-    MUST(zelamiku_heap_dropped(heap, 1, dropped, 3, &told) == ZELAMIKU_OK && told == 1);
-    MUST(zelamiku_heap_dropped(heap, 9, dropped, 3, &told) == ZELAMIKU_OK && told == 0);
+    MUST(report.dropped == 2 && zelamiku_thread_begin(&own, heap) == ZELAMIKU_OK);
+    MUST(dropped_section(heap, 0).why == ZELAMIKU_NOT_ENDED && dropped_section(heap, 1).why == ZELAMIKU_NOT_ENDED);
+    MUST(dropped_section(heap, 2).why == ZELAMIKU_NOT_DROPPED && dropped_section(heap, 2).lane == ZELAMIKU_NOBODY);
     MUST(zelamiku_thread_enter(own, 0) == ZELAMIKU_OK && zelamiku_thread_load(own, 0, &value) == ZELAMIKU_OK && value == 0);
     MUST(zelamiku_thread_enter(own, 1) == ZELAMIKU_OK && zelamiku_thread_load(own, 1, &value) == ZELAMIKU_OK && value == 7);
-    IS(zelamiku_heap_stop(heap), OK, "");
+    IS(zelamiku_heap_stop(heap, ZELAMIKU_CLOSED), OK, "");
     by_nobody(own, ZELAMIKU_CLOSED, "closed or stopped");
 }
 
@@ -576,7 +578,7 @@ static bool makes_nothing(void) {
     bool is_well = getrlimit(RLIMIT_NOFILE, &before) == 0;
     few = before, few.rlim_cur = STDERR_FILENO + 1;
     is_well &= setrlimit(RLIMIT_NOFILE, &few) == 0 && zelamiku_heap_open(&heap, "streams", &plan, NULL) == ZELAMIKU_DEVICE;
-    is_well &= zelamiku_heap_error() == EMFILE;
+    is_well &= last_failure().error == EMFILE;
     return is_well && access("streams", F_OK) != 0 && access("streams.heapctl-new", F_OK) != 0 && setrlimit(RLIMIT_NOFILE, &before) == 0;
 }
 
@@ -684,20 +686,6 @@ static void shapes(void) {
     MUST(zelamiku_format(&handle, OBJECTS, fields, FIELDS, 3, 2000, 3, ZELAMIKU_MOST_RING + 1, &size) == ZELAMIKU_RING && !handle.is_open);
 }
 
-/* A thread of a heap that had the place before was kept from running since it has looked at its handle, and writes that it is busy into a lane of
- * this heap, which nobody has. */
-static void stale(void) {
-    zelamiku_heap heap;
-    zelamiku_thread own;
-    zelamiku_plan small = {.fields = fields, .count = 1, .objects = 1, .lanes = 1, .capacity = 2000};
-    MUST(zelamiku_heap_open(&heap, "stale", &small, NULL) == ZELAMIKU_OK);
-    for (int i = 0; i < 2; i++) {
-        MUST(zelamiku_thread_begin(&own, heap) == ZELAMIKU_OK && zelamiku_thread_end(own) == ZELAMIKU_OK);
-        __atomic_store_n(&ZELAMIKU_OWN_OF(own)->is_busy, 1, __ATOMIC_SEQ_CST);
-    }
-    MUST(zelamiku_heap_close(heap) == ZELAMIKU_OK);
-}
-
 /* As many heaps as there may be are open, and then one too many. Each is asked what it dropped, and leaves its place when it is closed. */
 static void open_all(const zelamiku_plan *small) {
     zelamiku_heap heaps[ZELAMIKU_MOST_HEAPS];
@@ -705,11 +693,10 @@ static void open_all(const zelamiku_plan *small) {
     zelamiku_status status = ZELAMIKU_OK;
     for (; count < ZELAMIKU_MOST_HEAPS; count++) {
         char name[32];
-        size_t told = 1;
         (void)snprintf(name, sizeof name, "many-%u", count);
         status = zelamiku_heap_open(&heaps[count], name, small, NULL);
         if (status != ZELAMIKU_OK) break;
-        MUST(zelamiku_heap_dropped(heaps[count], 0, NULL, 0, &told) == ZELAMIKU_OK && told == 0);
+        MUST(dropped_section(heaps[count], 0).why == ZELAMIKU_NOT_DROPPED);
     }
     look_at(status, ZELAMIKU_NONE_LEFT, "255 heaps are open; close one", "one heap too many", __LINE__);
     MUST(count == ZELAMIKU_MOST_HEAPS - 1);
@@ -719,7 +706,7 @@ static void open_all(const zelamiku_plan *small) {
 /* A full disk leaves no file. */
 static void full(void) {
     zelamiku_heap heap;
-    zelamiku_plan small = {.fields = fields, .count = 1, .objects = 1, .lanes = 1, .capacity = 2000};
+    zelamiku_plan small = {.size = sizeof(zelamiku_plan), .fields = fields, .count = 1, .objects = 1, .lanes = 1, .capacity = 2000};
     struct rlimit before, most;
     struct stat info;
     MUST(getrlimit(RLIMIT_FSIZE, &before) == 0);
@@ -759,7 +746,6 @@ int main(int argc, char **argv) {
     abandoned();
     forks();
     no_streams();
-    stale();
     full();
     printf("wrong calls: %u, of which %u were answered wrongly\n", calls, wrong);
     return wrong == 0 ? 0 : 1;

@@ -87,7 +87,14 @@ __attribute__((noreturn, format(printf, 1, 2))) static void die(const char *form
 
 /* Also after a failed sync: nothing is confirmed any more, and the end of the process cuts all clients off. */
 static void must(zelamiku_status status) {
-    if (status != ZELAMIKU_OK) die("%s", zelamiku_heap_message());
+    if (status != ZELAMIKU_OK) die("%s", zelamiku_heap_failure(NULL));
+}
+
+/* How many sections have ended. */
+static uint64_t ended(void) {
+    zelamiku_progress progress = {.size = sizeof progress};
+    must(zelamiku_thread_progress(own, &progress));
+    return progress.sections;
 }
 
 static time_t seconds_now(void) {
@@ -205,7 +212,7 @@ static int64_t load(client *c, uint32_t key) {
 
 static void store(client *c, uint32_t key, int64_t value) {
     must(zelamiku_thread_store(own, key, (uint64_t)value));
-    c->waits = stored[key] = zelamiku_thread_sections(own) + 1; /* the one that is open */
+    c->waits = stored[key] = ended() + 1; /* the one that is open */
     assert(c->waits > durable);
 }
 
@@ -285,7 +292,7 @@ static bool enter(uint32_t monitors) {
     for (uint32_t left = monitors; left != 0; left &= left - 1) {
         uint32_t object = (uint32_t)__builtin_ctz(left);
         /* The first one takes room for a whole section. */
-        zelamiku_status status = left == monitors ? zelamiku_thread_try_enter(own, object) : zelamiku_thread_enter(own, object);
+        zelamiku_status status = left == monitors ? zelamiku_thread_enter_until(own, object, 0) : zelamiku_thread_enter(own, object);
         if (status == ZELAMIKU_BEHIND) return is_behind = true, false;
         must(status);
     }
@@ -422,7 +429,7 @@ static void look_round(void) {
 /* Learns how many sections are durable, and asks for the others. */
 static void ask(void) {
     zelamiku_status status = zelamiku_thread_ask(own, &durable);
-    if (status == ZELAMIKU_DEVICE) fprintf(stderr, "counters_server: %s\n", zelamiku_heap_message()); /* the write is made again */
+    if (status == ZELAMIKU_DEVICE) fprintf(stderr, "counters_server: %s\n", zelamiku_heap_failure(NULL)); /* the write is made again */
     else must(status);
 }
 
@@ -493,9 +500,9 @@ static void open_place(const char *name) {
 static void open_heap(const char *path) {
     static zelamiku_field fields[MOST_KEYS];
     for (uint32_t k = 0; k < key_count; k++) fields[k] = (zelamiku_field){.owner = k % MONITORS, .guard = k % MONITORS};
-    zelamiku_plan plan = {.fields = fields, .count = key_count, .objects = MONITORS, .lanes = 1, .fingerprint = fingerprint()};
+    zelamiku_plan plan = {.size = sizeof(zelamiku_plan), .fields = fields, .count = key_count, .objects = MONITORS, .lanes = 1, .fingerprint = fingerprint()};
     plan.ring = ZELAMIKU_MOST_RING; /* of many clients a round takes much */
-    zelamiku_report report;
+    zelamiku_report report = {.size = sizeof report};
     must(zelamiku_heap_open(&heap, path, &plan, &report));
     must(zelamiku_thread_begin(&own, heap));
     must(zelamiku_thread_event(own, &event));
@@ -517,7 +524,7 @@ static void take_signals(void) {
 static void stop(void) {
     close(listener);
     must(zelamiku_thread_await(own));
-    durable = zelamiku_thread_sections(own);
+    durable = ended();
     release();
     close(poll_file); /* it has the lane's event, which ends with the lane */
     must(zelamiku_thread_end(own));
