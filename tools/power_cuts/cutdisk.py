@@ -26,15 +26,13 @@ import nbdkit
 
 API_VERSION, PAGE, SECTOR = 2, 4096, 512
 ZEROS = bytes(PAGE)
-# What a state keeps of the volatile writes: whether it keeps one whole, by its number, how many there are, and two numbers by chance. `subset` keeps
-# each request (grain 0), or each 512 or 4,096 bytes, with so many percent.
-POLICIES = {
-    "lost": lambda number, some, one: False,
+# Which volatile writes a state keeps whole, by a write's number and two numbers by chance; `lost` keeps none. `subset` keeps each request (grain 0), or
+# each 512 or 4,096 bytes, with so many percent.
+KEPT = {
     "kept": lambda number, some, one: True,
     "prefix": lambda number, some, one: number < some,
     "one": lambda number, some, one: number == one,
     "butone": lambda number, some, one: number != one,
-    "subset": lambda number, some, one: False,
 }
 
 
@@ -47,20 +45,14 @@ class Event:
         self.owner = None
 
 
-class Record:
-    """What has happened, and what the disk had before, by pages."""
-
-    def __init__(self, pages):
-        self.before, self.events = dict(pages), []
-
-
 class Disk:
     """The methods without a line below are a client's."""
 
     def __init__(self, size, told):
         self.size, self.lock, self.clients = size, threading.Condition(), 0
         self.file, self.pages, self.unreadable_ones = bytes(0), {}, set()
-        self.records, self.is_recording = [Record({})], False
+        # The record: what has happened, and what the disk had before, by pages; and those that are kept meanwhile.
+        self.events, self.before, self.kept, self.is_recording = [], {}, [], False
         self.most_delay, self.lies_from, self.torn_ranges = 0, math.inf, ()
         self.fault = {"kind": "none", "skip": 0, "count": 0, "mode": "kept", "failed": 0}
         self.told_by, self.heard = os.open(told, os.O_RDWR | os.O_NONBLOCK), b""
@@ -90,13 +82,10 @@ class Disk:
 
     # ---- the record ----
 
-    def record(self):
-        return self.records[-1]
-
     def add(self, event):
         if self.is_recording:
-            event.owner = self.record()
-            event.owner.events.append(event)
+            event.owner = self.events
+            self.events.append(event)
         return event
 
     def hear(self):
@@ -130,7 +119,7 @@ class Disk:
             self.note_answer(event)
 
     def note_answer(self, event):
-        if self.is_recording and event.owner is self.record():
+        if self.is_recording and event.owner is self.events:
             event.answer = self.count()
             self.add(Event("answer", event))
 
@@ -168,16 +157,15 @@ class Disk:
 
     def lose_cache(self):
         """The cache loses what was answered and isn't durable. What comes to it only now it still takes."""
-        events = self.record().events
         if not self.is_recording:
             return
-        loss = len(events)
+        loss = self.count()
         self.add(Event("loss"))
         for write, is_durable in self.writes_before(loss, random):
             if not is_durable and write.answer < loss:
                 write.lost_by = loss
-        self.pages = dict(self.record().before)
-        for it in events:
+        self.pages = dict(self.before)
+        for it in self.events:
             if it.kind == "write" and it.lost_by == math.inf:
                 self.write(it.at, it.count, it.content)
 
@@ -185,7 +173,7 @@ class Disk:
 
     def writes_before(self, cut, chance):
         """The writes before the cut in order, each with whether it is durable."""
-        events, found = self.record().events[:cut], []
+        events, found = self.events[:cut], []
         firm = max((i for i, it in enumerate(events) if it.kind == "flush" and it.answer < cut and i < self.lies_from), default=-1)
         for it in events:
             if it.kind == "write" and it.lost_by >= cut:
@@ -232,8 +220,8 @@ class Disk:
         `torn` says what becomes of a sector that is kept: 0: it is whole; 1: bytes old and new are mixed, where its write wasn't answered; 2: the
         same of each volatile write; 3: it has any bytes; 4: the same, or can't be read until it is written again, by chance; 5: it has any bytes,
         with the 4,096 around it, which the disk writes together."""
-        chance, cut = random.Random(seed), min(cut, len(self.record().events))
-        self.is_recording, self.pages = False, dict(self.record().before)
+        chance, cut = random.Random(seed), min(cut, self.count())
+        self.is_recording, self.pages = False, dict(self.before)
         self.unreadable_ones.clear()
         writes = self.writes_before(cut, chance)
         volatile = sum(not is_durable for _, is_durable in writes)
@@ -242,7 +230,7 @@ class Disk:
             if is_durable:
                 self.write(write.at, write.count, write.content)
                 continue
-            is_whole = POLICIES[policy](number, some, one)
+            is_whole = policy in KEPT and KEPT[policy](number, some, one)
             self.keep(write, is_whole, grain, percent if policy == "subset" else 0, cut, torn, chance)
             number += 1
         return volatile
@@ -258,15 +246,15 @@ class Disk:
 
     def anew(self):
         """A record begins, over what the disk has now, in place of the one before."""
-        self.records[-1], self.is_recording = Record(self.pages), True
+        self.events, self.before, self.is_recording = [], dict(self.pages), True
 
     def deeper(self):
         """The same, and the one before is kept until `back`."""
-        self.records.append(None)
+        self.kept.append((self.events, self.before))
         self.anew()
 
     def back(self):
-        self.records.pop()
+        self.events, self.before = self.kept.pop()
 
     def stop(self):
         """From now on nothing is recorded, though all is answered: the machine that has the disk loses its power."""
@@ -281,20 +269,20 @@ class Disk:
         self.most_delay = microseconds
 
     def count(self):
-        return len(self.record().events)
+        return len(self.events)
 
     def flushes(self):
         """The events that are answers of flushes."""
-        return [i for i, it in enumerate(self.record().events) if it.kind == "answer" and it.of.kind == "flush"]
+        return [i for i, it in enumerate(self.events) if it.kind == "answer" and it.of.kind == "flush"]
 
     def told(self, cut):
         """The last number that was told of each key before that event."""
-        lines = (it.of for it in self.record().events[:cut] if it.kind == "told" and not it.of.startswith("#"))
+        lines = (it.of for it in self.events[:cut] if it.kind == "told" and not it.of.startswith("#"))
         return {key: int(value) for key, value in (line.split(" ", 1) for line in lines)}
 
     def history(self):
         """The other lines, which begin with #."""
-        return [it.of for it in self.record().events if it.kind == "told" and it.of.startswith("#")]
+        return [it.of for it in self.events if it.kind == "told" and it.of.startswith("#")]
 
     def only(self, *ends):
         """Sectors are torn in these ranges of bytes alone."""
@@ -313,7 +301,7 @@ class Disk:
 
     def save(self, path):
         """What the disk had when the record began, or where nothing is recorded what it has, goes to a file. The sectors that can't be read."""
-        pages, self.pages = self.pages, self.record().before if self.is_recording else self.pages
+        pages, self.pages = self.pages, self.before if self.is_recording else self.pages
         with io.open(path, "wb") as file:
             file.truncate(self.size)
             for number in range(self.size // PAGE):
