@@ -4,14 +4,12 @@ import copy
 import ctypes
 import glob
 import json
-import lzma
 import os
 import re
 import select
 import shutil
 import signal
 import socket
-import struct
 import subprocess
 import sys
 import sysconfig
@@ -136,22 +134,6 @@ def missing():
     """What isn't installed here that guests can't do without."""
     lacks = [f"{name} (Debian: {package})" for name, package in WANTED.items() if not is_installed(name)]
     return lacks + ([] if kernels() else ["kernel in /boot (Debian: linux-image-amd64)"])
-
-
-def unpacked(kernel, path):
-    """The kernel without its compression, which takes a guest seconds to undo, in a file; or as it is, where it isn't packed by xz."""
-    with open(kernel, "rb") as file:
-        packed = file.read()
-    # The setup's sectors, and the place and length of what follows them (Linux, Documentation/x86/boot.rst).
-    offset, length = struct.unpack_from("<II", packed, 0x248)
-    begin = (packed[0x1F1] + 1) * 512 + offset
-    try:
-        plain = lzma.LZMADecompressor().decompress(packed[begin : begin + length])
-    except lzma.LZMAError:
-        return kernel
-    with open(path, "wb") as file:
-        file.write(plain)
-    return path
 
 
 def make_file_system(path, system):
@@ -315,7 +297,7 @@ class Parts:
     def make_machine(self, programs, files):
         """What a machine boots from."""
         kernel = kernels()[-1]
-        self.kernel, self.initramfs = unpacked(kernel, f"{self.folder}/kernel"), f"{self.folder}/initramfs"
+        self.kernel, self.initramfs = kernel, f"{self.folder}/initramfs"
         must_run(f"{HERE}/initramfs", self.initramfs, kernel.partition("-")[2], *programs, "--", *files)
 
     def alone(self, number):

@@ -1,11 +1,9 @@
-/* search small SECONDS [STEPS [MOST [ONE]]]: each small program under all schedules with at most two preemptions, first without one and then
- * with one at most; until the time is over, or so many steps are made, or until that were more than MOST runs of it. ONE: that small program alone.
+/* search small SECONDS [STEPS [MOST [ONE]]]: each small program under all schedules by two other choices at most, first by none and then by one;
+ * until the time is over, or so many steps are made, or until that were more than MOST runs of it. ONE: that small program alone.
  * search programs FROM COUNT SECONDS [STEPS]: a program and a schedule for each seed, for so many seconds or steps at most.
  * search one SEED TRIES [LEFT-OUT] [CHOICES]: the program of a seed under its own schedule (TRIES 0) or under so many others, without the deeds
  * of that list, or with these choices (PLACE:TASK,..). It tells the program, and the choices of what has failed.
  * A fault is told in a line, and the status is 3. tools/search builds and calls this. */
-#include "each.h"
-#include "order.h"
 #include "programs.h"
 #include <malloc.h>
 #include <signal.h>
@@ -116,54 +114,63 @@ static void run_programs(uint64_t from, uint64_t count) {
            (unsigned long long)steps, (unsigned long long)programs_crashes, (unsigned long long)programs_stuck);
 }
 
-/* ---- all schedules of a small program ---- */
+/* ---- all schedules of a small program that are near to the usual one ---- */
 
-enum { MOST_PREEMPTIONS = 2 };
+/* In a schedule by so many other choices, at so many places, another one goes on than by itself, or the time of one that sleeps is over. In a
+ * small program nothing comes by chance, so that the places before the first other choice are the same in each run. */
+enum { MOST_CHOICES = 2 };
+static search_choice path[MOST_CHOICES];
 static double program_begun, program_used;
-static uint64_t steps_before, programs_left, most_runs;
+static uint64_t steps_before, programs_left, runs, most_runs;
+static size_t most_places;
 
-static void run_choices(const search_choice *path, size_t length) {
+static bool is_cut_short(void) {
+    return runs >= most_runs || is_over(program_begun, steps_before, programs_left);
+}
+
+/* Runs by the choices of the path, and then with up to so many more behind them. */
+static void try_path(size_t length, size_t more) {
+    size_t first = length > 0 ? path[length - 1].place + 1 : 0;
     search_schedule schedule = {0, TIMELESS, 1, 1, path, length};
     run(&schedule);
+    runs++;
+    if (search_made.last >= MOST_TOLD) search_fail("a run of too many places");
+    if (first < search_made.first) first = search_made.first;
+    size_t last = search_made.last, count = more > 0 && last > first ? last - first : 0;
+    if (most_places < last - search_made.first) most_places = last - search_made.first;
+    search_place *places = malloc((count + 1) * sizeof *places);
+    if (places == NULL) search_fail("no memory");
+    memcpy(places, &search_made.at[first], count * sizeof *places);
+    for (size_t i = 0; i < count; i++)
+        for (uint32_t task = 0; task <= TIME && !is_cut_short(); task++) {
+            if ((places[i].able >> task & 1) == 0 || task == places[i].usual) continue;
+            path[length] = (search_choice){(uint32_t)(first + i), task};
+            try_path(length + 1, more - 1);
+        }
+    free(places);
 }
 
-static bool is_program_over(void) {
-    return is_over(program_begun, steps_before, programs_left);
-}
-
-static void begin_small(uint64_t seed, uint64_t end) {
-    seed_now = seed;
-    program_begun = seconds_now();
-    program_used = used_seconds();
-    steps_before = steps;
-    programs_left = end - seed;
-    program_make(&now, seed);
-    order_forget();
-}
-
-static void tell_small(uint64_t seed, uint32_t preemptions, each_counts counts) {
-    static const char *const HOW_MANY[] = {"no preemption", "one preemption at most", "two preemptions at most"};
-    const char *how = HOW_MANY[preemptions];
-    if (counts.is_cut_short)
-        printf("%s: %llu schedules with %s, and not all of these\n", program_name(seed), (unsigned long long)counts.tried, how);
-    else
-        printf("%s: all %llu schedules with %s, at %zu places at most, in %llu runs and %.1f s of a processor\n", program_name(seed),
-               (unsigned long long)counts.tried, how, counts.places, (unsigned long long)counts.runs, used_seconds() - program_used);
-    fflush(stdout);
-}
-
-/* By one preemption more after each, so that what few show is found first. */
+/* By one choice more after each, so that what few show is found first. */
 static void run_small(uint64_t first, uint64_t end) {
     tells = true;
     for (uint64_t seed = first; seed < end; seed++) {
-        each_counts counts = {0, 0, 0, false};
-        begin_small(seed, end);
-        for (uint32_t preemptions = 0; preemptions <= MOST_PREEMPTIONS && !counts.is_cut_short; preemptions++) {
-            uint64_t runs = counts.runs;
-            counts = each_try((each_asks){run_choices, is_program_over, most_runs - runs}, preemptions);
-            counts.runs += runs;
-            if (preemptions == MOST_PREEMPTIONS || counts.is_cut_short) tell_small(seed, preemptions, counts);
-        }
+        seed_now = seed;
+        program_begun = seconds_now();
+        program_used = used_seconds();
+        steps_before = steps;
+        programs_left = end - seed;
+        runs = most_places = 0;
+        program_make(&now, seed);
+        size_t choices = 0;
+        uint64_t before = 0;
+        for (; choices <= MOST_CHOICES && !is_cut_short(); choices++) before = runs, try_path(0, choices);
+        printf("%s: ", program_name(seed));
+        if (is_cut_short())
+            printf("%llu schedules by %zu other choices at most, and not all of these\n", (unsigned long long)(runs - before), choices - 1);
+        else
+            printf("all %llu schedules by two other choices at most, of %zu places, in %.1f s of a processor\n", (unsigned long long)(runs - before),
+                   most_places, used_seconds() - program_used);
+        fflush(stdout);
     }
 }
 

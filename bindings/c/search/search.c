@@ -6,7 +6,6 @@
  * compilers may do to steps that aren't sequentially consistent. A call of the proved library is one step. */
 #define _GNU_SOURCE
 #include "search.h"
-#include "order.h"
 #include <errno.h>
 #include <limits.h>
 #include <linux/futex.h>
@@ -41,8 +40,6 @@ typedef struct {
     bool is_woken;  /* by a wake, not by time */
     bool yields;    /* it lets others go on first */
     bool is_quiet;  /* its steps are none */
-    bool asks_time; /* it is about to read the clock, */
-    const void *word, *other; /* or to touch these */
     int priority, error; /* `error`: errno, while others run */
     uint32_t in_a_row, looks;
     search_body *body;
@@ -194,25 +191,6 @@ static task *choice_of(task **able, size_t n, task *usual) {
     }
 }
 
-/* What all tasks have done, and whether they can go on. */
-static uint64_t past_of_all(void) {
-    uint64_t past = order_mix(now, (uint64_t)(me - tasks));
-    for (int i = 0; i < count; i++) {
-        uint64_t own = order_mix(order_of(i), (uint64_t)tasks[i].state << 1 | tasks[i].yields);
-        past += order_mix(order_mix(own, tasks[i].state == SLEEPS ? tasks[i].due : 0), (uint64_t)i);
-    }
-    return past;
-}
-
-static void note_order(search_place *it) {
-    it->asks_time = me->asks_time;
-    it->words[0] = me->word == NULL ? 0 : order_name(me->word);
-    it->words[1] = me->other == NULL ? 0 : order_name(me->other);
-    it->repeats = me->word != NULL && order_repeats(search_own(), it->words[0]);
-    it->past = past_of_all();
-    if (next_due() != NEVER) it->able |= 1u << TIME;
-}
-
 static void note_place(task **able, size_t n, const task *usual) {
     if (search_made.places == MOST_TOLD) return;
     search_place *it = &search_made.at[search_made.places];
@@ -220,8 +198,7 @@ static void note_place(task **able, size_t n, const task *usual) {
     for (size_t i = 0; i < n; i++) it->able |= 1u << (able[i] - tasks);
     if (usual != me && me->state == RUNS) it->able &= ~(1u << (me - tasks)); /* it lets others go first */
     it->usual = (uint8_t)(usual - tasks);
-    it->is_free = usual != me;
-    if (is_timeless()) note_order(it);
+    if (is_timeless() && next_due() != NEVER) it->able |= 1u << TIME;
 }
 
 static void note_choice(uint32_t chosen) {
@@ -293,23 +270,13 @@ void search_step(void) {
     go();
 }
 
-void search_step_at(const void *word, const void *other) {
-    if (me == NULL) return;
-    me->word = word;
-    me->other = other;
-    search_step();
-    me->word = me->other = NULL;
-}
-
-void search_touch(const void *word, bool changes) {
-    if (!is_timeless()) return;
-    order_touches(search_own(), word, changes);
-    if (changes) me->looks = 0;
+/* The one that runs has changed what others may see: it isn't one that only looks again and again. */
+static void note_change(void) {
+    if (me != NULL) me->looks = 0;
 }
 
 void search_own_part(bool begins) {
     *(begins ? &search_made.first : &search_made.last) = search_made.places;
-    order_watches(begins);
 }
 
 static void block(task_state state, const void *on, uint64_t due) {
@@ -322,7 +289,6 @@ static void block(task_state state, const void *on, uint64_t due) {
     me->is_woken = false;
     go();
     me->looks = 0;
-    if (is_timeless()) order_learns(search_own(), order_mix(now, me->is_woken));
 }
 
 void search_park(void) {
@@ -343,7 +309,6 @@ void search_begin(const search_schedule *given, uint64_t chance_seed) {
     next_told = 0;
     choosing = begin_random(given->seed);
     chance = chance_seed == 0 ? 0 : begin_random(chance_seed);
-    order_begin();
     count = 1;
     steps = 0;
     lowest = 0;
@@ -374,7 +339,6 @@ void search_end(void) {
 
 static void run_task(void) {
     me->answer = me->body(me->argument);
-    search_touch(me, true);
     me->state = GONE;
     for (int i = 0; i < count; i++)
         if (tasks[i].state == JOINS && tasks[i].on == me) tasks[i].state = RUNS;
@@ -393,7 +357,6 @@ static int new_task(search_body *body, void *argument) {
     int number = count++;
     int priority = (int)(100 + next_random(&choosing) % 900);
     tasks[number] = (task){.state = RUNS, .due = NEVER, .body = body, .argument = argument, .priority = priority};
-    order_starts(search_own(), number);
     getcontext(&tasks[number].context);
     tasks[number].context.uc_stack.ss_sp = stack_of(number);
     tasks[number].context.uc_stack.ss_size = STACK;
@@ -408,15 +371,13 @@ int search_start(search_body *body, void *argument) {
 }
 
 void search_join(int number) {
-    search_step_at(&tasks[number], NULL);
+    search_step();
     if (tasks[number].state != GONE) block(JOINS, &tasks[number], NEVER);
-    search_touch(&tasks[number], false);
 }
 
 int searched_create(pthread_t *thread, const pthread_attr_t *attributes, search_body *body, void *argument) {
     (void)attributes;
     *thread = (pthread_t)new_task(body, argument);
-    order_names_heap(argument); /* its helper's */
     search_step();
     return 0;
 }
@@ -443,11 +404,11 @@ static int place_of(const void *mutex) {
 /* Before and after a run one thread runs alone. */
 int searched_lock(pthread_mutex_t *mutex) {
     if (me == NULL) return 0;
-    search_step_at(mutex, NULL);
+    search_step();
     if (mutexes[place_of(mutex)].owner == me) search_fail("a mutex is locked twice");
     while (mutexes[place_of(mutex)].owner != NULL) block(WANTS_MUTEX, mutex, NEVER);
     mutexes[place_of(mutex)].owner = me;
-    search_touch(mutex, true);
+    note_change();
     return 0;
 }
 
@@ -457,7 +418,6 @@ int searched_unlock(pthread_mutex_t *mutex) {
     if (mutexes[place].owner != me) search_fail("a mutex is unlocked by another");
     mutexes[place].owner = NULL;
     mutexes[place].mutex = NULL;
-    search_touch(mutex, true);
     for (int i = 0; i < count; i++)
         if (tasks[i].state == WANTS_MUTEX && tasks[i].on == mutex) tasks[i].state = RUNS;
     search_step();
@@ -474,14 +434,11 @@ static void go_on_by(uint64_t nanoseconds) {
 /* Time stands still, but for one that looks again and again. */
 static void look_at_time(void) {
     if (++me->looks > MOST_LOOKS) go_on_by(YIELD_TIME);
-    order_learns(search_own(), now);
 }
 
 int searched_clock(clockid_t clock, struct timespec *time) {
     if (me == NULL || clock != CLOCK_MONOTONIC) return clock_gettime(clock, time);
-    me->asks_time = true;
     search_step();
-    me->asks_time = false;
     search_pass(50 + search_chance() % 1000);
     if (is_timeless()) look_at_time();
     *time = (struct timespec){(time_t)(now / 1000000000), (long)(now % 1000000000)};
@@ -508,8 +465,7 @@ int searched_yield(void) {
 }
 
 static long sleep_on_word(const uint32_t *word, uint32_t seen, const struct timespec *due) {
-    search_step_at(word, NULL);
-    search_touch(word, false);
+    search_step();
     if (*(const volatile uint32_t *)word != seen) return errno = EAGAIN, -1;
     uint64_t at = due == NULL ? NEVER : (uint64_t)due->tv_sec * 1000000000 + (uint64_t)due->tv_nsec;
     if (at <= now) return errno = ETIMEDOUT, -1;
@@ -518,7 +474,6 @@ static long sleep_on_word(const uint32_t *word, uint32_t seen, const struct time
         return errno = EINTR, -1;
     }
     block(SLEEPS, word, at);
-    if (me->is_woken) search_touch(word, false);
     return me->is_woken ? 0 : (errno = ETIMEDOUT, -1);
 }
 
@@ -530,7 +485,7 @@ static long wake_on_word(const uint32_t *word, int most) {
         tasks[i].is_woken = true;
         woken++;
     }
-    search_touch(word, true);
+    note_change();
     search_step();
     return woken;
 }
@@ -601,8 +556,8 @@ PLAIN(1) PLAIN(2) PLAIN(4) PLAIN(8) PLAIN(16)
 #define CHANGE(bits, type, name, changed) \
     type __tsan_atomic##bits##_##name(volatile type *at, type value, int order) { \
         (void)order; \
-        search_step_at((const void *)at, NULL); \
-        search_touch((const void *)at, true); \
+        search_step(); \
+        note_change(); \
         type old = *at; \
         *at = (type)(changed); \
         return old; \
@@ -610,24 +565,22 @@ PLAIN(1) PLAIN(2) PLAIN(4) PLAIN(8) PLAIN(16)
 #define EXCHANGE_IF(bits, type, name) \
     int __tsan_atomic##bits##_compare_exchange_##name(volatile type *at, type *expected, type value, int order, int other) { \
         (void)order, (void)other; \
-        search_step_at((const void *)at, NULL); \
+        search_step(); \
         type old = *at; \
-        search_touch((const void *)at, old == *expected); \
-        if (old == *expected) return *at = value, 1; \
+        if (old == *expected) return note_change(), *at = value, 1; \
         *expected = old; \
         return 0; \
     }
 #define ATOMIC(bits, type) \
     type __tsan_atomic##bits##_load(const volatile type *at, int order) { \
         (void)order; \
-        search_step_at((const void *)at, NULL); \
-        search_touch((const void *)at, false); \
+        search_step(); \
         return *at; \
     } \
     void __tsan_atomic##bits##_store(volatile type *at, type value, int order) { \
         (void)order; \
-        search_step_at((const void *)at, NULL); \
-        search_touch((const void *)at, true); \
+        search_step(); \
+        note_change(); \
         *at = value; \
     } \
     CHANGE(bits, type, exchange, value) CHANGE(bits, type, fetch_add, old + value) CHANGE(bits, type, fetch_sub, old - value) \

@@ -37,15 +37,10 @@ typedef struct {
 void search_begin(const search_schedule *schedule, uint64_t chance);
 void search_end(void);
 
-/* Where it was chosen who goes on. The rest is known of a TIMELESS run alone. */
+/* Where it was chosen who goes on. */
 typedef struct {
-    uint32_t able;  /* a bit for each task that could go on; TIME's: one sleeps until a time */
-    uint8_t usual;  /* whom AS_TOLD chooses by itself */
-    bool is_free;   /* the one that ran couldn't go on, so that another one is no preemption */
-    bool asks_time; /* it is about to read the clock */
-    bool repeats;   /* it is about to read again what it has read twice, which is as it was */
-    uint64_t words[2]; /* that it is about to touch; 0: none */
-    uint64_t past;  /* the same where each task has done the same, in the same order */
+    uint32_t able; /* a bit for each task that could go on; TIME's, of a TIMELESS run: one sleeps until a time */
+    uint8_t usual; /* whom AS_TOLD chooses by itself */
 } search_place;
 
 /* What has come by choices against AS_TOLD's own, by which the run can be made again; and at each place whom it might have chosen. */
@@ -63,9 +58,6 @@ void search_join(int task);
 int search_own(void); /* the number of the task that runs */
 
 void search_step(void);
-/* A step that is about to touch these words, or one and NULL; and what it has touched then. */
-void search_step_at(const void *word, const void *other);
-void search_touch(const void *word, bool changes);
 void search_own_part(bool begins); /* of the program, in which who goes on is chosen */
 uint64_t search_chance(void); /* a number by chance */
 uint64_t search_time(void);   /* nanoseconds, without a step */

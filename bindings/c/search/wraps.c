@@ -8,55 +8,26 @@
 #include <time.h>
 #include <unistd.h>
 
-/* What a call touches that others may: a monitor with its wait set; all rings, of which a session's calls touch its own, and so read this word,
- * and a round each; and what of the heap belongs to who leads. */
-static const char monitors[64], rings, leads;
-
-static const char *monitor_of(uint32_t object) {
-    return &monitors[object % sizeof monitors];
-}
-
-/* By the lane of the session, which lies in its seat: for which object's monitor it waits. */
-static uint32_t waits[32];
-
-static uint32_t *wait_of(const zelamiku_handle *session) {
-    return &waits[(uintptr_t)session / 256 % (sizeof waits / sizeof *waits)];
-}
-
-/* A call of a session that may change that monitor, unless it finds it held, and sends a record. */
-#define STEP_OF(name, object_, parameters, arguments) \
+/* A call that changes what others may see. */
+#define STEP(name, parameters, arguments) \
     zelamiku_status __real_##name parameters; \
     zelamiku_status __wrap_##name parameters; \
     zelamiku_status __wrap_##name parameters { \
-        const char *monitor = monitor_of(object_); \
-        search_step_at(monitor, &rings); \
-        zelamiku_status status = __real_##name arguments; \
-        search_touch(monitor, status != ZELAMIKU_HELD && status != ZELAMIKU_IN_SET); \
-        if (status != ZELAMIKU_HELD && status != ZELAMIKU_IN_SET) search_touch(&rings, false); \
-        return status; \
-    }
-STEP_OF(zelamiku_try_enter, object, (zelamiku_handle *session, uint32_t object), (session, object))
-STEP_OF(zelamiku_exit, object, (zelamiku_handle *session, uint32_t object), (session, object))
-STEP_OF(zelamiku_begin_wait, *wait_of(session) = object, (zelamiku_handle *session, uint32_t object), (session, object))
-STEP_OF(zelamiku_try_resume, *wait_of(session), (zelamiku_handle *session), (session))
-STEP_OF(zelamiku_notify, object, (zelamiku_handle *session, uint32_t object, uint32_t *lane), (session, object, lane))
-STEP_OF(zelamiku_notify_all, object, (zelamiku_handle *session, uint32_t object, uint64_t *lanes), (session, object, lanes))
-
-/* A call that touches such a word, or the other one too. */
-#define STEP(name, word, changes, parameters, arguments) \
-    zelamiku_status __real_##name parameters; \
-    zelamiku_status __wrap_##name parameters; \
-    zelamiku_status __wrap_##name parameters { \
-        search_step_at(word, NULL); \
-        search_touch(word, changes); \
+        search_step(); \
         return __real_##name arguments; \
     }
-STEP(zelamiku_look, monitor_of(object), false, (zelamiku_handle *session, uint32_t object, zelamiku_sight *sight), (session, object, sight))
-STEP(zelamiku_store, &rings, false, (zelamiku_handle *session, uint32_t field, uint64_t value), (session, field, value))
-STEP(zelamiku_acknowledged, &leads, false, (zelamiku_handle *heap, uint32_t lane, uint64_t *sections), (heap, lane, sections))
-STEP(zelamiku_session, &leads, true, (zelamiku_handle *heap, zelamiku_handle *session), (heap, session))
-STEP(zelamiku_end, &leads, true, (zelamiku_handle *session), (session))
-STEP(zelamiku_close, &leads, true, (zelamiku_handle *heap), (heap))
+STEP(zelamiku_try_enter, (zelamiku_handle *session, uint32_t object), (session, object))
+STEP(zelamiku_exit, (zelamiku_handle *session, uint32_t object), (session, object))
+STEP(zelamiku_begin_wait, (zelamiku_handle *session, uint32_t object), (session, object))
+STEP(zelamiku_try_resume, (zelamiku_handle *session), (session))
+STEP(zelamiku_notify, (zelamiku_handle *session, uint32_t object, uint32_t *lane), (session, object, lane))
+STEP(zelamiku_notify_all, (zelamiku_handle *session, uint32_t object, uint64_t *lanes), (session, object, lanes))
+STEP(zelamiku_look, (zelamiku_handle *session, uint32_t object, zelamiku_sight *sight), (session, object, sight))
+STEP(zelamiku_store, (zelamiku_handle *session, uint32_t field, uint64_t value), (session, field, value))
+STEP(zelamiku_acknowledged, (zelamiku_handle *heap, uint32_t lane, uint64_t *sections), (heap, lane, sections))
+STEP(zelamiku_session, (zelamiku_handle *heap, zelamiku_handle *session), (heap, session))
+STEP(zelamiku_end, (zelamiku_handle *session), (session))
+STEP(zelamiku_close, (zelamiku_handle *heap), (heap))
 
 bool searched_is_bounded; /* the last round has taken as much as it might */
 
@@ -64,9 +35,7 @@ bool searched_is_bounded; /* the last round has taken as much as it might */
 zelamiku_status __real_zelamiku_round(zelamiku_handle *heap, uint64_t most, uint64_t *applied);
 zelamiku_status __wrap_zelamiku_round(zelamiku_handle *heap, uint64_t most, uint64_t *applied);
 zelamiku_status __wrap_zelamiku_round(zelamiku_handle *heap, uint64_t most, uint64_t *applied) {
-    search_step_at(&rings, &leads);
-    search_touch(&rings, true);
-    search_touch(&leads, true);
+    search_step();
     zelamiku_status status = __real_zelamiku_round(heap, most, applied);
     searched_is_bounded = *applied == most;
     search_pass(*applied * (search_chance() % 100));
