@@ -241,7 +241,7 @@ fuzz:
 	corpus=$(CURDIR)/$(C)/fuzz/corpus
 	export ZELAMIKU_FUZZ_FOLDER=$$(mktemp -d /dev/shm/zelamiku-XXXXXX)
 	trap 'rm -rf "$$ZELAMIKU_FUZZ_FOLDER"' EXIT
-	clang -std=gnu11 -O1 -g -fsanitize=fuzzer,address -fno-sanitize-recover=all -Wall -Wextra -Werror -Wno-static-in-inline -I $(C) $(C)/fuzz/opened.c $(LIBS)/libzelamiku.a -pthread -o $$work/opened
+	clang -std=gnu11 -O1 -g -fsanitize=fuzzer,address -fno-sanitize-recover=all -Wall -Wextra -Werror -Wno-static-in-inline -DFUZZED -I $(C) $(C)/tests/altered.c $(LIBS)/libzelamiku.a -pthread -o $$work/opened
 	mkdir -p $$work/new $$work/kept
 	$$work/opened $(if $(SECONDS),-max_total_time=$(SECONDS) -timeout=20 -max_len=160,-runs=0) -artifact_prefix=$$work/ $$work/new $$corpus
 	[ -z "$(KEEP)" ] || { $$work/opened -merge=1 $$work/kept $$work/new $$corpus && rm -rf $$corpus && mv $$work/kept $$corpus; }

@@ -1,10 +1,5 @@
-#include "device.h"
-#include "search.h"
-#include <errno.h>
-#include <stdlib.h>
-#include <string.h>
 
-void device_begin(device *it, uint64_t size) {
+static void device_begin(device *it, uint64_t size) {
     it->size = size;
     it->now = realloc(it->now, size);
     it->durable = realloc(it->durable, size);
@@ -37,7 +32,7 @@ static void sync_bytes(device *it) {
 }
 
 /* A call of the device begins: whether it fails. */
-static bool begin_call(device *it, bool is_sync) {
+static bool begin_device_call(device *it, bool is_sync) {
     if (it->in_call++ > 0) search_fail("two threads make calls of one device");
     search_step();
     bool is_failed = fails(it, is_sync);
@@ -47,7 +42,7 @@ static bool begin_call(device *it, bool is_sync) {
 }
 
 /* A sync that has failed may have lost what was written. */
-static zelamiku_status end_call(device *it, bool is_failed, bool is_sync) {
+static zelamiku_status end_device_call(device *it, bool is_failed, bool is_sync) {
     it->in_call--;
     if (it->is_over) search_fail("a call of the device after the heap's end");
     errno = is_failed ? EIO : 0;
@@ -61,19 +56,19 @@ static zelamiku_status read_it(void *of, uint64_t at, void *bytes, size_t size) 
 
 static zelamiku_status write_it(void *of, uint64_t at, const void *bytes, size_t size) {
     device *it = of;
-    bool is_failed = begin_call(it, false);
+    bool is_failed = begin_device_call(it, false);
     for (uint64_t from = 0, count; !is_failed && from < size; from += count) {
         count = size - from < ZELAMIKU_MOST_BYTES ? size - from : ZELAMIKU_MOST_BYTES;
         write_bytes(it, at + from, (const uint8_t *)bytes + from, count);
     }
-    return end_call(it, is_failed, false);
+    return end_device_call(it, is_failed, false);
 }
 
 static zelamiku_status sync_it(void *of) {
     device *it = of;
-    bool is_failed = begin_call(it, true);
+    bool is_failed = begin_device_call(it, true);
     if (!is_failed) sync_bytes(it);
-    return end_call(it, is_failed, true);
+    return end_device_call(it, is_failed, true);
 }
 
 static zelamiku_status tell_size(void *of, uint64_t *size) {
@@ -81,7 +76,6 @@ static zelamiku_status tell_size(void *of, uint64_t *size) {
     return ZELAMIKU_OK;
 }
 
-zelamiku_device device_functions(device *it) {
-    zelamiku_device functions = {sizeof(zelamiku_device), read_it, write_it, sync_it, tell_size, it};
-    return functions;
+static zelamiku_device device_functions(device *it) {
+    return (zelamiku_device){sizeof(zelamiku_device), read_it, write_it, sync_it, tell_size, it};
 }

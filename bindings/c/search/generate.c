@@ -1,7 +1,4 @@
 /* What the programs are made of, by a seed: each has a theme, so that what is seldom meets what it has to. */
-#include "programs.h"
-#include <stdio.h>
-#include <string.h>
 
 typedef enum { MIXED, DEADLINES, SETS, ROOM, ROUNDS, LOOKS, LANES, LEFTOVERS, POOLS, ENDS, THEMES } theme;
 
@@ -206,7 +203,7 @@ static void make_more(program *it) {
     it->processors = 1 + (uint32_t)below(4);
     common_time = 0;
     common_time = one_in(2) ? 1000 * it->linger : 800 + some_time();
-    (void)one_in(2); /* so that a seed makes the program that it made */
+    (void)one_in(2); /* so that programs are what they were */
     it->reverts = one_in(4);
     it->is_in_file = of == FILES || (of == FORKS && one_in(3));
     choose_fault(it);
@@ -222,7 +219,7 @@ static void make_more(program *it) {
 
 static void make_small(program *it, unsigned number);
 
-void program_make(program *it, uint64_t seed) {
+static void program_make(program *it, uint64_t seed) {
     static const uint32_t LINGERS[] = {1, 1, 20, 200, 5000, 5000};
     memset(it, 0, sizeof *it);
     state = seed * 0x9E3779B97F4A7C15u + 0x7654321;
@@ -241,7 +238,7 @@ void program_make(program *it, uint64_t seed) {
     it->processors = 1 + (uint32_t)below(4);
     common_time = 0;
     common_time = one_in(2) ? 1000 * it->linger : 800 + some_time();
-    (void)one_in(2); /* so that a seed makes the program that it made */
+    (void)one_in(2); /* so that programs are what they were */
     it->reverts = one_in(2);
     choose_fault(it);
     if (of == LEFTOVERS && one_in(2)) return add_leftovers(it);
@@ -294,7 +291,8 @@ static const small_program SMALL[SMALL_PROGRAMS] = {
       {0, EXIT, 0, 0}, {0, AWAIT, 0, 0}}},
 };
 
-const char *program_name(uint64_t seed) {
+/* of a small one */
+static const char *program_name(uint64_t seed) {
     return SMALL[seed].name;
 }
 
@@ -327,7 +325,7 @@ static const char *const NAMES[] = {
     [OPEN_AGAIN] = "open the file again", [FORK] = "fork",
 };
 
-void program_print(const program *it) {
+static void program_print(const program *it) {
     static const char *const FAULTS[] = {"", ", writes fail", ", syncs fail", ", calls hang"};
     printf("%u threads, %u lanes, %u heaps%s, capacity %u, ring %u, linger %u us, %u processors%s%s", it->threads, it->lanes, it->heaps,
            it->is_in_file ? " in a file" : "", it->capacity, it->ring, it->linger, it->processors, it->reverts ? ", reverts" : "", FAULTS[it->fault]);

@@ -1,10 +1,7 @@
 /* Each call is told to the judge when it begins and when it has answered. In between it takes effect: an exit at the latest when another thread
  * is told that it has the monitor, so that the judge needs no more than that to know the one legal history. */
-#include "judge.h"
-#include <stdlib.h>
-#include <string.h>
 
-void judge_begin(judge *it, uint32_t lanes, bool reverts, bool has_transient) {
+static void judge_begin(judge *it, uint32_t lanes, bool reverts, bool has_transient) {
     judged_store *stores = it->stores;
     size_t room = it->room;
     memset(it, 0, sizeof *it);
@@ -18,7 +15,8 @@ void judge_begin(judge *it, uint32_t lanes, bool reverts, bool has_transient) {
     for (uint32_t field = POOL; field < FIELDS; field++) it->values[field] = 0;
 }
 
-void judge_ends(judge *it, zelamiku_status status) {
+/* from now on a thread may be told so */
+static void judge_ends(judge *it, zelamiku_status status) {
     it->ends |= 1u << (status - ZELAMIKU_LOST);
     it->closers += status == ZELAMIKU_CLOSED;
     for (uint32_t lane = 0; lane < it->lanes; lane++)
@@ -26,29 +24,32 @@ void judge_ends(judge *it, zelamiku_status status) {
 }
 
 /* Of two calls that end the heap the later one waits until the other one, which does the work, has done it. */
-void judge_ended(judge *it, zelamiku_status status, bool is_refused) {
+static void judge_ended(judge *it, zelamiku_status status, bool is_refused) {
     if (is_refused && status == ZELAMIKU_CLOSED && --it->closers == 0) it->ends &= ~(1u << (status - ZELAMIKU_LOST));
     it->has_ended |= !is_refused;
 }
 
-bool judge_is_end(const judge *it, zelamiku_status status) {
+static bool judge_is_end(const judge *it, zelamiku_status status) {
     bool is_one = status == ZELAMIKU_CLOSED || status == ZELAMIKU_ABANDONED || status == ZELAMIKU_LOST;
     return is_one && (it->ends >> (status - ZELAMIKU_LOST) & 1) != 0;
 }
 
-uint32_t judge_held(const judge *it, uint32_t lane) {
+/* locks, all together */
+static uint32_t judge_held(const judge *it, uint32_t lane) {
     uint32_t held = 0;
     for (uint32_t object = 0; object < OBJECTS; object++) held += it->of[lane].locks[object];
     return held;
 }
 
-bool judge_is_open(const judge *it) {
+/* whether a section is */
+static bool judge_is_open(const judge *it) {
     for (uint32_t lane = 0; lane < it->lanes; lane++)
         if (judge_held(it, lane) > 0) return true;
     return false;
 }
 
-void judge_note_sections(const judge *it, judged_sections *before) {
+/* A call that ends the heap begins, and has come back with OK, alone: what was open has ended before a close, and what had ended is durable. */
+static void judge_note_sections(const judge *it, judged_sections *before) {
     before->is_any_open = judge_is_open(it);
     for (uint32_t lane = 0; lane < it->lanes; lane++) {
         before->is_open[lane] = judge_held(it, lane) > 0 && it->of[lane].call == NO_CALL;
@@ -56,14 +57,14 @@ void judge_note_sections(const judge *it, judged_sections *before) {
     }
 }
 
-void judge_closed(const judge *it, const judged_sections *before) {
+static void judge_closed(const judge *it, const judged_sections *before) {
     judged_sections now;
     judge_note_sections(it, &now);
     for (uint32_t lane = 0; lane < it->lanes; lane++)
         if (before->is_open[lane] && now.is_open[lane] && before->ended[lane] == now.ended[lane]) search_fail("close is OK, and a section of lane %u is open", lane);
 }
 
-void judge_settled(judge *it, const judged_sections *before) {
+static void judge_settled(judge *it, const judged_sections *before) {
     for (uint32_t lane = 0; lane < it->lanes && !before->is_any_open; lane++)
         if (it->of[lane].durable < before->ended[lane]) it->of[lane].durable = before->ended[lane];
 }
@@ -91,7 +92,7 @@ static judged_lane *begin_call(judge *it, uint32_t lane, judged_call call, uint3
 }
 
 /* Whether the call has answered that the heap is at its end. */
-static bool is_over(judge *it, uint32_t lane, zelamiku_status status) {
+static bool tells_end(judge *it, uint32_t lane, zelamiku_status status) {
     judged_lane *own = &it->of[lane];
     own->call = NO_CALL;
     if (judge_is_end(it, status)) return true;
@@ -100,7 +101,7 @@ static bool is_over(judge *it, uint32_t lane, zelamiku_status status) {
 }
 
 /* Another thread has the lane now. Of the one before it has nothing. */
-void judge_lent(judge *it, uint32_t lane) {
+static void judge_lent(judge *it, uint32_t lane) {
     judged_lane *own = &it->of[lane];
     memset(own->locks, 0, sizeof own->locks);
     own->call = NO_CALL;
@@ -174,7 +175,7 @@ static void take(judge *it, uint32_t lane, uint32_t object, uint32_t locks) {
     tell_of_owner(it, lane, object);
 }
 
-void judge_enters(judge *it, uint32_t lane, uint32_t object, uint64_t deadline) {
+static void judge_enters(judge *it, uint32_t lane, uint32_t object, uint64_t deadline) {
     judged_lane *own = begin_call(it, lane, ENTERS, object);
     uint32_t owner = it->owner[object];
     own->deadline = deadline;
@@ -186,9 +187,9 @@ void judge_enters(judge *it, uint32_t lane, uint32_t object, uint64_t deadline) 
     tell_of_owner(it, lane, object);
 }
 
-void judge_entered(judge *it, uint32_t lane, zelamiku_status status) {
+static void judge_entered(judge *it, uint32_t lane, zelamiku_status status) {
     judged_lane *own = &it->of[lane];
-    if (is_over(it, lane, status)) return;
+    if (tells_end(it, lane, status)) return;
     bool is_answer = status == ZELAMIKU_HELD || status == ZELAMIKU_BEHIND, is_late = own->deadline == 0 || search_time() >= own->deadline;
     if (status == ZELAMIKU_OK) return take(it, lane, own->object, 1);
     if (is_answer && !is_late) search_fail("lane %u: enter %u answers %u before its deadline", lane, own->object, status);
@@ -200,11 +201,11 @@ void judge_entered(judge *it, uint32_t lane, zelamiku_status status) {
     if (!is_answer) search_fail("lane %u: enter %u answers %u", lane, own->object, status);
 }
 
-void judge_exits(judge *it, uint32_t lane, uint32_t object) {
+static void judge_exits(judge *it, uint32_t lane, uint32_t object) {
     (void)begin_call(it, lane, it->of[lane].locks[object] > 0 ? EXITS : NO_CALL, object);
 }
 
-void judge_exited(judge *it, uint32_t lane, zelamiku_status status) {
+static void judge_exited(judge *it, uint32_t lane, zelamiku_status status) {
     judged_lane *own = &it->of[lane];
     bool is_held = own->call == EXITS;
     if (is_held && status == ZELAMIKU_OK && !own->has_let_go) let_go(it, lane);
@@ -213,21 +214,21 @@ void judge_exited(judge *it, uint32_t lane, zelamiku_status status) {
         own->slips_through = false;
         own->must_end = own->was_ended;
     }
-    if (is_over(it, lane, status)) return;
+    if (tells_end(it, lane, status)) return;
     if (status != (is_held ? ZELAMIKU_OK : ZELAMIKU_NOT_HELD)) search_fail("lane %u: exit %u answers %u", lane, own->object, status);
 }
 
-void judge_waits(judge *it, uint32_t lane, uint32_t object) {
+static void judge_waits(judge *it, uint32_t lane, uint32_t object) {
     judged_lane *own = begin_call(it, lane, it->of[lane].locks[object] > 0 ? WAITS : NO_CALL, object);
     own->put_down = own->locks[object];
 }
 
-void judge_waited(judge *it, uint32_t lane, zelamiku_status status) {
+static void judge_waited(judge *it, uint32_t lane, zelamiku_status status) {
     judged_lane *own = &it->of[lane];
     bool was_held = own->call == WAITS;
     uint64_t bit = (uint64_t)1 << lane;
     if (was_held && judge_is_end(it, status)) cut_off(it, lane);
-    if (is_over(it, lane, status)) return;
+    if (tells_end(it, lane, status)) return;
     if (!was_held && status == ZELAMIKU_NOT_HELD) return;
     bool is_refused = status == ZELAMIKU_BEHIND || (status == ZELAMIKU_DEVICE && it->has_trouble);
     is_refused |= status == ZELAMIKU_SECTION_FULL && may_be_full(it, lane);
@@ -238,9 +239,9 @@ void judge_waited(judge *it, uint32_t lane, zelamiku_status status) {
     take(it, lane, own->object, own->put_down);
 }
 
-void judge_notified(judge *it, uint32_t lane, uint32_t object, zelamiku_status status, uint64_t lanes, bool is_all) {
+static void judge_notified(judge *it, uint32_t lane, uint32_t object, zelamiku_status status, uint64_t lanes, bool is_all) {
     bool is_held = it->of[lane].locks[object] > 0;
-    if (is_over(it, lane, status)) return;
+    if (tells_end(it, lane, status)) return;
     if (status != (is_held ? ZELAMIKU_OK : ZELAMIKU_NOT_HELD)) search_fail("lane %u: notify %u answers %u", lane, object, status);
     uint64_t set = is_held ? it->set[object] : 0, cut = is_held ? it->cut[object] : 0, may_wait = set | cut;
     bool is_one = lanes == 0 ? set == 0 : (lanes & may_wait) == lanes && (lanes & (lanes - 1)) == 0;
@@ -252,9 +253,9 @@ void judge_notified(judge *it, uint32_t lane, uint32_t object, zelamiku_status s
 
 /* ---- fields ---- */
 
-void judge_loaded(judge *it, uint32_t lane, uint32_t field, zelamiku_status status, uint64_t value) {
+static void judge_loaded(judge *it, uint32_t lane, uint32_t field, zelamiku_status status, uint64_t value) {
     bool is_held = it->of[lane].locks[guard_of(field)] > 0;
-    if (is_over(it, lane, status)) return;
+    if (tells_end(it, lane, status)) return;
     if (status != (is_held ? ZELAMIKU_OK : ZELAMIKU_NOT_HELD)) search_fail("lane %u: load %u answers %u", lane, field, status);
     if (value == (is_held ? it->values[field] : 0)) return;
     search_fail("lane %u: field %u is %llu, and was stored as %llu", lane, field, (unsigned long long)value,
@@ -274,9 +275,9 @@ static void note_store(judge *it, uint32_t lane, uint32_t field, uint64_t value)
     it->of[lane].records += is_lasting(it, field);
 }
 
-void judge_stored(judge *it, uint32_t lane, uint32_t field, zelamiku_status status, uint64_t value) {
+static void judge_stored(judge *it, uint32_t lane, uint32_t field, zelamiku_status status, uint64_t value) {
     bool is_held = it->of[lane].locks[guard_of(field)] > 0;
-    if (is_over(it, lane, status)) return;
+    if (tells_end(it, lane, status)) return;
     if (status == ZELAMIKU_OK && is_held) return note_store(it, lane, field, value);
     if (is_held && status == ZELAMIKU_SECTION_FULL && may_be_full(it, lane)) return;
     if (is_held || status != ZELAMIKU_NOT_HELD) search_fail("lane %u: store %u answers %u", lane, field, status);
@@ -293,21 +294,18 @@ static void take_back(judge *it, uint32_t lane) {
     }
 }
 
-void judge_reverted(judge *it, uint32_t lane, zelamiku_status status) {
-    bool can = judge_held(it, lane) > 0 && !it->of[lane].is_past;
-    if (is_over(it, lane, status)) return;
-    bool has_nothing = judge_held(it, lane) > 0 && !it->of[lane].has_stored;
-    bool is_undone = it->reverts ? can : has_nothing;
-    zelamiku_status expected = judge_held(it, lane) == 0 ? ZELAMIKU_NOT_HELD : is_undone ? ZELAMIKU_OK : ZELAMIKU_NOT_REVERTED;
-    if (status != expected) search_fail("lane %u: revert answers %u", lane, status);
+static void judge_reverted(judge *it, uint32_t lane, zelamiku_status status) {
+    bool is_open = judge_held(it, lane) > 0, can = it->reverts ? !it->of[lane].is_past : !it->of[lane].has_stored;
+    if (tells_end(it, lane, status)) return;
+    if (status != (!is_open ? ZELAMIKU_NOT_HELD : can ? ZELAMIKU_OK : ZELAMIKU_NOT_REVERTED)) search_fail("lane %u: revert answers %u", lane, status);
     if (status == ZELAMIKU_OK) take_back(it, lane);
 }
 
-void judge_took(judge *it, uint32_t lane, zelamiku_status status, uint32_t slot) {
+static void judge_took(judge *it, uint32_t lane, zelamiku_status status, uint32_t slot) {
     bool is_held = it->of[lane].locks[2] > 0;
     uint32_t taken = 0;
     for (uint32_t other = 0; other < SLOTS; other++) taken += it->values[POOL + 1 + other] != 0;
-    if (is_over(it, lane, status)) return;
+    if (tells_end(it, lane, status)) return;
     if (!is_held && status == ZELAMIKU_NOT_HELD) return;
     if (status == ZELAMIKU_SECTION_FULL && may_be_full(it, lane)) return;
     if (is_held && status == (taken == SLOTS ? ZELAMIKU_POOL_EMPTY : ZELAMIKU_OK)) {
@@ -318,9 +316,9 @@ void judge_took(judge *it, uint32_t lane, zelamiku_status status, uint32_t slot)
     search_fail("lane %u: take answers %u, and %u slots are taken", lane, status, taken);
 }
 
-void judge_gave(judge *it, uint32_t lane, zelamiku_status status, uint32_t slot) {
+static void judge_gave(judge *it, uint32_t lane, zelamiku_status status, uint32_t slot) {
     bool is_held = it->of[lane].locks[2] > 0, is_taken = it->values[POOL + 1 + slot] != 0;
-    if (is_over(it, lane, status)) return;
+    if (tells_end(it, lane, status)) return;
     zelamiku_status right = !is_held ? ZELAMIKU_NOT_HELD : is_taken ? ZELAMIKU_OK : ZELAMIKU_NOT_TAKEN;
     if (status == ZELAMIKU_SECTION_FULL && may_be_full(it, lane)) return;
     if (status != right) search_fail("lane %u: give %u answers %u", lane, slot, status);
@@ -329,26 +327,27 @@ void judge_gave(judge *it, uint32_t lane, zelamiku_status status, uint32_t slot)
 
 /* ---- what is durable ---- */
 
-void judge_awaits(judge *it, uint32_t lane, bool is_round, uint64_t deadline) {
+static void judge_awaits(judge *it, uint32_t lane, bool is_round, uint64_t deadline) {
     begin_call(it, lane, is_round ? AWAITS_ROUND : AWAITS, 0)->deadline = deadline;
 }
 
-void judge_awaited(judge *it, uint32_t lane, zelamiku_status status, bool is_all, uint64_t sections) {
+static void judge_awaited(judge *it, uint32_t lane, zelamiku_status status, bool is_all, uint64_t sections) {
     judged_lane *own = &it->of[lane];
     if (status == ZELAMIKU_OK && (is_all || search_time() >= own->deadline)) own->must_end = false; /* they were durable before, or a last round is underway */
-    if (is_over(it, lane, status)) return;
+    if (tells_end(it, lane, status)) return;
     if (status == ZELAMIKU_OK && is_all && own->durable < sections) own->durable = sections;
     if (own->durable == own->ended) own->records = 0;
     bool is_right = status == ZELAMIKU_OK || (status == ZELAMIKU_DEVICE && it->has_trouble);
     if (!is_right) search_fail("lane %u: await answers %u", lane, status);
 }
 
-void judge_asks(judge *it, uint32_t lane) {
+static void judge_asks(judge *it, uint32_t lane) {
     judged_lane *own = begin_call(it, lane, ASKS, 0);
     own->known = own->durable;
 }
 
-void judge_asked(judge *it, uint32_t lane, zelamiku_status status, uint64_t earlier, uint64_t durable) {
+/* `earlier`: of the thread before */
+static void judge_asked(judge *it, uint32_t lane, zelamiku_status status, uint64_t earlier, uint64_t durable) {
     judged_lane *own = &it->of[lane];
     uint64_t all = own->ended - earlier;
     bool is_trouble = status == ZELAMIKU_DEVICE && it->has_trouble;
@@ -359,24 +358,25 @@ void judge_asked(judge *it, uint32_t lane, zelamiku_status status, uint64_t earl
     own->has_asked = durable < all;
     own->is_short -= own->is_short > 0;
     if (durable > 0 && durable == all && judge_held(it, lane) == 0) own->records = 0;
-    if (is_over(it, lane, status)) return;
+    if (tells_end(it, lane, status)) return;
     if (status != ZELAMIKU_OK && !is_trouble) search_fail("lane %u: ask answers %u", lane, status);
 }
 
-void judge_listens(judge *it, uint32_t lane, uint64_t deadline) {
+/* sleeps until its event is readable */
+static void judge_listens(judge *it, uint32_t lane, uint64_t deadline) {
     judged_lane *own = &it->of[lane];
     own->call = LISTENS;
     own->deadline = deadline;
 }
 
-void judge_listened(judge *it, uint32_t lane, bool is_readable) {
+static void judge_listened(judge *it, uint32_t lane, bool is_readable) {
     judged_lane *own = &it->of[lane];
     own->call = NO_CALL;
     if (is_readable) own->is_short = 0;
     if (!is_readable && search_time() < own->deadline) search_fail("lane %u: its event isn't readable", lane);
 }
 
-void judge_copies(judge *it, uint32_t lane) {
+static void judge_copies(judge *it, uint32_t lane) {
     (void)begin_call(it, lane, COPIES, 0);
 }
 
@@ -427,17 +427,19 @@ static void judge_sleeper(judge *it, uint32_t lane, bool has_rounds) {
     }
 }
 
-void judge_sleepers(judge *it, bool has_rounds) {
+/* Nobody can go on now: whether each that sleeps has to. `has_rounds`: a round may come by itself before long. */
+static void judge_sleepers(judge *it, bool has_rounds) {
     for (uint32_t lane = 0; lane < it->lanes; lane++) judge_sleeper(it, lane, has_rounds);
 }
 
-uint64_t judge_durable(const judge *it) {
+/* What the library counts, while threads go on; so many sections were told durable before. */
+static uint64_t judge_durable(const judge *it) {
     uint64_t durable = 0;
     for (uint32_t lane = 0; lane < it->lanes; lane++) durable += it->of[lane].durable;
     return durable;
 }
 
-void judge_stats(const judge *it, const zelamiku_stats *stats, uint64_t durable) {
+static void judge_stats(const judge *it, const zelamiku_stats *stats, uint64_t durable) {
     uint64_t ended = sum_of(it, false);
     for (uint32_t lane = 0; lane < it->lanes; lane++) ended += judge_held(it, lane) > 0; /* its last exit may be underway */
     bool is_right = stats->sections >= durable && stats->sections <= ended && stats->lent <= it->lanes && stats->entering <= it->lanes;
@@ -448,14 +450,16 @@ void judge_stats(const judge *it, const zelamiku_stats *stats, uint64_t durable)
                     (unsigned long long)stats->four_sync_rounds);
 }
 
-void judge_alone(const judge *it) {
+/* The same, and no thread is left. */
+static void judge_alone(const judge *it) {
     zelamiku_stats stats = {.size = sizeof stats};
     if (it->ends != 0 || zelamiku_heap_stats(it->heap, &stats) != ZELAMIKU_OK) return;
     if (stats.awaiting > 0) search_fail("%u threads wait for rounds, and there are none", stats.awaiting);
     if (stats.entering > 0 || stats.lent > 0) search_fail("%u threads want monitors and %u have lanes; there are none", stats.entering, stats.lent);
 }
 
-void judge_quiet(judge *it) {
+/* All that has stored is durable, a good while after. */
+static void judge_quiet(judge *it) {
     if (judge_is_open(it) || it->ends != 0) return;
     uint64_t durable = all_durable(it), stored = sum_of(it, true);
     if (durable >= stored) return;
@@ -502,7 +506,8 @@ static void check_image(zelamiku_handle *heap, const uint64_t *values) {
     zelamiku_free(&session);
 }
 
-void judge_kept(const judge *it, bool is_all, uint64_t *least) {
+/* How many sections of each lane no crash loses from now on; `is_all`: after a close. */
+static void judge_kept(const judge *it, bool is_all, uint64_t *least) {
     for (uint32_t lane = 0; lane < it->lanes; lane++) least[lane] = is_all ? it->of[lane].ended : it->of[lane].durable;
 }
 
@@ -525,7 +530,8 @@ static bool is_looked_at(const judge *it, const uint8_t *image, size_t size, con
     return false;
 }
 
-void judge_image(judge *it, const uint8_t *image, size_t size, const uint64_t *least) {
+/* The bytes that a crash leaves, or a copy, opened anew: they have to have so many sections of each lane. */
+static void judge_image(judge *it, const uint8_t *image, size_t size, const uint64_t *least) {
     static zelamiku_told told;
     zelamiku_dropped_section none = {0};
     zelamiku_handle again = ZELAMIKU_NONE;

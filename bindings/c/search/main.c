@@ -4,20 +4,18 @@
  * search one SEED TRIES [LEFT-OUT] [CHOICES]: the program of a seed under its own schedule (TRIES 0) or under so many others, without the deeds
  * of that list, or with these choices (PLACE:TASK,..). It tells the program, and the choices of what has failed.
  * A fault is told in a line, and the status is 3. tools/search builds and calls this. */
-#include "programs.h"
-#include <malloc.h>
-#include <signal.h>
-#include <stdio.h>
-#include <stdlib.h>
-#include <string.h>
-#include <sys/time.h>
-#include <time.h>
-#include <unistd.h>
+#include "search.h"
+#include "search.c"
+#include "device.c"
+#include "judge.c"
+#include "wraps.c"
+#include "programs.c"
+#include "generate.c"
 
-static program now;
+static program made;
 static uint64_t seed_now;
 static bool tells;
-static uint64_t steps, most_steps; /* of all runs before this one */
+static uint64_t all_steps, most_steps; /* of all runs before this one */
 
 /* ---- faults ---- */
 
@@ -30,7 +28,7 @@ static void tell_choices(void) {
 
 static void fail(const char *why) {
     printf("FAULT seed %llu: %s; step %llu of %llu, time %llu us\n", (unsigned long long)seed_now, why, (unsigned long long)search_steps(),
-           (unsigned long long)(steps + search_steps()), (unsigned long long)(search_time() / 1000));
+           (unsigned long long)(all_steps + search_steps()), (unsigned long long)(search_time() / 1000));
     if (tells) tell_choices();
     fflush(stdout);
     _exit(3);
@@ -88,30 +86,30 @@ static double used_seconds(void) {
     return (double)clock() / CLOCKS_PER_SEC;
 }
 
-static void run(const search_schedule *schedule) {
+static void run_once(const search_schedule *schedule) {
     watch_run();
-    program_run(&now, schedule);
-    steps += search_steps();
+    program_run(&made, schedule);
+    all_steps += search_steps();
 }
 
 /* Whether the time is over, or the steps, of which so many more have a part. By steps all machines try the same, however much else they do. */
-static bool is_over(double begun, uint64_t before, uint64_t parts) {
+static bool is_time_over(double begun, uint64_t before, uint64_t parts) {
     uint64_t left = before < most_steps ? most_steps - before : 0;
-    return seconds_now() - begun >= (last_second - begun) / (double)parts || steps - before >= left / parts;
+    return seconds_now() - begun >= (last_second - begun) / (double)parts || all_steps - before >= left / parts;
 }
 
 static void run_programs(uint64_t from, uint64_t count) {
     double begun = seconds_now();
     uint64_t done = 0;
-    for (uint64_t seed = from; seed - from < count && !is_over(begun, 0, 1); seed++) {
+    for (uint64_t seed = from; seed - from < count && !is_time_over(begun, 0, 1); seed++) {
         seed_now = seed;
-        program_make(&now, seed);
-        search_schedule schedule = schedule_of(&now, seed);
-        run(&schedule);
+        program_make(&made, seed);
+        search_schedule schedule = schedule_of(&made, seed);
+        run_once(&schedule);
         done++;
     }
     printf("%llu programs, %llu steps, %llu crashes looked at, %llu programs stopped where nobody could go on\n", (unsigned long long)done,
-           (unsigned long long)steps, (unsigned long long)programs_crashes, (unsigned long long)programs_stuck);
+           (unsigned long long)all_steps, (unsigned long long)programs_crashes, (unsigned long long)programs_stuck);
 }
 
 /* ---- all schedules of a small program that are near to the usual one ---- */
@@ -125,14 +123,14 @@ static uint64_t steps_before, programs_left, runs, most_runs;
 static size_t most_places;
 
 static bool is_cut_short(void) {
-    return runs >= most_runs || is_over(program_begun, steps_before, programs_left);
+    return runs >= most_runs || is_time_over(program_begun, steps_before, programs_left);
 }
 
 /* Runs by the choices of the path, and then with up to so many more behind them. */
 static void try_path(size_t length, size_t more) {
     size_t first = length > 0 ? path[length - 1].place + 1 : 0;
     search_schedule schedule = {0, TIMELESS, 1, 1, path, length};
-    run(&schedule);
+    run_once(&schedule);
     runs++;
     if (search_made.last >= MOST_TOLD) search_fail("a run of too many places");
     if (first < search_made.first) first = search_made.first;
@@ -157,10 +155,10 @@ static void run_small(uint64_t first, uint64_t end) {
         seed_now = seed;
         program_begun = seconds_now();
         program_used = used_seconds();
-        steps_before = steps;
+        steps_before = all_steps;
         programs_left = end - seed;
         runs = most_places = 0;
-        program_make(&now, seed);
+        program_make(&made, seed);
         size_t choices = 0;
         uint64_t before = 0;
         for (; choices <= MOST_CHOICES && !is_cut_short(); choices++) before = runs, try_path(0, choices);
@@ -202,17 +200,17 @@ static void run_one(uint64_t seed, uint64_t tries, const char *left_out, const c
     static search_choice told[MOST_TOLD];
     tells = true;
     seed_now = seed;
-    program_make(&now, seed);
-    leave_out(&now, left_out);
-    program_print(&now);
+    program_make(&made, seed);
+    leave_out(&made, left_out);
+    program_print(&made);
     fflush(stdout);
-    search_schedule schedule = schedule_of(&now, seed);
+    search_schedule schedule = schedule_of(&made, seed);
     search_kind kind = seed < SMALL_PROGRAMS ? TIMELESS : AS_TOLD;
     if (choices != NULL) schedule = (search_schedule){0, kind, 1, 1, told, read_choices(choices, told)};
-    if (tries == 0) run(&schedule);
+    if (tries == 0) run_once(&schedule);
     for (uint64_t i = 1; i <= tries; i++) {
-        schedule = schedule_of(&now, seed + i * 1000003);
-        run(&schedule);
+        schedule = schedule_of(&made, seed + i * 1000003);
+        run_once(&schedule);
     }
     puts("none wrong");
 }
@@ -228,7 +226,6 @@ static void bound(uint64_t seconds, uint64_t most) {
 
 int main(int count, char **words) {
     const uint64_t long_time = 1000000;
-    search_fails = fail;
     (void)mallopt(M_MMAP_THRESHOLD, 1 << 30); /* each run takes the same room again */
     (void)mallopt(M_TRIM_THRESHOLD, 1 << 30);
     watch_signals();

@@ -1,13 +1,6 @@
 /* Each program is a list of deeds over one heap or two, by a seed. A thread does its own, in their order. A deed that can't be done where it
  * stands (an exit of what isn't held, since an enter before was refused) is left out or answers as the judge says, so each part of a program is
  * one too. When no thread can go on, and by the judge none can, main stops the heaps, so that all come back. */
-#include "programs.h"
-#include <fcntl.h>
-#include <stdio.h>
-#include <stdlib.h>
-#include <string.h>
-#include <sys/wait.h>
-#include <unistd.h>
 
 #define MUST(is_so, what) do { if (!(is_so)) search_fail("%s", what); } while (0)
 
@@ -31,9 +24,7 @@ static zelamiku_field fields[FIELDS];
 static zelamiku_plan plan;
 static uint32_t copying[COPIES_OF], copies_begun[COPIES_OF], opening, opens_begun;
 static bool is_opened_again; /* the file: what is in it is another opening's */
-uint64_t programs_crashes, programs_stuck;
-extern long searched_processors;
-extern bool searched_is_bounded;
+static uint64_t programs_crashes, programs_stuck; /* looked at; and in which nobody could go on, as the model of monitors says too */
 
 /* ---- ends of heaps ---- */
 
@@ -93,7 +84,13 @@ static void end_heap(uint32_t heap, deed_kind kind) {
 
 /* ---- what threads do ---- */
 
-static bool is_over(worker *own, uint32_t heap, zelamiku_status status) {
+static zelamiku_progress progress_of(zelamiku_thread thread) {
+    zelamiku_progress found = {.size = sizeof found};
+    (void)!zelamiku_thread_progress(thread, &found);
+    return found;
+}
+
+static bool takes_end(worker *own, uint32_t heap, zelamiku_status status) {
     if (!judge_is_end(&judges[heap], status)) return false;
     own->is_out[heap] = true;
     was_lost[heap] |= status == ZELAMIKU_LOST;
@@ -109,29 +106,28 @@ static void enter(worker *own, uint32_t heap, uint32_t object, deed_kind kind, u
     judge_entered(it, own->lane[heap], status);
     if (status == ZELAMIKU_OK) it->of[own->lane[heap]].is_short = 0;
     if (kind == TRY && status == ZELAMIKU_BEHIND && own->event[heap] >= 0) it->of[own->lane[heap]].is_short = 2;
-    (void)is_over(own, heap, status);
+    (void)takes_end(own, heap, status);
 }
 
 static void exit_one(worker *own, uint32_t heap, uint32_t object) {
     judge_exits(&judges[heap], own->lane[heap], object);
     zelamiku_status status = zelamiku_thread_exit(own->own[heap], object);
     judge_exited(&judges[heap], own->lane[heap], status);
-    (void)is_over(own, heap, status);
+    (void)takes_end(own, heap, status);
 }
 
 static void load(worker *own, uint32_t heap, uint32_t field) {
     uint64_t value = 1;
     zelamiku_status status = zelamiku_thread_load(own->own[heap], field, &value);
     judge_loaded(&judges[heap], own->lane[heap], field, status, value);
-    (void)is_over(own, heap, status);
+    (void)takes_end(own, heap, status);
 }
 
 static bool store(worker *own, uint32_t heap, uint32_t field) {
     uint64_t value = ++next_value;
-    zelamiku_status status =
-        zelamiku_thread_store(own->own[heap], field, value);
+    zelamiku_status status = zelamiku_thread_store(own->own[heap], field, value);
     judge_stored(&judges[heap], own->lane[heap], field, status, value);
-    return !is_over(own, heap, status) && status == ZELAMIKU_OK;
+    return !takes_end(own, heap, status) && status == ZELAMIKU_OK;
 }
 
 /* Many stores, of which the first is a step alone. */
@@ -151,7 +147,7 @@ static void wait_for(worker *own, uint32_t heap, uint32_t object, uint64_t patie
         judge_waits(it, own->lane[heap], object);
         zelamiku_status status = zelamiku_thread_wait(own->own[heap], object);
         judge_waited(it, own->lane[heap], status);
-        if (is_over(own, heap, status) || status != ZELAMIKU_OK) return;
+        if (takes_end(own, heap, status) || status != ZELAMIKU_OK) return;
     }
     if (is_held && it->signals[object] > 0) it->signals[object]--;
 }
@@ -162,14 +158,7 @@ static void notify(worker *own, uint32_t heap, uint32_t object, bool is_all) {
     if (it->of[own->lane[heap]].locks[object] > 0) it->signals[object] += is_all ? 2 : 1;
     zelamiku_status status = zelamiku_thread_notify(own->own[heap], object, is_all, &lanes);
     judge_notified(it, own->lane[heap], object, status, lanes, is_all);
-    (void)is_over(own, heap, status);
-}
-
-/* All zeros, and NOBODY, for a handle that isn't open. */
-static zelamiku_progress progress(zelamiku_thread of) {
-    zelamiku_progress found = {.size = sizeof found};
-    (void)!zelamiku_thread_progress(of, &found);
-    return found;
+    (void)takes_end(own, heap, status);
 }
 
 static void take_or_give(worker *own, uint32_t heap, uint32_t slot, bool takes) {
@@ -180,20 +169,20 @@ static void take_or_give(worker *own, uint32_t heap, uint32_t slot, bool takes) 
         judge_took(&judges[heap], own->lane[heap], status, taken);
     else
         judge_gave(&judges[heap], own->lane[heap], status, slot);
-    (void)is_over(own, heap, status);
+    (void)takes_end(own, heap, status);
 }
 
 static void revert(worker *own, uint32_t heap) {
     zelamiku_status status = zelamiku_thread_revert(own->own[heap]);
     judge_reverted(&judges[heap], own->lane[heap], status);
-    (void)is_over(own, heap, status);
+    (void)takes_end(own, heap, status);
 }
 
 static void await(worker *own, uint32_t heap, deed_kind kind, uint64_t time) {
     judge *it = &judges[heap];
     uint32_t lane = own->lane[heap];
     if (judge_held(it, lane) > 0) return;
-    uint64_t earlier = progress(own->own[heap]).earlier, all = it->of[lane].ended - earlier, some = all > 1 ? all - 1 : all;
+    uint64_t earlier = progress_of(own->own[heap]).earlier, all = it->of[lane].ended - earlier, some = all > 1 ? all - 1 : all;
     bool is_all = true;
     uint64_t deadline = kind == AWAIT_UNTIL ? search_time() + time : ZELAMIKU_NO_DEADLINE;
     judge_awaits(it, lane, false, deadline);
@@ -204,7 +193,7 @@ static void await(worker *own, uint32_t heap, deed_kind kind, uint64_t time) {
     if (is_early) search_fail("lane %u: await comes back before its deadline", lane);
     judge_awaited(it, lane, status, is_all, earlier + (kind == AWAIT_SOME ? some : all));
     if (status == ZELAMIKU_OK && is_all && search_chance() % 8 == 1) look_at_crash(heap, false);
-    (void)is_over(own, heap, status);
+    (void)takes_end(own, heap, status);
 }
 
 static void await_round(worker *own, uint32_t heap, uint64_t time) {
@@ -233,12 +222,12 @@ static void make_event(worker *own, uint32_t heap) {
 static void ask_all(worker *own, uint32_t heap) {
     judge *it = &judges[heap];
     uint32_t lane = own->lane[heap];
-    uint64_t durable = 0, earlier = progress(own->own[heap]).earlier;
+    uint64_t durable = 0, earlier = progress_of(own->own[heap]).earlier;
     judge_asks(it, lane);
     zelamiku_status status = zelamiku_thread_ask(own->own[heap], &durable);
     judge_asked(it, lane, status, earlier, durable);
     if (status == ZELAMIKU_OK && search_chance() % 8 == 1) look_at_crash(heap, false);
-    (void)is_over(own, heap, status);
+    (void)takes_end(own, heap, status);
 }
 
 /* As a loop that has nothing else to do: sleeps until its event is readable, and asks, until it waits for nothing. */
@@ -376,10 +365,10 @@ static void begin_lane(worker *own, uint32_t heap) {
     bool must_end = it->has_ended || was_lost[heap];
     zelamiku_status status = zelamiku_thread_begin(&own->own[heap], it->heap);
     own->has_lane[heap] = status == ZELAMIKU_OK;
-    if (is_over(own, heap, status)) return;
+    if (takes_end(own, heap, status)) return;
     if (status == ZELAMIKU_NONE_LEFT && current->lanes < current->threads) return;
     if (status != ZELAMIKU_OK || must_end) search_fail("begin answers %u", status);
-    own->lane[heap] = progress(own->own[heap]).lane;
+    own->lane[heap] = progress_of(own->own[heap]).lane;
     if (own->lane[heap] >= it->lanes) search_fail("a lane that isn't: %u", own->lane[heap]);
     judge_lent(it, own->lane[heap]);
 }
@@ -393,7 +382,7 @@ static void end_lane(worker *own, uint32_t heap) {
     own->event[heap] = -1;
     zelamiku_status status = zelamiku_thread_end(own->own[heap]);
     own->has_lane[heap] = false;
-    if (is_over(own, heap, status)) return;
+    if (takes_end(own, heap, status)) return;
     if (status != ZELAMIKU_OK || held > 0 || must_end) search_fail("end answers %u, with %u locks held", status, held);
 }
 
@@ -401,13 +390,11 @@ static void end_lane(worker *own, uint32_t heap) {
 static void ask(const worker *of, uint32_t heap) {
     zelamiku_thread asked[] = {of->own[heap], of->old[heap]};
     for (int i = 0; i < 2; i++) {
-        uint64_t sections = progress(asked[i]).sections, durable = progress(asked[i]).durable;
-        uint32_t lane = progress(asked[i]).lane;
-        uint64_t now = progress(asked[i]).sections;
+        zelamiku_progress before = progress_of(asked[i]), now = progress_of(asked[i]);
         bool is_all = false;
-        if (lane != ZELAMIKU_NOBODY && lane >= judges[heap].lanes) search_fail("a lane that isn't: %u", lane);
-        if (durable > now && now != 0) search_fail("%llu sections are durable of %llu", (unsigned long long)durable, (unsigned long long)now);
-        if (now < sections && now != 0) search_fail("a thread has fewer sections than before");
+        if (now.lane != ZELAMIKU_NOBODY && now.lane >= judges[heap].lanes) search_fail("a lane that isn't: %u", now.lane);
+        if (now.durable > now.sections) search_fail("%llu sections are durable of %llu", (unsigned long long)now.durable, (unsigned long long)now.sections);
+        if (now.sections < before.sections && now.sections != 0) search_fail("a thread has fewer sections than before");
         if (search_chance() % 2 == 1) (void)!zelamiku_thread_await_until(asked[i], 1, 1, &is_all);
     }
 }
@@ -422,7 +409,7 @@ static void look_around(worker *own, uint32_t heap, deed_kind kind, uint32_t obj
     if (kind == WAITS_OF) (void)!zelamiku_heap_waits(judges[heap].heap, waits, MOST_LANES, &told);
     if (kind != LOOK) return;
     zelamiku_status status = zelamiku_thread_look(own->own[heap], object, &sight);
-    if (is_over(own, heap, status)) return;
+    if (takes_end(own, heap, status)) return;
     bool is_ours = judges[heap].of[own->lane[heap]].locks[object] > 0;
     bool is_right = status == ZELAMIKU_OK && (sight.owner == own->lane[heap]) == is_ours;
     if (!is_right) search_fail("look at %u answers %u, owner %u", object, status, sight.owner);
@@ -507,6 +494,7 @@ static void time_goes_on(uint64_t nanoseconds) {
     }
 }
 
+/* Where no field is, and nothing is kept, stores are written out too. */
 static bool has_transient(void) {
     return current->seed % 2 == 0;
 }
@@ -516,7 +504,7 @@ static void make_plan(void) {
         fields[field] = (zelamiku_field){field % OBJECTS, field % OBJECTS, FIRST_VALUE, field == PASSING && has_transient()};
     fields[PASSING].owner = fields[PASSING].guard = 0;
     MUST(zelamiku_pool_fields(2, fields + POOL, FIELDS - POOL) == ZELAMIKU_OK, "no pool");
-    plan = (zelamiku_plan){.size = sizeof(zelamiku_plan), .fields = fields, .count = FIELDS, .objects = OBJECTS, .lanes = current->lanes, .capacity = current->capacity,
+    plan = (zelamiku_plan){.size = sizeof plan, .fields = fields, .count = FIELDS, .objects = OBJECTS, .lanes = current->lanes, .capacity = current->capacity,
                            .ring = current->ring, .linger = current->linger, .reverts = current->reverts, .log = note_line};
 }
 
@@ -564,10 +552,8 @@ static void close_heap(uint32_t heap) {
     look_at_crash(heap, is_closed);
 }
 
-void program_run(program *it, const search_schedule *schedule) {
-    static const search_questions QUESTIONS = {is_stuck, time_goes_on};
+static void program_run(program *it, const search_schedule *schedule) {
     current = it;
-    search_asks = QUESTIONS;
     searched_processors = it->processors;
     memset(workers, 0, sizeof workers);
     next_value = 100;

@@ -4,22 +4,6 @@
  *
  * Threads are contexts of one thread of the system, so that a switch is cheap. One order of all steps is searched: not what processors or
  * compilers may do to steps that aren't sequentially consistent. A call of the proved library is one step. */
-#define _GNU_SOURCE
-#include "search.h"
-#include <errno.h>
-#include <limits.h>
-#include <linux/futex.h>
-#include <poll.h>
-#include <pthread.h>
-#include <stdarg.h>
-#include <stdio.h>
-#include <stdlib.h>
-#include <string.h>
-#include <sys/mman.h>
-#include <sys/syscall.h>
-#include <time.h>
-#include <ucontext.h>
-#include <unistd.h>
 
 enum {
     STACK = 512 * 1024,
@@ -65,9 +49,7 @@ static struct {
 
 ssize_t real_write(int descriptor, const void *bytes, size_t size) __asm__("__real_write");
 
-search_run search_made;
-search_questions search_asks;
-void (*search_fails)(const char *why);
+static search_run search_made;
 
 static uint64_t next_random(uint64_t *state) {
     *state ^= *state << 13;
@@ -82,20 +64,18 @@ static uint64_t begin_random(uint64_t seed) {
     return state;
 }
 
-uint64_t search_chance(void) {
+/* a number by chance */
+static uint64_t search_chance(void) {
     return chance == 0 ? 0 : next_random(&chance);
 }
 
-uint64_t search_time(void) {
+/* nanoseconds, without a step */
+static uint64_t search_time(void) {
     return now;
 }
 
-uint64_t search_steps(void) {
+static uint64_t search_steps(void) {
     return steps;
-}
-
-int search_own(void) {
-    return me == NULL ? 0 : (int)(me - tasks);
 }
 
 void search_fail(const char *why, ...) {
@@ -104,8 +84,7 @@ void search_fail(const char *why, ...) {
     va_start(words, why);
     (void)vsnprintf(text, sizeof text, why, words);
     va_end(words);
-    search_fails(text);
-    abort();
+    fail(text);
 }
 
 /* ---- who goes on ---- */
@@ -217,7 +196,8 @@ static task *pick(task **able, size_t n) {
     return chosen;
 }
 
-void search_pass(uint64_t nanoseconds) {
+/* so much time goes on, without a step */
+static void search_pass(uint64_t nanoseconds) {
     if (is_timeless()) return;
     now += nanoseconds;
     wake_those_due();
@@ -227,10 +207,10 @@ void search_pass(uint64_t nanoseconds) {
 static void pass_time(void) {
     uint64_t due = next_due();
     if (due == NEVER) {
-        if (!search_asks.is_stuck()) search_fail("nobody can go on");
+        if (!is_stuck()) search_fail("nobody can go on");
         return;
     }
-    if (due > now) search_asks.time_goes_on(due - now);
+    if (due > now) time_goes_on(due - now);
     if (due > now) now = due;
     wake_those_due();
 }
@@ -260,7 +240,7 @@ static void lower(task *it) {
     it->in_a_row = 0;
 }
 
-void search_step(void) {
+static void search_step(void) {
     if (me == NULL || me->is_quiet) return;
     if (++steps > MOST_STEPS) search_fail("too many steps");
     search_pass(STEP_TIME);
@@ -275,7 +255,8 @@ static void note_change(void) {
     if (me != NULL) me->looks = 0;
 }
 
-void search_own_part(bool begins) {
+/* of the program, in which who goes on is chosen */
+static void search_own_part(bool begins) {
     *(begins ? &search_made.first : &search_made.last) = search_made.places;
 }
 
@@ -291,17 +272,19 @@ static void block(task_state state, const void *on, uint64_t due) {
     me->looks = 0;
 }
 
-void search_park(void) {
+/* A task sleeps until search_let lets it go on. */
+static void search_park(void) {
     block(IS_PARKED, NULL, NEVER);
 }
 
-void search_let(int number) {
+static void search_let(int number) {
     if (tasks[number].state == IS_PARKED) tasks[number].state = RUNS;
 }
 
 /* ---- the beginning and the end of a run ---- */
 
-void search_begin(const search_schedule *given, uint64_t chance_seed) {
+/* `chance` is the seed of all else that comes by chance, as clocks and sleeps that end for nothing; 0: nothing does. */
+static void search_begin(const search_schedule *given, uint64_t chance_seed) {
     memset(tasks, 0, sizeof tasks);
     memset(mutexes, 0, sizeof mutexes);
     schedule = *given;
@@ -319,17 +302,19 @@ void search_begin(const search_schedule *given, uint64_t chance_seed) {
     *me = (task){.state = RUNS, .due = NEVER, .priority = (int)(100 + next_random(&choosing) % 900)};
 }
 
-void search_be_alone(void) {
+/* In a child that was forked no other task runs: from now on it fails if the one that runs sleeps. */
+static void search_be_alone(void) {
     is_alone = true;
 }
 
-bool search_be_quiet(bool is_quiet) {
+/* While the task that runs is quiet its steps are none: for what is done often, and where no other order shows more. Whether it was. */
+static bool search_be_quiet(bool is_quiet) {
     bool was_quiet = me->is_quiet;
     me->is_quiet = is_quiet;
     return was_quiet;
 }
 
-void search_end(void) {
+static void search_end(void) {
     for (int i = 1; i < count; i++)
         if (tasks[i].state != GONE) search_fail("task %d is left", i);
     me = NULL;
@@ -364,13 +349,14 @@ static int new_task(search_body *body, void *argument) {
     return number;
 }
 
-int search_start(search_body *body, void *argument) {
+/* a thread of the program; answers its number */
+static int search_start(search_body *body, void *argument) {
     int number = new_task(body, argument);
     search_step();
     return number;
 }
 
-void search_join(int number) {
+static void search_join(int number) {
     search_step();
     if (tasks[number].state != GONE) block(JOINS, &tasks[number], NEVER);
 }
@@ -445,7 +431,7 @@ int searched_clock(clockid_t clock, struct timespec *time) {
     return 0;
 }
 
-void search_nap(uint64_t nanoseconds) {
+static void search_nap(uint64_t nanoseconds) {
     block(SLEEPS, NULL, now + nanoseconds);
 }
 
@@ -512,7 +498,8 @@ long searched_call(long number, ...) {
 enum { MOST_DESCRIPTORS = 256 };
 static const char descriptors[MOST_DESCRIPTORS]; /* a place for each, on which tasks sleep */
 
-bool search_watch(int descriptor, uint64_t due) {
+/* A task sleeps until the descriptor, an event of the scheduler's C, is readable, or until that time; whether it is. */
+static bool search_watch(int descriptor, uint64_t due) {
     if (descriptor < 0 || descriptor >= MOST_DESCRIPTORS) search_fail("no descriptor of an event: %d", descriptor);
     for (;;) {
         struct pollfd it = {descriptor, POLLIN, 0};

@@ -1,17 +1,9 @@
 /* The calls of the proved library and of the system by which the scheduler's C works: the linker (--wrap) leads them here. A call of the library
  * is one step, as its proofs allow; one of the system is search.c's. */
-#define _GNU_SOURCE
-#include "search.h"
-#include "zelamiku_core.h"
-#include <pthread.h>
-#include <stdarg.h>
-#include <time.h>
-#include <unistd.h>
 
 /* A call that changes what others may see. */
 #define STEP(name, parameters, arguments) \
     zelamiku_status __real_##name parameters; \
-    zelamiku_status __wrap_##name parameters; \
     zelamiku_status __wrap_##name parameters { \
         search_step(); \
         return __real_##name arguments; \
@@ -29,11 +21,10 @@ STEP(zelamiku_session, (zelamiku_handle *heap, zelamiku_handle *session), (heap,
 STEP(zelamiku_end, (zelamiku_handle *session), (session))
 STEP(zelamiku_close, (zelamiku_handle *heap), (heap))
 
-bool searched_is_bounded; /* the last round has taken as much as it might */
+static bool searched_is_bounded; /* the last round has taken as much as it might */
 
 /* A round takes some time for each record, by which the scheduler's C bounds the next one. */
 zelamiku_status __real_zelamiku_round(zelamiku_handle *heap, uint64_t most, uint64_t *applied);
-zelamiku_status __wrap_zelamiku_round(zelamiku_handle *heap, uint64_t most, uint64_t *applied);
 zelamiku_status __wrap_zelamiku_round(zelamiku_handle *heap, uint64_t most, uint64_t *applied) {
     search_step();
     zelamiku_status status = __real_zelamiku_round(heap, most, applied);
@@ -43,24 +34,15 @@ zelamiku_status __wrap_zelamiku_round(zelamiku_handle *heap, uint64_t most, uint
     return status;
 }
 
-int searched_create(pthread_t *thread, const pthread_attr_t *attributes, search_body *body, void *argument);
-int searched_join(pthread_t thread, void **answer);
-int searched_lock(pthread_mutex_t *mutex);
-int searched_unlock(pthread_mutex_t *mutex);
-int searched_clock(clockid_t clock, struct timespec *time);
-int searched_sleep(const struct timespec *time, struct timespec *left);
-int searched_yield(void);
-long searched_processors = 2;
+static long searched_processors = 2;
 long __real_sysconf(int name);
 
 /* How many processors there are is the program's. */
-long __wrap_sysconf(int name);
 long __wrap_sysconf(int name) {
     return name == _SC_NPROCESSORS_ONLN ? searched_processors : __real_sysconf(name);
 }
 
 /* All tasks are one thread of the system, which keeps its name. */
-int __wrap_pthread_setname_np(pthread_t thread, const char *name);
 int __wrap_pthread_setname_np(pthread_t thread, const char *name) {
     (void)thread, (void)name;
     return 0;

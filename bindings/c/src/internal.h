@@ -249,7 +249,7 @@ struct heap {
  * stale handle is looked up like a valid one, and its number doesn't match. */
 #define SEATS ((size_t)ZELAMIKU_MOST_HEAPS * ZELAMIKU_MOST_LANES)
 #define PLACE ((SEATS - 1) * sizeof(seat))
-__attribute__((visibility("hidden"))) seat zelamiku_seats[SEATS]; /* hidden, not static: tools/search names its words */
+static seat seats[SEATS];
 static heap heaps[ZELAMIKU_MOST_HEAPS];
 _Static_assert((sizeof(seat) & (sizeof(seat) - 1)) == 0, "PLACE is a mask");
 
@@ -268,16 +268,16 @@ typedef struct draft {
 static draft *drafts; /* registry: all that are underway */
 
 static inline seat *seat_of(zelamiku_thread thread) {
-    return &zelamiku_seats[(thread.number & PLACE) / sizeof(seat)];
+    return &seats[(thread.number & PLACE) / sizeof(seat)];
 }
 
 static inline seat *seat_at(heap *heap, uint32_t lane) {
     assert(lane < ZELAMIKU_MOST_LANES);
-    return &zelamiku_seats[(size_t)(heap - heaps) * ZELAMIKU_MOST_LANES + lane];
+    return &seats[(size_t)(heap - heaps) * ZELAMIKU_MOST_LANES + lane];
 }
 
 static inline heap *place_of(const seat *own) {
-    return &heaps[(own - zelamiku_seats) / ZELAMIKU_MOST_LANES];
+    return &heaps[(own - seats) / ZELAMIKU_MOST_LANES];
 }
 
 /* A call is counted before it checks whether its handle is that of the place's heap. A thread that reuses the place for another heap sets the

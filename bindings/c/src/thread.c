@@ -41,7 +41,7 @@ static zelamiku_status lend(heap *heap, zelamiku_thread *thread) {
         own->is_busy = 0; /* see is_inside */
         own->is_lent = true;
         own->earlier = own->ended;
-        thread->number = new_number((size_t)(own - zelamiku_seats) * sizeof *own);
+        thread->number = new_number((size_t)(own - seats) * sizeof *own);
         own->lent_number = thread->number;
         own->number = thread->number;
         status = ZELAMIKU_OK;
@@ -386,6 +386,7 @@ zelamiku_status zelamiku_thread_look(zelamiku_thread thread, uint32_t object, ze
 
 static zelamiku_status progress_of(const heap *heap, const seat *own, zelamiku_thread thread, zelamiku_progress *progress) {
     uint64_t ended = own->ended, acknowledged = own->acknowledged, earlier = own->earlier;
+    if (ended < acknowledged) ended = acknowledged; /* a round may take a section before its last exit has counted it */
     zelamiku_status end_status = (zelamiku_status)heap->end_status;
     progress->lane = own->lane;
     progress->is_open = own->was_cut_off || (own->is_busy && end_status != ZELAMIKU_OK) || own->open == thread.number;

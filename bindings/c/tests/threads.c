@@ -1513,7 +1513,7 @@ static void *take_turn(void *data) {
 
 /* Until so many threads sleep for monitors, and go on only once somebody rings for them: each has looked for a circle before. */
 static void await_sleepers(unsigned count) {
-    UNTIL(stats().entering == count && count_sleepers(zelamiku_seats, sizeof zelamiku_seats, true) == count);
+    UNTIL(stats().entering == count && count_sleepers(seats, sizeof seats, true) == count);
 }
 
 /* Threads that sleep for one monitor get it in the order in which they came, also where the one that has it gives it back before, takes it
