@@ -3,19 +3,18 @@ use crate::{raw, Field, NewField, Object, Refusal};
 
 /// A pool of slots, numbered from 0: where it lies in a heap's fields.
 ///
-/// It has the field of its head, and after it one for each slot. One object has and guards them, and only the pool's calls store to
-/// them: [`Held::take`](crate::Held::take) and [`give`](crate::Held::give). What a program keeps in a slot lies in fields of its own, as
-/// field [`BASE.plus(slot)`](Field::plus), and links to others by their numbers: so lists and trees are built. A slot that a section takes or gives back is
-/// taken or free after a crash as that section is there or not.
+/// It takes the field of its head, and one for each slot after it. One object has and guards them, and only [`Held::take`](crate::Held::take) and
+/// [`give`](crate::Held::give) store to them. The program keeps a slot's contents in fields of its own, as field
+/// [`BASE.plus(slot)`](Field::plus). They may hold the numbers of other slots, which makes lists and trees. After a crash a slot is taken or free
+/// as the sections that were kept say.
 ///
-/// Where a heap has a pool the program knows: it is no part of the file.
+/// The file doesn't record where a heap has a pool: the program knows.
 ///
 /// ```
-/// use zelamiku::{Error, Field, Heap, Object, Pool};
-/// # let path = std::env::temp_dir().join(format!("zelamiku-pool-{}", std::process::id()));
-/// # let _ = std::fs::remove_file(&path);
+/// # mod scratch { include!(concat!(env!("CARGO_MANIFEST_DIR"), "/src/scratch.rs")); } use scratch::*;
+/// # let path = Scratch::new("pool");
 /// const STACK: Object = Object(0);
-/// const TOP: Field = Field(0); // the field that has the number of the top slot, plus one
+/// const TOP: Field = Field(0); // the number of the top slot, plus one
 /// const POOL: Pool = Pool::new(Field(1), 100); // fields 1 to 101
 /// const VALUE: Field = Field(102); // of slot 0; those of the others follow
 /// const BELOW: Field = Field(202); // the slot below each, plus one
@@ -30,8 +29,7 @@ use crate::{raw, Field, NewField, Object, Refusal};
 ///     Ok(true)
 /// })?;
 /// assert!(is_pushed);
-/// # std::fs::remove_file(path)?;
-/// # Ok::<(), Box<dyn std::error::Error>>(())
+/// # Ok::<(), Error>(())
 /// ```
 #[derive(Clone, Copy, Debug, PartialEq, Eq, Hash)]
 pub struct Pool {
@@ -40,7 +38,7 @@ pub struct Pool {
 }
 
 impl Pool {
-    /// The pool whose head is this field, and which has so many slots: 1 to 16,383, with as many fields after the head's.
+    /// The pool with this head and so many slots, 1 to 16,383, whose fields follow the head.
     ///
     /// ```
     /// use zelamiku::{Field, Pool};
@@ -64,10 +62,10 @@ impl Pool {
         self.head
     }
 
-    /// Its fields, for a heap that is to be made: the head's and then those of the slots, all of which are free. `object` has and guards
-    /// them. They stand in the heap from field [`head`](Pool::head) on.
+    /// Its fields: the head's and then those of the slots, all free. `object` has and guards them. [`Options::pool`](crate::Options::pool) declares
+    /// them at [`head`](Pool::head).
     ///
-    /// [`Refusal::Empty`]: it has no slot. [`Refusal::TooMany`]: it has more than 16,383.
+    /// It fails with [`Refusal::BadArgument`] without a slot, and with [`Refusal::TooMany`] with more than 16,383.
     ///
     /// ```
     /// # use zelamiku::{Field, Object, Pool};
@@ -77,11 +75,16 @@ impl Pool {
     /// # Ok::<(), zelamiku::Refusal>(())
     /// ```
     pub fn fields(self, object: Object) -> Result<Vec<NewField>, Refusal> {
+        let field = |raw: raw::Field| NewField { owner: object, guard: object, first: raw.first, is_transient: false };
+        Ok(self.raw_fields(object)?.into_iter().map(field).collect())
+    }
+
+    pub(crate) fn raw_fields(self, object: Object) -> Result<Vec<raw::Field>, Refusal> {
         // One more than a pool may have is enough to be refused.
         let count = self.slots.min(MOST_SLOTS + 1) as usize + 1;
         let mut fields = vec![raw::Field::default(); count];
         match raw::pool_fields(object.0, &mut fields) {
-            raw::OK => Ok(fields.into_iter().map(NewField::from).collect()),
+            raw::OK => Ok(fields),
             status => Err(Refusal::from(status)),
         }
     }
@@ -89,14 +92,3 @@ impl Pool {
 
 /// The most slots that a pool has.
 const MOST_SLOTS: u32 = 16_383;
-
-impl From<raw::Field> for NewField {
-    fn from(field: raw::Field) -> NewField {
-        NewField {
-            owner: Object(field.owner),
-            guard: Object(field.guard),
-            first: field.first,
-            is_transient: field.is_transient != 0,
-        }
-    }
-}

@@ -69,20 +69,3 @@ refusals! {
 }
 
 impl std::error::Error for Refusal {}
-
-#[cfg(test)]
-mod tests {
-    use super::Refusal;
-    use std::collections::HashSet;
-
-    #[test]
-    fn each_status_has_a_name_and_a_text() {
-        let refusals: Vec<Refusal> = (1..=44).map(Refusal::from).collect();
-        assert!(refusals.iter().all(|refusal| !matches!(refusal, Refusal::Unknown(_))));
-        let texts: HashSet<String> = refusals.iter().map(|refusal| refusal.to_string()).collect();
-        assert_eq!(texts.len(), 44);
-        assert_eq!(Refusal::from(13), Refusal::Behind);
-        assert_eq!(Refusal::from(45), Refusal::Unknown(45));
-        assert_eq!(format!("{:?} {}", Refusal::from(9), Refusal::Unknown(99)), "Running status 99");
-    }
-}

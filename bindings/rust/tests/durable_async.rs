@@ -132,7 +132,8 @@ fn a_thousand_cancelled_futures_leave_nothing() {
 }
 
 #[test]
-fn the_heaps_end_is_told_to_all_that_wait() {
+fn the_heaps_end_is_told_to_all_that_wait_and_stays_told() {
+    let mut told = Vec::new();
     for (end, kind) in [(Heap::stop as fn(&Heap) -> _, ErrorKind::Closed), (Heap::abandon, ErrorKind::Abandoned)] {
         let scratch = Scratch::new("async-end");
         let heap = counters(3).open(&scratch).unwrap();
@@ -141,7 +142,7 @@ fn the_heaps_end_is_told_to_all_that_wait() {
             count(&mut own, 0);
             count(&mut other, 1);
             // What depends on the open section is lost, and what doesn't is durable.
-            let (mut lost, kept) = (own.durable_async(), other.durable_async());
+            let (mut lost, mut kept, late) = (own.durable_async(), other.durable_async(), other.durable_async());
             let threads: Vec<_> = (0..4)
                 .map(|_| own.durable_async())
                 .map(|durable| std::thread::spawn(move || block_on(durable).map_err(|error| error.kind())))
@@ -155,13 +156,19 @@ fn the_heaps_end_is_told_to_all_that_wait() {
                 assert_eq!(thread.join().unwrap(), Err(kind));
             }
             assert_eq!(waits.join().unwrap(), Err(kind));
-            block_on(kept).unwrap();
-            for _ in 0..2 {
-                assert_eq!(poll(&mut lost, &nobody()), Poll::Ready(Err(kind)));
-            }
+            block_on(&mut kept).unwrap();
+            assert_eq!(poll(&mut lost, &nobody()), Poll::Ready(Err(kind)));
             // Which was never polled before.
             assert_eq!(block_on(own.durable_async()).unwrap_err().kind(), kind);
+            told.extend([(lost, Err(kind)), (kept, Ok(())), (late, Err(ErrorKind::Closed))]);
         });
+    }
+    // Once other heaps had its place it is known no more, and of what was never asked nothing is claimed.
+    for _ in 0..260 {
+        drop(counters(1).capacity(2_000).ring(4_096).open(Scratch::new("async-later")).unwrap());
+    }
+    for (mut durable, answer) in told {
+        assert_eq!(poll(&mut durable, &nobody()), Poll::Ready(answer));
     }
 }
 
@@ -207,18 +214,11 @@ fn a_future_outlives_its_heap() {
     let heap = counters(1).linger(Duration::from_secs(3_600)).open(&scratch).unwrap();
     let mut session = heap.session().unwrap();
     count(&mut session, 0);
-    let [mut polled, unpolled, late] = [session.durable_async(), session.durable_async(), session.durable_async()];
+    let [mut polled, unpolled] = [session.durable_async(), session.durable_async()];
     let _ = poll(&mut polled, &nobody());
     drop((session, heap));
     assert_eq!(block_on(polled).map_err(|error| error.kind()), Ok(()));
     assert_eq!(block_on(unpolled).map_err(|error| error.kind()), Ok(()));
-    // Once other heaps had its place it is known no more, and nothing is claimed.
-    let again = counters(1).open(&scratch).unwrap();
-    drop(again);
-    for _ in 0..260 {
-        drop(counters(1).capacity(2_000).ring(4_096).open(&scratch).unwrap());
-    }
-    assert_eq!(block_on(late).map_err(|error| error.kind()), Err(ErrorKind::Closed));
 }
 
 #[test]

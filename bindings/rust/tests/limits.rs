@@ -38,8 +38,8 @@ fn the_header_has_the_limits_and_numbers_of_the_library_and_of_this_crate() {
         ("HEAD_BYTES", "crates/image_parts/src/layout.rt", "HEAD_BYTES"),
         ("MOST_SLOTS", "crates/pool/src/pool.rt", "MOST_SLOTS"),
         ("MOST_SLOTS", "bindings/rust/src/pool.rs", "MOST_SLOTS"),
-        ("NO_SLOT", "crates/zelamiku/src/pool_calls.rt", "NO_SLOT"),
-        ("NO_SLOT", "bindings/rust/src/raw.rs", "NO_SLOT"),
+        ("NO_NUMBER", "crates/zelamiku/src/pool_calls.rt", "NO_SLOT"),
+        ("NO_NUMBER", "bindings/rust/src/raw.rs", "NO_NUMBER"),
         ("NOBODY", "crates/zelamiku/src/session_calls.rt", "NOBODY"),
         ("NOBODY", "bindings/rust/src/raw.rs", "NOBODY"),
         ("VERSION_NUMBER", "crates/zelamiku/src/version.rt", "VERSION"),
@@ -48,6 +48,8 @@ fn the_header_has_the_limits_and_numbers_of_the_library_and_of_this_crate() {
         let path = format!("../../{path}");
         assert_eq!(header(name), number(&[&path], &format!("const {constant}: ")), "{name} {path}");
     }
-    // And the library that is linked is this header's.
+    // And the library that is linked, and this crate, are this header's.
     assert_eq!(u64::from(zelamiku::library_version()), header("VERSION_NUMBER"));
+    let [first, second, third] = [env!("CARGO_PKG_VERSION_MAJOR"), env!("CARGO_PKG_VERSION_MINOR"), env!("CARGO_PKG_VERSION_PATCH")].map(|it| it.parse::<u64>().unwrap());
+    assert_eq!(10_000 * first + 100 * second + third, header("VERSION_NUMBER"));
 }

@@ -26,7 +26,7 @@ fn difference(options: Options, scratch: &Scratch) -> Difference {
 fn a_heap_that_has_to_be_there_isnt_made() {
     let scratch = Scratch::new("existing");
     let error = accounts().existing().open(&scratch).unwrap_err();
-    assert_eq!((error.kind(), system(&error)), (ErrorKind::NotAHeap, Some(io::ErrorKind::NotFound)));
+    assert_eq!((error.kind(), system(&error)), (ErrorKind::NoHeap, Some(io::ErrorKind::NotFound)));
     assert!(!scratch.as_ref().exists());
     std::fs::write(&scratch, b"notes").unwrap();
     let error = accounts().existing().open(&scratch).unwrap_err();
@@ -34,6 +34,10 @@ fn a_heap_that_has_to_be_there_isnt_made() {
     std::fs::remove_file(&scratch).unwrap();
     accounts().open(&scratch).unwrap().close().unwrap();
     assert!(accounts().existing().open(&scratch).unwrap().report().is_some());
+    // One that was cut is no free file.
+    let bytes = std::fs::read(&scratch).unwrap();
+    std::fs::write(&scratch, &bytes[..5_000]).unwrap();
+    assert_eq!(accounts().open(&scratch).unwrap_err().kind(), ErrorKind::DamagedFile);
 }
 
 #[test]
@@ -46,7 +50,7 @@ fn names_in_another_order_are_another_heap() {
     // By the number that any FNV-1a gives.
     let heap = accounts().fingerprint(0xe79b_2629_bc40_13b3).open(&scratch).unwrap();
     // It is no field of the program's.
-    assert_eq!(heap.found().unwrap().fields, 2);
+    assert_eq!(heap.report().unwrap().fields, 2);
     drop(heap);
     std::fs::remove_file(&scratch).unwrap();
     // The hash's own test vectors, of one name.
@@ -80,17 +84,16 @@ fn the_first_difference_is_told() {
 }
 
 #[test]
-fn options_that_the_library_cant_see_are_refused() {
+fn options_of_which_no_heap_can_be_made_are_refused() {
     let scratch = Scratch::new("refused");
     let pool = |head, slots| Heap::options().objects(1).pool(Pool::new(Field(head), slots), Object(0));
     let refused = [
-        (accounts().lanes(0), Some(Refusal::BadHeader)),
-        (accounts().capacity(0), Some(Refusal::BadHeader)),
-        (accounts().ring(0), Some(Refusal::Ring)),
-        (accounts().ring(4_095), Some(Refusal::Ring)),
+        (accounts().lanes(33), Some(Refusal::BadArgument)),
+        (accounts().capacity(1_999), Some(Refusal::BadArgument)),
+        (accounts().ring(4_095), Some(Refusal::BadArgument)),
         (Heap::options().objects(1).field(Field(1), Object(0), 0), None),
         (pool(1, 4), None),
-        (pool(0, 0), Some(Refusal::Empty)),
+        (pool(0, 0), Some(Refusal::BadArgument)),
         (pool(0, 16_384), Some(Refusal::TooMany)),
         (pool(0, u32::MAX), Some(Refusal::TooMany)),
     ];
@@ -120,12 +123,6 @@ fn an_error_says_what_was_called_and_the_cure() {
     let error = accounts().open(&scratch).unwrap_err();
     assert_eq!(error.kind(), ErrorKind::Busy);
     says(error, "open: this process has its heap open already; use that one's handle, or close it before");
-    let guard = session.enter(Object(0)).unwrap();
-    says(
-        heap.close().unwrap_err(),
-        "close: a section is open or a thread waits; let it end before, or stop the heap (Heap::stop)",
-    );
-    drop(guard);
     heap.stop().unwrap();
     says(session.enter(Object(0)).unwrap_err(), "enter: the heap was closed or stopped; open it again");
     says(accounts().lanes(33).open(&scratch).unwrap_err(), "open: lanes is 33 in the plan; it may be 1 to 32");
@@ -181,6 +178,6 @@ fn the_report_tells_which_sections_were_dropped_and_why() {
     let report = heap.report().unwrap();
     let dropped: Vec<_> = report.dropped.iter().map(|it| (it.lane, it.section, it.why)).collect();
     assert_eq!(dropped, [(0, own, Why::NotEnded), (1, other, Why::Depended { lane: 0, section: own })]);
-    assert_eq!((&report.kept[..], report.found.dropped), (&[1, 0][..], 2));
+    assert_eq!(report.kept, [1, 0]);
     assert_eq!(common::value(&mut heap.session().unwrap(), 0), 1);
 }

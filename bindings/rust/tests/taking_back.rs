@@ -114,7 +114,7 @@ fn a_transfer_that_fails_in_the_middle_changes_nothing() {
         session.durable().unwrap();
         transfer(&mut heap.session().unwrap(), ALICE, BOB, 10).unwrap();
         session.durable().unwrap();
-        heap.abandon().unwrap();
+        heap.stop().unwrap();
         drop((session, heap));
         assert_eq!(found_again(&scratch), [80, 120, 0]);
     }
@@ -253,7 +253,6 @@ fn stops(name: &str, options: &Options, work: &dyn Fn(&mut Held<'_>) -> Result<(
         way(&mut session, work);
         let error = other.enter(ALICE.object).unwrap_err();
         assert_eq!(error.kind(), ErrorKind::Abandoned);
-        assert!(error.to_string().contains("couldn't be taken back"), "{error}");
         assert_eq!(session.durable().unwrap_err().kind(), ErrorKind::Abandoned);
         drop((session, other, heap));
         assert_eq!(found_again(&scratch), [90, 110, 7]);
@@ -266,7 +265,7 @@ fn a_section_that_has_freed_a_monitor_under_which_it_had_stored_stops_the_heap()
         s.store(ALICE.balance, 1)?;
         s.synchronized(BOB.object, |s| s.store(BOB.balance, 2))?;
         let refused = s.revert().unwrap_err();
-        assert_eq!((refused.kind(), refused.refusal()), (ErrorKind::Refused, Some(Refusal::NotHeld)));
+        assert_eq!((refused.kind(), refused.refusal()), (ErrorKind::Refused, Some(Refusal::NotReverted)));
         Ok(())
     });
     // Half of it is no half where nothing was stored under that monitor.
@@ -288,8 +287,7 @@ fn without_reverts_a_section_that_fails_stops_the_heap_once_it_has_stored() {
     stops("without-stores", &options, &|s| {
         s.store(ALICE.balance, 1)?;
         let refused = s.revert().unwrap_err();
-        assert_eq!((refused.kind(), refused.refusal()), (ErrorKind::Refused, Some(Refusal::WrongKind)));
-        assert!(refused.to_string().contains("Options::reverts(true)"), "{refused}");
+        assert_eq!((refused.kind(), refused.refusal()), (ErrorKind::Refused, Some(Refusal::NotReverted)));
         Ok(())
     });
     stops("without-passing", &options, &|s| s.store(PASSING, 1));
@@ -404,7 +402,7 @@ fn all_monitors_are_taken_in_one_order_each_once() {
         let objects: Vec<_> = objects.into_iter().map(Object).collect();
         session.synchronized_all(&objects, |_| -> Result<(), Error> { panic!() }).unwrap_err().refusal()
     };
-    assert_eq!(never(vec![]), Some(Refusal::Empty));
+    assert_eq!(never(vec![]), Some(Refusal::BadArgument));
     assert_eq!(never(vec![2, 20, 4]), Some(Refusal::UnknownObject));
     assert_eq!(never((0..17).collect()), Some(Refusal::TooMany));
     assert!((0..20).all(|object| locks(&mut other, object) == 0));

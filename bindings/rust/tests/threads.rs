@@ -3,9 +3,15 @@ use common::{count, counters, until, value, Scratch};
 use std::panic::resume_unwind;
 use std::sync::{Arc, Barrier, Mutex};
 use std::time::Duration;
-use zelamiku::{Cause, Error, ErrorKind, Field, Heap, Held, Level, Object, Pool, Session};
+use zelamiku::{Cause, Durable, Error, ErrorKind, Field, Heap, Level, Object, Pool, Session};
 
 mod common;
+
+// Threads share them, and hand them over.
+const _: () = {
+    const fn is_shared<T: Send + Sync>() {}
+    is_shared::<(Heap, Session, Durable, Error)>()
+};
 
 #[test]
 fn threads_count_in_turn_and_what_they_await_is_durable() {
@@ -34,6 +40,12 @@ fn threads_count_in_turn_and_what_they_await_is_durable() {
     until("the section is durable", || session.is_durable(2));
     let stats = heap.stats().unwrap();
     assert!(stats.rounds > 0 && stats.sections == 2 && stats.last_cause == Cause::Linger, "{stats:?}");
+    drop((session, heap));
+    let heap = counters(8).linger(Duration::from_secs(3_600)).open(&scratch).unwrap();
+    let mut session = heap.session().unwrap();
+    count(&mut session, 0);
+    session.durable().unwrap();
+    assert_eq!(heap.stats().unwrap().last_cause, Cause::Awaited);
 }
 
 #[test]
@@ -60,34 +72,6 @@ fn sessions_come_and_go() {
     assert_eq!(heap.close().unwrap_err().kind(), ErrorKind::Closed);
 }
 
-#[test]
-fn a_section_that_stores_nothing_durable_asks_for_no_round() {
-    const SEAT: Pool = Pool::new(Field(1), 1);
-    const PASSING: Field = Field(3);
-    let works: [fn(&mut Held<'_>); 4] = [
-        |s| assert!(s.load(Field(0)).is_ok()),
-        |s| s.store(PASSING, 1).unwrap(),
-        |s| assert!(s.store(Field(9), 1).is_err()),
-        |s| assert_eq!(s.take(SEAT).unwrap(), None),
-    ];
-    for reverts in [false, true] {
-        let scratch = Scratch::new("quiet");
-        let options = Heap::options().objects(1).field(Field(0), Object(0), 0).pool(SEAT, Object(0)).transient(PASSING, Object(0), 0);
-        let heap = options.reverts(reverts).linger(Duration::from_micros(100)).open(&scratch).unwrap();
-        let mut session = heap.session().unwrap();
-        assert_eq!(session.synchronized(Object(0), |s| s.take(SEAT)).unwrap(), Some(0));
-        session.durable().unwrap();
-        let rounds = heap.stats().unwrap().rounds;
-        for work in works {
-            let mut guard = session.enter(Object(0)).unwrap();
-            work(&mut guard);
-            guard.exit().unwrap();
-            std::thread::sleep(Duration::from_millis(5));
-        }
-        assert_eq!(heap.stats().unwrap().rounds, rounds);
-    }
-}
-
 // A thread that waits with what it has stored, and returns its error or what it finds then.
 fn waiter(heap: &Heap, other: &mut Session) -> std::thread::JoinHandle<Result<u64, Error>> {
     let mut waiter = heap.session().unwrap();
@@ -111,7 +95,7 @@ fn notifications_tell_whom_they_wake() {
         own.synchronized(Object(0), |s| s.store(Field(0), 0)).unwrap();
         waiter(&heap, &mut own)
     });
-    let notified = |s: &mut Held<'_>| {
+    let notified = |s: &mut zelamiku::Held<'_>| {
         s.store(Field(0), 7)?;
         Ok::<_, Error>((s.notify(Object(0))?, s.notify_all(Object(0))?))
     };

@@ -1,38 +1,17 @@
-//! What the tests share: files, patience, executors of the standard library alone, and system calls that fail.
+//! What the tests share: patience, executors of the standard library alone, and the counters that most use.
 #![allow(dead_code)]
 use std::future::Future;
-use std::path::{Path, PathBuf};
 use std::pin::{pin, Pin};
 use std::sync::mpsc::{channel, Sender};
 use std::sync::{Arc, Mutex};
 use std::task::{Context, Poll, Wake, Waker};
 use std::thread::Thread;
 use std::time::{Duration, Instant};
+pub use scratch::Scratch;
 use zelamiku::{Field, Heap, Object, Options, Session};
 
-/// A path of its own for each test. The file there is removed with it.
-pub struct Scratch(PathBuf);
-
-impl Scratch {
-    /// Of this name among the tests of this process. No file is there.
-    pub fn new(name: &str) -> Scratch {
-        let path = std::env::temp_dir().join(format!("zelamiku-{name}-{}", std::process::id()));
-        let _ = std::fs::remove_file(&path);
-        Scratch(path)
-    }
-}
-
-impl AsRef<Path> for Scratch {
-    fn as_ref(&self) -> &Path {
-        &self.0
-    }
-}
-
-impl Drop for Scratch {
-    fn drop(&mut self) {
-        let _ = std::fs::remove_file(&self.0);
-    }
-}
+#[path = "../../src/scratch.rs"]
+mod scratch;
 
 /// Three objects, and field i of object i, which is 5 at first.
 pub fn counters(lanes: u32) -> Options {
