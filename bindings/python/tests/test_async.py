@@ -121,7 +121,7 @@ class Tasks(OnFile):
                 heap.alice.balance += 1
             heap.durable()
             # It is durable by the time that the loop asks, and no more round comes.
-            with mock.patch.object(Lane, "has_durable", lambda own, count: False):
+            with mock.patch.object(Lane, "has_all_durable", lambda own: False):
                 await end(heap.durable_async())
 
         with self.open() as heap:

@@ -1,45 +1,40 @@
-"""What statuses become, without the library."""
+"""What statuses become."""
 import errno
 import pickle
 import unittest
 
 import zelamiku
 from zelamiku import errors
-
-# What only calls of the library itself, or of its other hosts, are answered; or what a session makes no exception of.
-WITHOUT_A_KIND = {2, 3, 5, 7, 8, 19, 20, 23, 36}
+from zelamiku.library import NO_NUMBER, FailureRow, library
 
 
 class Kinds(unittest.TestCase):
+    def error(self, status, also={}, about="", number=0):
+        row = FailureRow(status=status, error=number, object=NO_NUMBER, field=NO_NUMBER, cause=b"it went wrong", cure=b"do it again")
+        return library().error("some.heap", row, also, about)
+
     def test_each_status_is_an_exception_with_path_cause_and_cure(self):
-        for status in set(range(1, 45)) - WITHOUT_A_KIND:
-            with self.subTest(status=status):
-                error = errors.for_status("some.heap", status)
-                self.assertIsNot(type(error), zelamiku.Error)
-                self.assertEqual(str(error), f"some.heap: {error.cause}; {error.cure}")
-                self.assertTrue(error.cause and error.cure)
-                self.assertIsNone(error.__cause__)
+        for status in errors.KINDS:
+            error = self.error(status)
+            self.assertIs(type(error), errors.KINDS[status])
+            self.assertEqual((error.path, error.cause, error.cure), ("some.heap", "it went wrong", errors.CURES.get(type(error), "do it again")))
+            self.assertEqual(str(error), f"some.heap: it went wrong; {error.cure}")
+            self.assertIsNone(error.__cause__)
+        self.assertIs(type(self.error(77)), zelamiku.Refused)
+        self.assertIs(type(self.error(18, errors.MONITOR)), zelamiku.Refused)
+        # The system's number is chained.
+        error = self.error(32, errors.OPENING, "it.balance: ", errno.ENOSPC)
+        self.assertEqual((type(error), error.cause), (zelamiku.FileError, "it.balance: it went wrong: No space left on device"))
+        self.assertEqual((type(error.__cause__), error.__cause__.errno, error.__cause__.filename), (OSError, errno.ENOSPC, "some.heap"))
 
-    def test_another_status_is_told_by_its_number(self):
-        self.assertIn("status 77", str(errors.for_status("some.heap", 77)))
-
-    def test_an_opening_has_kinds_of_its_own(self):
-        for status, kind in ((15, zelamiku.BadPlan), (18, zelamiku.BrokenFile), (21, zelamiku.NoMemory), (32, zelamiku.FileError)):
-            self.assertIs(type(errors.for_status("some.heap", status, also=errors.OPENING_KINDS)), kind)
-        self.assertIs(type(errors.for_status("some.heap", 34, also=errors.OPENING_KINDS)), zelamiku.Busy)
-        self.assertIs(type(errors.for_status("a.copy", 32, also=errors.COPY_KINDS)), zelamiku.CopyFailed)
-
-    def test_a_monitor_that_is_worn_leaves_the_heap(self):
-        self.assertIs(type(errors.for_status("some.heap", 18, also=errors.MONITOR_KINDS)), zelamiku.Refused)
-        self.assertIs(type(errors.for_status("some.heap", 18)), zelamiku.Stopped)
-
-    def test_the_cause_of_the_system_is_chained(self):
-        error = errors.for_status("some.heap", 32, errno.ENOSPC, doing="it.balance")
+    def test_a_failure_of_another_call_meanwhile_gives_no_text(self):
+        calls = library()
+        # A handle that never was, as of a signal's handler.
+        self.assertEqual(calls.heap_close(0), 1)
+        self.assertEqual(calls.failure(1).status, 1)
+        error = calls.error("some.heap", calls.failure(32))
         self.assertIs(type(error), zelamiku.WriteFailed)
-        self.assertIn("it.balance: a write to the file failed", str(error))
-        self.assertIn("No space left on device", str(error))
-        self.assertIsInstance(error.__cause__, OSError)
-        self.assertEqual((error.__cause__.errno, error.__cause__.filename), (errno.ENOSPC, "some.heap"))
+        self.assertEqual((error.cause, error.cure), (calls.status_text(32).decode(), "try again"))
 
     def test_they_are_what_python_calls_such(self):
         for kind, base in (
@@ -49,9 +44,7 @@ class Kinds(unittest.TestCase):
             (zelamiku.NoHeap, FileNotFoundError),
             (zelamiku.NoMemory, MemoryError),
             (zelamiku.Closed, zelamiku.Stopped),
-            (zelamiku.Busy, zelamiku.OpenError),
             (zelamiku.NoHeap, zelamiku.OpenError),
-            (zelamiku.Reverted, zelamiku.Refused),
             (zelamiku.NotReverted, zelamiku.Refused),
             (zelamiku.WriteFailed, zelamiku.Refused),
         ):
@@ -59,23 +52,15 @@ class Kinds(unittest.TestCase):
         for kind in (zelamiku.Refused, zelamiku.OpenError, zelamiku.NoMemory, zelamiku.NoLibrary):
             self.assertFalse(issubclass(kind, zelamiku.Stopped))
 
-    def test_they_can_be_sent_to_another_process(self):
+    def test_all_are_exported_documented_and_can_be_sent_to_another_process(self):
         for name in zelamiku.__all__:
-            kind = getattr(zelamiku, name)
-            if isinstance(kind, type) and issubclass(kind, zelamiku.Error):
-                again = pickle.loads(pickle.dumps(kind("a path", "a cause", "a cure")))
-                self.assertEqual((type(again), again.path, again.cause, again.cure), (kind, "a path", "a cause", "a cure"))
-                self.assertEqual(str(again), "a path: a cause; a cure")
-                self.assertIsNone(getattr(again, "errno", None))
-
-
-class Names(unittest.TestCase):
-    def test_all_are_exported(self):
+            self.assertTrue(getattr(zelamiku, name).__doc__, name)
         for name, kind in vars(errors).items():
             if isinstance(kind, type) and issubclass(kind, zelamiku.Error):
                 self.assertIn(name, zelamiku.__all__)
-        for name in zelamiku.__all__:
-            self.assertTrue(getattr(zelamiku, name).__doc__, name)
+                again = pickle.loads(pickle.dumps(kind("a path", "a cause", "a cure")))
+                self.assertEqual((type(again), again.path, again.cause, again.cure), (kind, "a path", "a cause", "a cure"))
+                self.assertEqual((str(again), getattr(again, "errno", None)), ("a path: a cause; a cure", None))
 
 
 if __name__ == "__main__":

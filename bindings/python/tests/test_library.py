@@ -1,4 +1,4 @@
-"""Where the library is looked for, and what is told where it isn't, without it."""
+"""Where the library is looked for, what is wrong with another one, and its structs."""
 import ctypes.util
 import os
 import shutil
@@ -15,46 +15,43 @@ class Places(unittest.TestCase):
     def test_the_variable_comes_first_then_the_package_then_pkg_config(self):
         with mock.patch.dict(os.environ, {"ZELAMIKU_LIBS": "/one:/two"}), mock.patch.object(library, "_asked_of_pkg_config", lambda: "/three"):
             places = [str(path) for path in library.places()]
-        beside = str(Path(library.__file__).parent / library.NAME)
-        self.assertEqual(places, ["/one/libzelamiku.so.0", "/two/libzelamiku.so.0", beside, "/three/libzelamiku.so.0"])
-
-    def test_pkg_config_is_asked(self):
+        self.assertEqual(places, [f"{folder}/libzelamiku.so.1" for folder in ("/one", "/two", Path(library.__file__).parent, "/three")])
         with tempfile.TemporaryDirectory() as folder:
             Path(folder, "zelamiku.pc").write_text("libdir=/there\nName: zelamiku\nDescription: it\nVersion: 1\n")
             with mock.patch.dict(os.environ, {"PKG_CONFIG_PATH": folder}):
-                asked = library._asked_of_pkg_config()
-        self.assertEqual(asked, "/there" if shutil.which("pkg-config") else "")
+                self.assertEqual(library._asked_of_pkg_config(), "/there" if shutil.which("pkg-config") else "")
         with mock.patch.dict(os.environ, {"PATH": "/nowhere"}):
             self.assertEqual(library._asked_of_pkg_config(), "")
 
 
 class Wrong(unittest.TestCase):
-    def test_no_library_is_told_with_its_cure(self):
-        with self.assertRaises(zelamiku.NoLibrary) as caught:
-            library.Library("/nowhere/libzelamiku.so.0")
-        self.assertIn("ZELAMIKU_LIBS", caught.exception.cure)
-
-    def test_another_library_is_refused(self):
+    def test_no_library_and_another_one_are_refused(self):
+        with self.assertRaisesRegex(zelamiku.NoLibrary, "can't be loaded.*ZELAMIKU_LIBS") as caught:
+            library.Library("/nowhere/libzelamiku.so.1")
+        self.assertEqual(caught.exception.path, "/nowhere/libzelamiku.so.1")
         with self.assertRaisesRegex(zelamiku.NoLibrary, "has no zelamiku_version"):
             library.Library(ctypes.util.find_library("c"))
-        with mock.patch.object(library, "VERSION", 1), self.assertRaisesRegex(zelamiku.NoLibrary, "version is [0-9]{3,}, and this package's 1;"):
+        version = library.library().version()
+        with mock.patch.object(library, "VERSION", version + 1), self.assertRaisesRegex(zelamiku.NoLibrary, f"this package needs {version + 1};"):
             library.Library(library.library().path)
 
 
-class Sizes(unittest.TestCase):
-    def test_structures_have_the_sizes_of_the_headers(self):
+class Structs(unittest.TestCase):
+    def test_each_has_the_size_of_the_header_and_says_it(self):
         sizes = {
             library.FieldRow: 24,
-            library.Found: 48,
-            library.Told: 320,
-            library.DroppedRow: 32,
-            library.PlanRow: 72,
-            library.ReportRow: 352,
-            library.StatsRow: 104,
             library.WaitRow: 16,
+            library.PlanRow: 80,
+            library.ReportRow: 352,
+            library.DroppedRow: 32,
+            library.StatsRow: 104,
+            library.ProgressRow: 40,
+            library.FailureRow: 56,
         }
-        for structure, size in sizes.items():
-            self.assertEqual(ctypes.sizeof(structure), size, structure.__name__)
+        for struct, size in sizes.items():
+            self.assertEqual(ctypes.sizeof(struct), size, struct.__name__)
+            if issubclass(struct, library.Sized):
+                self.assertEqual(struct().size, size)
 
 
 if __name__ == "__main__":

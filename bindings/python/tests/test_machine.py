@@ -10,7 +10,6 @@ import os
 import random
 import sys
 import unittest
-from collections.abc import Callable
 from typing import Any
 
 import zelamiku
@@ -41,6 +40,9 @@ FIRSTS = {"balance": 100, "debts": -1, "seen": 9, "values": 0}
 
 class Planned(Exception):
     """One that a life raises in a section itself."""
+
+
+FAILURES = (Planned, KeyboardInterrupt, zelamiku.OutOfRange, zelamiku.SectionFull)
 
 
 class Model:
@@ -134,8 +136,10 @@ class Machine(OnFile):
         self.is_reverted = self.has_ended = False
         try:
             self.section(frozenset())
-        except (Planned, KeyboardInterrupt, zelamiku.Refused) as error:
-            self.assertTrue(not self.has_ended or (self.is_reverted and isinstance(error, zelamiku.Reverted)), error)
+        except zelamiku.Reverted:
+            self.assertTrue(self.is_reverted)
+        except FAILURES:
+            self.assertFalse(self.has_ended)
         except zelamiku.Abandoned:
             self.assertTrue(self.is_over)
         if self.is_over:
@@ -156,7 +160,7 @@ class Machine(OnFile):
                     raise self.chance.choice([Planned, KeyboardInterrupt])
                 if self.chance.random() < 0.03:
                     store(self.heap, "alice.balance", -1)
-            except (Planned, KeyboardInterrupt, zelamiku.Refused):
+            except (*FAILURES, zelamiku.Reverted):
                 # It leaves the `with`.
                 if self.has_stored and self.is_lost:
                     self.is_over = True
@@ -178,8 +182,8 @@ class Machine(OnFile):
         self.under.add(under)
 
     def act(self, held: frozenset[str]) -> None:
-        steps = [self.store, self.look, self.pool, self.refused, self.fill, self.nested, self.revert]
-        self.chance.choices(steps, [9, 4, 6, 2, 0.3, 4, 1])[0](held, self.chance.choice(sorted(held)))
+        steps = [self.store, self.look, self.pool, self.fill, self.nested, self.revert]
+        self.chance.choices(steps, [9, 4, 6, 0.3, 4, 1])[0](held, self.chance.choice(sorted(held)))
 
     def store(self, held: frozenset[str], of: str) -> None:
         for name in self.chance.sample(fields(of), min(len(fields(of)), self.chance.randint(1, 3))):
@@ -221,25 +225,15 @@ class Machine(OnFile):
             del self.model.free[0]
             self.stored("seats")
 
-    def refused(self, held: frozenset[str], of: str) -> None:
-        """Calls that do nothing."""
-        free = next((name for name in ("carol", "bob", "alice") if name not in held), None)
-        calls: list[tuple[type[Exception], Callable[[], Any]]] = [(zelamiku.InSection, self.heap.durable)]
-        if free:
-            calls.append((zelamiku.NotHeld, lambda: store(self.heap, f"{free}.balance", 1)))
-        if "seats" in held and self.model.free:
-            calls.append((zelamiku.NotTaken, lambda: self.heap.seats.slots.give(self.model.free[-1])))
-        for kind, call in calls:
-            self.assertRaises(kind, call)
-
     def nested(self, held: frozenset[str], of: str) -> None:
         if len(held) > 4:
             return
         try:
             self.section(held)
-        except (Planned, KeyboardInterrupt, zelamiku.Refused):
+        except (*FAILURES, zelamiku.Reverted) as error:
             if self.is_over or self.chance.random() < 0.5:
                 raise
+            self.assertTrue(self.is_reverted or not isinstance(error, zelamiku.Reverted))
         if self.is_reverted:
             # It was caught here.
             for call in (self.heap.alice.notify, lambda: store(self.heap, "alice.balance", 1), self.heap.session.revert):

@@ -42,6 +42,7 @@ NATURAL = dict(accounts=[Unsigned] * 2, seats=Seats)
 WIDE = dict(accounts=[Limited] * 2, seats=Wide)
 """
 
+COMMAND = [sys.executable, "-B", "-m", "zelamiku"]
 SHOWN = """accounts[0].balance -7
 accounts[0].past[0] 0.25
 accounts[0].past[1] 0.0
@@ -64,8 +65,7 @@ class Words(OnFile):
             heap.seats.slots.take()
 
     def run_with(self, *words):
-        command = [sys.executable, "-B", "-m", "zelamiku", *words]
-        ran = subprocess.run(command, cwd=self.folder, capture_output=True, text=True, timeout=PATIENCE, check=False)
+        ran = subprocess.run([*COMMAND, *words], cwd=self.folder, capture_output=True, text=True, timeout=PATIENCE, check=False)
         return ran.returncode, ran.stdout, ran.stderr
 
     def refused(self, text, *words):
@@ -77,9 +77,12 @@ class Words(OnFile):
 
     def test_show_prints_each_durable_field_by_its_name(self):
         self.assertEqual(self.run_with("show", "a.heap", "bank"), (0, SHOWN, ""))
+        with open("/dev/full", "w") as full:
+            ran = subprocess.run([*COMMAND, "show", "a.heap", "bank"], cwd=self.folder, stdout=full, stderr=subprocess.PIPE, timeout=PATIENCE, check=False)
+        self.assertEqual((ran.returncode, ran.stderr), (1, b"zelamiku: [Errno 28] No space left on device\n"))
         self.refused("bank has no dict ACCOUNTS", "show", "a.heap", "bank:ACCOUNTS")
         self.refused("there is no heap", "show", "b.heap", "bank")
-        self.refused("declared are", "show", "a.heap", "bank:LAST")
+        self.refused("are declared", "show", "a.heap", "bank:LAST")
         with self.open(**self.declared["OBJECTS"], lanes=3):
             self.refused("another process has the heap", "show", "a.heap", "bank")
 

@@ -39,8 +39,7 @@ class Numbers(unittest.TestCase):
         self.assertEqual(plan.fields, fields)
         for planned in plan.objects:
             for name, number in planned.numbers.items():
-                if name:
-                    self.assertTrue(plan.fields[number].name.startswith(f"{planned.name}.{name}"))
+                self.assertTrue(plan.fields[number].name.startswith(f"{planned.name}.{name}"))
 
     def test_a_guard_is_named(self):
         class Guarded(zelamiku.Object):
@@ -88,27 +87,8 @@ class Fingerprints(unittest.TestCase):
 class Differences(unittest.TestCase):
     """test_heap.py has those that the library finds."""
 
-    def test_names_the_other_way_round_are_found(self):
-        class Swapped(zelamiku.Object):
-            seen = zelamiku.Bool(transient=True)
-            balance = zelamiku.Field(first=100)
-
-        plan = Plan({"bob": Account, "carol": Bare, "alice": Account, "more": [Account] * 2})
-        cases = [
-            ({"alice": Account, "carol": Bare, "bob": Account, "more": [Account] * 2}, ": bob and alice the other way round"),
-            ({"bob": Swapped, "carol": Bare, "alice": Swapped, "more": [Swapped] * 2}, ": Account.balance and Account.seen the other way round"),
-            ({"bob": Account, "caroline": Bare, "alice": Account, "more": [Account] * 2}, ""),
-        ]
-        for other, text in cases:
-            has = Plan(other).fingerprint()
-            difference = plan.difference(7, 0, has, plan.fingerprint())
-            self.assertEqual(difference, f"it was made with other names or in another order, of fingerprint {has:#x} and not {plan.fingerprint():#x}{text}")
-
-    def test_many_names_are_cut_off_and_objects_counted(self):
-        plan = Plan({f"account{index}": Account for index in range(20)})
-        self.assertTrue(plan.difference(2, 0, 3, 20).endswith("account6, and 13 more"))
+    def test_the_last_field_may_be_the_fingerprint_of_a_smaller_heap(self):
         plan = Plan({"alice": Account, "more": [Account] * 3})
-        self.assertTrue(plan.difference(2, 0, 3, 4).endswith("declared are 4: alice, 3 in more"))
         self.assertTrue(plan.difference(6, 7, 1, 0).endswith("declared as durable, or it is the fingerprint of a heap of 7 fields"))
         self.assertTrue(plan.difference(6, 7, 0, 1).endswith("declared as transient"))
         self.assertIn("there object 99 guards it", plan.difference(5, 7, 99, 4))

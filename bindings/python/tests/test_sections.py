@@ -13,6 +13,7 @@ from unittest import mock
 
 import zelamiku
 from support import Account, LONG, OnFile, Queue, beside, bob_in_alice, enter, held_elsewhere, in_thread, in_threads, outcome
+from zelamiku.library import library
 
 
 class Pair(zelamiku.Object):
@@ -184,7 +185,7 @@ class Exceptions(OnFile):
                     alice.left
 
     def test_one_in_the_innermost_of_three_is_reported_by_each_that_ends_well(self):
-        with self.open(alice=Account, bob=Account, queue=Queue) as heap:
+        with self.open(alice=Pair, other=Pair, bob=Account, queue=Queue) as heap:
             with self.assertRaises(zelamiku.Reverted), heap.synchronized(heap.alice):
                 with self.assertRaises(zelamiku.Reverted), heap.synchronized(heap.bob):
                     heap.bob.balance = 1
@@ -195,13 +196,19 @@ class Exceptions(OnFile):
                     heap.bob.balance = 1
                     raise ValueError
                 raise KeyError
-            self.assertEqual(in_thread(lambda: self.values(heap)), [100, 100])
-            # Before the first store the section goes on.
             with heap.synchronized(heap.alice):
+                self.assertEqual((heap.alice.slots.take(), heap.alice.slots.take()), (0, 1))
+            # Before the first store the section goes on. Refused ones don't count.
+            with heap.synchronized(heap.alice, heap.other):
+                self.assertRaises(zelamiku.NotHeld, setattr, heap.queue, "count", 1)
+                self.assertRaises(zelamiku.NotTaken, heap.other.slots.give, 0)
+                self.assertIsNone(heap.alice.slots.take())
                 with self.assertRaises(ValueError), heap.synchronized(heap.bob):
+                    self.assertEqual(heap.bob.balance, 100)
                     raise ValueError
-                heap.alice.balance = 2
-            self.assertEqual(self.values(heap), [2, 100])
+                heap.alice.left = 2
+            with heap.synchronized(heap.alice):
+                self.assertEqual(heap.alice.left, 2)
 
     def test_one_after_a_monitor_was_freed_under_which_it_had_stored_stops_the_heap(self):
         heap = self.open()
@@ -213,26 +220,26 @@ class Exceptions(OnFile):
                 heap.session.revert()
             self.assertEqual(heap.alice.balance, 1)
             raise ValueError("on its way")
-        with self.assertRaisesRegex(zelamiku.Abandoned, r"\(ValueError: on its way\) and can't be reverted: it has freed a monitor"):
+        with self.assertRaisesRegex(zelamiku.Abandoned, r"\(ValueError: on its way\) and can't be reverted: the section has freed a monitor"):
             self.values(heap)
         self.has_dropped_all(heap)
 
     def test_without_reverts_one_after_a_store_stops_the_heap_and_drops_the_section(self):
         for is_inner in (False, True):
             heap = self.open(reverts=False)
-            with self.assertRaisesRegex(zelamiku.NotReverted, "reverts=False"), heap.synchronized(heap.bob):
-                heap.session.revert()
             with self.assertRaises(zelamiku.Abandoned if is_inner else ValueError), heap.synchronized(heap.alice):
                 heap.alice.balance = 1
+                with self.assertRaisesRegex(zelamiku.NotReverted, "reverts=False"):
+                    heap.session.revert()
                 if is_inner:
                     with contextlib.suppress(ValueError), heap.synchronized(heap.bob):
                         raise ValueError("on its way")
                     heap.alice.balance = 2
                 raise ValueError("on its way")
             for call in (lambda: self.values(heap), lambda: in_thread(lambda: self.values(heap))):
-                told = outcome(call)
-                self.assertIsInstance(told, zelamiku.Abandoned)
-                self.assertIn("an exception has left a section that had stored (ValueError: on its way), in the thread MainThread", told.cause)
+                error = outcome(call)
+                self.assertIsInstance(error, zelamiku.Abandoned)
+                self.assertRegex(error.cause, r"an exception has left a section that had stored \(ValueError: on its way\).*, in the thread MainThread")
             self.has_dropped_all(heap)
 
     def test_a_section_is_reverted_on_purpose(self):
@@ -377,37 +384,6 @@ class Signals(OnFile):
 
 
 class Waits(OnFile):
-    def test_a_buffer_by_wait_and_notify(self):
-        class Buffer(zelamiku.Object):
-            count = zelamiku.Field()
-            put = zelamiku.Field()
-            taken = zelamiku.Field()
-
-        def put():
-            for _ in range(300):
-                with heap.synchronized(buffer):
-                    while buffer.count == 3:
-                        buffer.wait()
-                    buffer.count += 1
-                    buffer.put += 1
-                    buffer.notify_all()
-
-        def take():
-            for _ in range(300):
-                with heap.synchronized(buffer):
-                    while buffer.count == 0:
-                        buffer.wait()
-                    buffer.count -= 1
-                    buffer.taken += 1
-                    buffer.notify_all()
-
-        with self.open(buffer=Buffer) as heap:
-            buffer = heap.buffer
-            self.assertEqual(in_threads(*[put, take] * 3), [None] * 6)
-            with heap.synchronized(buffer):
-                self.assertEqual((buffer.count, buffer.put, buffer.taken), (0, 900, 900))
-                self.assertEqual((buffer.notify(), buffer.notify_all()), (None, ()))
-
     def test_notify_returns_whom_it_woke(self):
         def wait():
             with heap.synchronized(heap.queue):
@@ -416,6 +392,9 @@ class Waits(OnFile):
 
         lanes, woken = [], []
         with self.open(queue=Queue, lanes=8) as heap, beside(*[wait] * 4):
+            with heap.synchronized(heap.queue):
+                if not lanes:
+                    self.assertEqual((heap.queue.notify(), heap.queue.notify_all()), (None, ()))
             while len(woken) < 4:
                 with heap.synchronized(heap.queue):
                     if len(lanes) == 4:
@@ -450,6 +429,12 @@ class Waits(OnFile):
             with heap.synchronized(heap.alice):
                 self.assertEqual((heap.alice.left, heap.alice.right), (1, 100))
                 heap.alice.left = 100
+        # One that is refused (NO_FAT) ends nothing.
+        with self.assertRaises(zelamiku.Refused), heap.synchronized(heap.alice), mock.patch.object(library(), "thread_wait", lambda *_: 17):
+            heap.alice.left = 1
+            heap.alice.wait()
+        with heap.synchronized(heap.alice):
+            self.assertEqual(heap.alice.left, 100)
         raises(heap, heap.bob, heap.bob, heap.bob, heap.alice)
         with self.assertRaisesRegex(zelamiku.Abandoned, "can't be reverted"):
             enter(heap.synchronized(heap.alice))

@@ -1,16 +1,16 @@
-"""Looks at a heap by the names that a program declares, and carries its values over to another declaration.
+"""Shows a heap by the names that a program declares, and moves its values into another declaration.
 
     python -m zelamiku show FILE MODULE[:NAME]
     python -m zelamiku migrate FILE MODULE[:NAME] [MODULE[:NAME]] [--lanes N]
 
-NAME is a variable of the module with the objects that the program opens, ``dict(alice=Account, accounts=[Account] * 64)``; OBJECTS unless it is
-said. The heap is opened as by the program, so no other process may have it meanwhile.
+NAME is a variable of the module with the objects that the program opens, ``dict(alice=Account, accounts=[Account] * 64)``; by default OBJECTS.
+The heap is opened as by the program, so no other process may have it meanwhile.
 
-``show`` prints each durable field, and of each pool the slots that are taken.
+``show`` prints each durable field, and the slots of each pool that are taken.
 
-``migrate`` makes a heap of the second declaration (or of the same one, with another number of lanes). Each field whose name is in both has the
-value that it had, and the others have their first ones. Names that are in the old one alone are printed, and refused without ``--drop``. The
-new heap is made beside the file, and takes its place once it is whole: the old one is FILE~ then.
+``migrate`` makes a heap of the second declaration, or of the same one with another number of lanes. Each field whose name is in both keeps its
+value, and the others begin with their first ones. Fields that are only in the old one are refused, unless you say ``--drop``. The new heap is
+made beside the file, and takes its place once it is whole. The old one stays as FILE~.
 """
 from __future__ import annotations
 
@@ -22,13 +22,17 @@ import sys
 from collections.abc import Iterator
 from typing import Any
 
-from .declare import Array, Member, Pool, Ref, Value
+from .declare import Array, Member, Ref, Value
 from .errors import Error
 from .heap import Heap, make, open
 from .plan import Plan
 
 _TAKEN = 2**64 - 1
-"""What the field of a slot has that is taken."""
+"""The field of a slot that is taken."""
+
+
+class _Refused(Exception):
+    """Why nothing was done."""
 
 
 def _declared(name: str) -> dict[str, Any]:
@@ -36,7 +40,7 @@ def _declared(name: str) -> dict[str, Any]:
     sys.path.insert(0, os.getcwd())
     found = getattr(importlib.import_module(module), variable or "OBJECTS", None)
     if not isinstance(found, dict):
-        sys.exit(f"{module} has no dict {variable or 'OBJECTS'}: name the one that has the objects, as {module}:NAME")
+        raise _Refused(f"{module} has no dict {variable or 'OBJECTS'}: name the one that has the objects, as {module}:NAME")
     return found
 
 
@@ -57,7 +61,7 @@ def _bits(heap: Heap, plan: Plan) -> list[int]:
 
 
 def _kind(member: Member) -> Value[Any] | None:
-    """Of a member's fields; a pool has none."""
+    """The kind of a member's fields; a pool has none."""
     return member.kind if isinstance(member, Array) else member if isinstance(member, Value) else None
 
 
@@ -76,12 +80,8 @@ def show(path: str, objects: dict[str, Any]) -> None:
                 print(plan.fields[number].name, kind.decode(bits[number]))
 
 
-class _Refused(Exception):
-    """Why nothing was migrated."""
-
-
 def _carried(old: Plan, bits: list[int], new: Plan) -> Iterator[tuple[int, int]]:
-    """The number of each field of the new plan that has a value of the old one, and that value's bits."""
+    """The number of each field of the new plan that keeps a value of the old one, and that value's bits."""
     before = {name: (member, first) for name, member, first in _members(old)}
     moved = {each.name for number, each in enumerate(old.objects) if [one.name for one in new.objects[number : number + 1]] != [each.name]}
     for name, member, first in _members(new):
@@ -97,7 +97,7 @@ def _carried(old: Plan, bits: list[int], new: Plan) -> Iterator[tuple[int, int]]
             continue
         for number, value in zip(range(first, first + member.size), values):
             if isinstance(other, Ref) and value and moved:
-                raise _Refused(f"{new.fields[number].name}: it has a number, and {min(moved)} has another one then: declare new objects last")
+                raise _Refused(f"{new.fields[number].name}: it has a number, and {min(moved)} would have another one: declare new objects last")
             try:
                 yield number, value if type(kind) is type(other) else kind.encode(other.decode(value))
             except (OverflowError, TypeError) as error:
@@ -105,7 +105,7 @@ def _carried(old: Plan, bits: list[int], new: Plan) -> Iterator[tuple[int, int]]
 
 
 def migrate(path: str, objects: dict[str, Any], wanted: dict[str, Any], lanes: int | None, drops: bool) -> None:
-    """Puts a heap of these objects in the file's place, with the values that it had."""
+    """Puts a heap of the wanted objects in the file's place, with the values that it had."""
     path = os.path.realpath(path)
     old, new = Plan(objects), Plan(wanted)
     kept, beside = path + "~", path + ".migrated"
@@ -138,18 +138,21 @@ def main() -> None:
     for each in (shows, migrates):
         each.add_argument("file", metavar="FILE")
         each.add_argument("objects", metavar="MODULE[:NAME]")
-    migrates.add_argument("wanted", nargs="?", metavar="MODULE[:NAME]", help="the new declaration; the same one, where none is said")
-    migrates.add_argument("--lanes", type=int, metavar="N", help="for so many threads; as many as it has")
-    migrates.add_argument("--drop", action="store_true", help="fields that the new declaration hasn't")
+    migrates.add_argument("wanted", nargs="?", metavar="MODULE[:NAME]", help="the new declaration; by default the same one")
+    migrates.add_argument("--lanes", type=int, metavar="N", help="for so many threads; by default as many as it has")
+    migrates.add_argument("--drop", action="store_true", help="lose the fields that the new declaration doesn't have")
     chosen = parser.parse_args()
     try:
+        objects = _declared(chosen.objects)
         if chosen.word == "show":
-            show(chosen.file, _declared(chosen.objects))
+            show(chosen.file, objects)
         else:
-            objects = _declared(chosen.objects)
             migrate(chosen.file, objects, _declared(chosen.wanted) if chosen.wanted else objects, chosen.lanes, chosen.drop)
-    except (Error, _Refused, OSError) as error:
-        sys.exit(f"zelamiku: {error}")
+        print(end="", flush=True)
+    except (Error, _Refused, ImportError, OSError) as error:
+        # Python writes again at the end what the output hasn't taken.
+        os.dup2(os.open(os.devnull, os.O_WRONLY), 1)
+        sys.exit(141 if isinstance(error, BrokenPipeError) else f"zelamiku: {error}")
 
 
 if __name__ == "__main__":

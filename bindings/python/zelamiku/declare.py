@@ -32,7 +32,7 @@ class Member:
         self.name = name
 
     def names(self, of: str) -> list[str]:
-        """The names of its fields, as errors tell them and the fingerprint has them; ``of`` is the object's."""
+        """The names of its fields, for errors and the fingerprint; ``of`` is the object's."""
         raise NotImplementedError
 
     def firsts(self) -> list[int]:
@@ -41,7 +41,7 @@ class Member:
 
 
 class Value(Member, Generic[V]):
-    """A field that stores values of one kind in its 64 bits. Programs use its kinds: :class:`Field`, :class:`Signed`, .."""
+    """A field that stores values of one kind in its 64 bits. Its kinds are :class:`Field`, :class:`Signed`, :class:`Bool`, .."""
 
     size = 1
 
@@ -55,7 +55,7 @@ class Value(Member, Generic[V]):
             raise ValueError(f"first can't be {first!r}: {error}") from None
 
     def encode(self, value: V) -> int:
-        """The value's bits, 0 to 2**64 - 1. TypeError, and OverflowError where they have no place for it."""
+        """The value's bits, 0 to 2**64 - 1. TypeError; OverflowError: it doesn't fit."""
         raise NotImplementedError
 
     def decode(self, bits: int) -> V:
@@ -88,9 +88,9 @@ class Value(Member, Generic[V]):
 class Field(Value[int]):
     """A whole number from 0 to 2**64 - 1.
 
-    ``first`` is the value with which it begins when the heap is made. A ``transient`` field is never durable: what threads store there
-    costs the log nothing, and each opening begins with ``first`` again. ``guard`` names another object, as :func:`zelamiku.open` is told,
-    whose monitor guards the field in the place of its own.
+    ``first`` is its value when the heap is made. A ``transient`` field is never durable: stores cost the log nothing, and each opening begins
+    with ``first`` again. ``guard`` is the name of another object, in :func:`zelamiku.open`, whose monitor guards the field instead of its own.
+    TypeError, ValueError: a field of this kind doesn't have ``first``.
     """
 
     def __init__(self, first: int = 0, *, transient: bool = False, guard: str | None = None) -> None:
@@ -155,10 +155,9 @@ class Float(Value[float]):
 
 
 class Ref(Value["int | None"]):
-    """A link: the number of an object or of a pool's slot, or None. It stores the number plus one, so that 0 is None.
+    """A link: the number of an object or of a pool's slot, or None. It stores the number plus one, and 0 for None.
 
-    An object itself may be stored too, and is loaded as its number: its place in :attr:`Heap.objects`. The other options are those of
-    :class:`Field`.
+    An object may be stored too, and is loaded as its number: its place in :attr:`Heap.objects`. The options are those of :class:`Field`.
     """
 
     def __init__(self, first: int | None = None, *, transient: bool = False, guard: str | None = None) -> None:
@@ -181,7 +180,10 @@ class Ref(Value["int | None"]):
 
 
 class Array(Member, Generic[V]):
-    """So many fields of one kind: ``Array(Signed(first=-1), 64)``. Its attribute is an :class:`Items`, which has an index as a list has."""
+    """So many fields of one kind: ``Array(Signed(first=-1), 64)``. Its attribute is an :class:`Items`, with indexes as in a list.
+
+    ValueError: the count is below 1.
+    """
 
     def __init__(self, kind: Value[V], count: int) -> None:
         if count < 1:
@@ -239,10 +241,10 @@ class Items(Generic[V]):
 
 
 class Pool(Member):
-    """Slots, numbered from 0, that sections take and give back: 1 to 16,383 of them. Its attribute is a :class:`Slots`.
+    """Slots, numbered from 0, that sections take and free. Its attribute is a :class:`Slots`. ValueError: they aren't 1 to 16,383.
 
-    After a crash a slot is taken or free as the sections say that are there. What a program keeps in a slot lies in arrays beside the pool,
-    at the slot's index, and links to others by a :class:`Ref`: so lists and trees are built.
+    A crash that drops a section undoes what it took and freed. A slot's contents lie in arrays beside the pool, at the slot's index, and link to
+    others by a :class:`Ref`: this makes lists and trees.
     """
 
     def __init__(self, slots: int) -> None:
@@ -252,11 +254,11 @@ class Pool(Member):
         self.size = slots + 1
 
     def names(self, of: str) -> list[str]:
-        """Its head has the pool's name."""
+        """The first is the head's."""
         return [f"{of}.{self.name}"] + [f"{of}.{self.name}[{slot}]" for slot in range(self.slots)]
 
     def firsts(self) -> list[int]:
-        """All slots are free: the head and each slot link to the next one, plus one, and the last slot to none."""
+        """All slots are free: the head and each slot have the next slot's number plus one, and the last one has 0."""
         return [*range(1, self.size), 0]
 
     @overload
@@ -284,16 +286,16 @@ class Slots:
         return self._pool.slots
 
     def take(self) -> int | None:
-        """Takes a slot and answers its number; None where none is free. It costs the section two records, and up to two for a revert.
+        """Takes a free slot and returns its number; None: no slot is free. It costs the section two records, and up to two for a revert.
 
-        :class:`NotHeld`, :class:`SectionFull`, :class:`DamagedPool`: nothing was taken.
+        :class:`NotHeld`, :class:`SectionFull`, :class:`DamagedPool`, :class:`Reverted`, :class:`Stopped`: nothing was taken.
         """
         return self._of._own.lane.take(self._of._numbers[self._pool.name], self._pool.slots)
 
     def give(self, slot: int) -> None:
-        """Gives a slot back: it is the next one to be taken. It costs the section two records, and up to two for a revert.
+        """Frees a slot: it is the next one to be taken. It costs as much as :meth:`take`.
 
-        :class:`NotTaken`, and as :meth:`take`: nothing was given back.
+        :class:`NotTaken`, IndexError, and those of :meth:`take`: nothing was freed.
         """
         number = operator.index(slot)
         if not 0 <= number < self._pool.slots:
@@ -306,7 +308,7 @@ def _out_of_range(of: Object, name: str, value: object, error: OverflowError) ->
 
 
 class ObjectType(type):
-    """The type of :class:`Object` and its subclasses: it collects what they declare, in order, the bases' first."""
+    """The type of :class:`Object` and its subclasses. It collects what they declare, in order, the bases' first."""
 
     _members: Mapping[str, Member]
 
@@ -328,11 +330,11 @@ class ObjectType(type):
 
 
 class Object(metaclass=ObjectType):
-    """An object of a heap: a monitor, and the fields that its subclass declares. :func:`zelamiku.open` makes them.
+    """An object of a heap: a monitor, and the fields that its subclass declares. :func:`zelamiku.open` makes it.
 
-    A field is loaded and stored as an attribute by a thread that holds the monitor (:meth:`Heap.synchronized`); others are refused by
-    :class:`NotHeld`. A store past the value's kind is refused by :class:`OutOfRange`, and the 1,001st record of a section by
-    :class:`SectionFull`: then nothing was stored.
+    A thread that holds the monitor (:meth:`Heap.synchronized`) loads and stores fields as attributes. :class:`NotHeld`: it doesn't.
+    :class:`OutOfRange`, TypeError: the field's kind doesn't have the value. :class:`SectionFull`: the section has 1,000 records.
+    :class:`Reverted`, :class:`Stopped`. After each of them nothing was stored.
     """
 
     __slots__ = ("_own", "_name", "_number", "_numbers")
@@ -349,30 +351,28 @@ class Object(metaclass=ObjectType):
         return f"<{type(self).__name__} {self._name}, object {self._number} of {self._own.link.path}>"
 
     def wait(self) -> None:
-        """Frees this monitor, which the thread holds, sleeps until another thread notifies this one, and takes it again.
+        """Frees this monitor, which the thread holds, sleeps until another thread notifies it, and takes the monitor again.
 
-        Nothing else wakes it, and no signal is handled meanwhile. Where no other monitor is held the section ends with it, and the next one
-        begins when it goes on: what was loaded before may be otherwise by then. Hold no other monitor: it would be kept meanwhile, so two
-        threads may wait for each other for ever (:meth:`Heap.waits`), and a section that has stored under this one can't be reverted after it.
+        Nothing else wakes it, and no signal is handled meanwhile. If no other monitor is held the section ends here, and the next one begins
+        afterwards: fields may have changed by then. Hold no other monitor: it would stay held, so two threads may wait for each other for ever
+        (:meth:`Heap.waits`), and a section that has stored under this one can't be reverted any more.
 
         :class:`NotHeld`, :class:`SectionFull`, :class:`Refused`, :class:`WriteFailed`: the monitor is held as before. :class:`Stopped`: it
-        isn't.
+        isn't held.
         """
         self._own.lane.wait(self)
 
     def notify(self) -> int | None:
-        """Wakes one thread that waits for this monitor, which the thread holds, and answers its lane. None: no thread waits.
+        """Wakes one thread that waits for this monitor, which the calling thread holds, and returns its lane. None: no thread waits.
 
-        Which of several it wakes isn't promised. A lane may be 0, so compare the answer with None. :class:`NotHeld`: nobody was woken.
+        If several wait, any of them may be chosen. A lane may be 0, so compare with None. :class:`NotHeld`, :class:`Reverted`, :class:`Stopped`:
+        no thread was woken.
         """
-        return self._own.lane.notify(self)
+        return next(iter(self._own.lane.notify(self, False)), None)
 
     def notify_all(self) -> tuple[int, ...]:
-        """Wakes all threads that wait for this monitor, which the thread holds, and answers their lanes. They go on in no promised order.
-
-        :class:`NotHeld`: nobody was woken.
-        """
-        return self._own.lane.notify_all(self)
+        """Wakes all threads that wait for this monitor, and returns their lanes. They go on in any order. Errors are those of :meth:`notify`."""
+        return self._own.lane.notify(self, True)
 
 
 def bind(cls: type[Object], own: Own, name: str, number: int, numbers: Mapping[str, int]) -> Object:

@@ -1,50 +1,54 @@
-"""The shared library, ``libzelamiku.so.0``: where it is found, and its calls.
+"""The shared library, ``libzelamiku.so.1``: where it is found, and its calls.
 
-The declarations are those of ``zelamiku.h``, by the same names. A call that may sleep lets the interpreter's
-lock go, so that other threads run meanwhile. The others are short, call nothing of Python, and keep it: a thread that gave it away at each
-load would wait for it as long as any other thread computes.
+The declarations are those of ``zelamiku.h``, by the same names. A call that may sleep releases the interpreter's lock, so that other threads run
+meanwhile. The others are short, call nothing of Python, and keep it: a thread that released it at each load would wait for it as long as any
+other thread computes.
 """
 from __future__ import annotations
 
 import ctypes
 import functools
 import os
-from collections.abc import Iterator
-from ctypes import POINTER, c_bool, c_char_p, c_int, c_size_t, c_uint32, c_uint64, c_void_p
+from collections.abc import Iterator, Mapping
+from ctypes import POINTER, byref, c_bool, c_char_p, c_int, c_int32, c_size_t, c_uint32, c_uint64, c_void_p
 from pathlib import Path
 from typing import Any
 
-from .errors import NoLibrary
+from .errors import CURES, KINDS, Error, NoLibrary, Refused, Stopped
 
-NAME = "libzelamiku.so.0"
-VERSION = 100
-"""ZELAMIKU_VERSION_NUMBER of the headers that these declarations are of."""
+NAME = "libzelamiku.so.1"
+VERSION = 200
+"""ZELAMIKU_VERSION_NUMBER of the header that these declarations are of. A newer library of the same layout, which the name has, serves too."""
 
 MOST_LANES = 32
 NOBODY = 64
+NO_NUMBER = 2**32 - 1
 NO_DEADLINE = 2**64 - 1
 ALL_SECTIONS = 2**64 - 1
 
 OK = 0
 NOTHING = 1
-NO_MEMORY = 4
 NONE_LEFT = 6
 RUNNING = 9
 NOT_HELD = 12
 BEHIND = 13
 HELD = 19
-UNFINISHED = 23
-NOT_FORMATTED = 25
-BAD_RECORD = 30
-ILLEGAL_LOG = 31
 DEVICE = 32
-LOST = 33
-BUSY = 34
 POOL_EMPTY = 36
 CLOSED = 39
-FORKED = 41
 ABANDONED = 42
 OTHER_HEAP = 43
+
+
+def _members(kind: Any, names: str) -> list[tuple[str, Any]]:
+    return [(name, kind) for name in names.split()]
+
+
+class Sized(ctypes.Structure):
+    """A struct that begins with its size."""
+
+    def __init__(self, **values: Any) -> None:
+        super().__init__(ctypes.sizeof(self), **values)
 
 
 class FieldRow(ctypes.Structure):
@@ -53,148 +57,99 @@ class FieldRow(ctypes.Structure):
     _fields_ = [("owner", c_uint32), ("guard", c_uint32), ("first", c_uint64), ("is_transient", c_uint32)]
 
 
-class Found(ctypes.Structure):
-    """zelamiku_found"""
+class WaitRow(ctypes.Structure):
+    """zelamiku_wait"""
 
-    _fields_ = [
-        ("size", c_uint64),
-        ("objects", c_uint32),
-        ("fields", c_uint32),
-        ("lanes", c_uint32),
-        ("capacity", c_uint32),
-        ("threads", c_uint32),
-        ("dropped", c_uint64),
-        ("undone", c_uint64),
-    ]
-
-
-class Told(ctypes.Structure):
-    """zelamiku_told"""
-
-    _fields_ = [("found", Found), ("kept", c_uint64 * MOST_LANES), ("bad_place", c_uint64), ("bad_lane", c_uint32)]
-
-
-class DroppedRow(ctypes.Structure):
-    """zelamiku_dropped"""
-
-    _fields_ = [
-        ("section", c_uint64),
-        ("other_section", c_uint64),
-        ("lane", c_uint32),
-        ("why", c_uint32),
-        ("other_lane", c_uint32),
-    ]
+    _fields_ = _members(c_uint32, "lane object owner in_circle")
 
 
 LOG_HOOK = ctypes.CFUNCTYPE(None, c_void_p, c_uint32, c_char_p)
 """zelamiku_log"""
 
 
-class PlanRow(ctypes.Structure):
+class PlanRow(Sized):
     """zelamiku_plan"""
 
     _fields_ = [
+        *_members(c_uint32, "size objects"),
         ("fields", POINTER(FieldRow)),
-        ("count", c_uint32),
-        ("objects", c_uint32),
-        ("lanes", c_uint32),
-        ("capacity", c_uint32),
-        ("ring", c_uint32),
-        ("linger", c_uint32),
-        ("upgrades", c_uint32),
-        ("must_exist", c_uint32),
-        ("reverts", c_uint32),
-        ("keeps_slice", c_uint32),
+        *_members(c_uint32, "count lanes capacity ring linger upgrades must_exist reverts"),
         ("fingerprint", c_uint64),
-        ("log", c_void_p),
-        ("log_of", c_void_p),
+        *_members(c_void_p, "log log_context device"),
     ]
 
 
-class ReportRow(ctypes.Structure):
+class ReportRow(Sized):
     """zelamiku_report"""
 
     _fields_ = [
-        ("told", Told),
-        ("is_made", c_uint32),
-        ("is_upgraded", c_uint32),
-        ("difference", c_uint32),
-        ("field", c_uint32),
-        ("has", c_uint64),
-        ("planned", c_uint64),
+        *_members(c_uint32, "size is_made is_upgraded objects fields lanes capacity damage bad_lane difference field reserved"),
+        *_members(c_uint64, "has planned bad_place bytes dropped undone"),
+        ("kept", c_uint64 * MOST_LANES),
     ]
 
 
-class StatsRow(ctypes.Structure):
+class DroppedRow(Sized):
+    """zelamiku_dropped"""
+
+    _fields_ = _members(c_uint32, "size why lane other_lane") + _members(c_uint64, "section other_section")
+
+
+class StatsRow(Sized):
     """zelamiku_stats"""
 
     _fields_ = [
-        ("rounds", c_uint64),
-        ("sections", c_uint64),
-        ("records", c_uint64),
-        ("calls", c_uint64),
-        ("syncs", c_uint64),
-        ("troubles", c_uint64),
-        ("calls_time", c_uint64),
-        ("longest_round", c_uint64),
-        ("two_sync_rounds", c_uint64),
-        ("four_sync_rounds", c_uint64),
-        ("lent", c_uint32),
-        ("awaiting", c_uint32),
-        ("entering", c_uint32),
-        ("last_cause", c_uint32),
-        ("is_astray", c_uint32),
-        ("reserved", c_uint32),
+        *_members(c_uint32, "size lent awaiting entering last_cause is_astray"),
+        *_members(c_uint64, "rounds sections records calls syncs troubles calls_time longest_round two_sync_rounds four_sync_rounds"),
     ]
 
 
-class WaitRow(ctypes.Structure):
-    """zelamiku_wait"""
+class ProgressRow(Sized):
+    """zelamiku_progress"""
 
-    _fields_ = [("lane", c_uint32), ("object", c_uint32), ("owner", c_uint32), ("in_circle", c_uint32)]
+    _fields_ = _members(c_uint32, "size lane is_open end") + _members(c_uint64, "sections durable earlier")
+
+
+class FailureRow(Sized):
+    """zelamiku_failure"""
+
+    _fields_ = [
+        *_members(c_uint32, "size status"),
+        ("error", c_int32),
+        *_members(c_uint32, "object field reserved"),
+        *_members(c_char_p, "path call cause cure"),
+    ]
 
 
 _HEAP = _THREAD = c_uint64
 
-# What each call takes and answers; a status where nothing else is said.
+# What each call takes; it returns a status.
 _SLEEPING: dict[str, list[Any]] = {
     "heap_open": [POINTER(c_uint64), c_char_p, POINTER(PlanRow), POINTER(ReportRow)],
     "heap_close": [_HEAP],
-    "heap_stop": [_HEAP],
-    "heap_abandon": [_HEAP],
+    "heap_stop": [_HEAP, c_uint32],
     "heap_copy": [_HEAP, c_char_p],
-    "thread_enter": [_THREAD, c_uint32],
     "thread_enter_until": [_THREAD, c_uint32, c_uint64],
     "thread_wait": [_THREAD, c_uint32],
     "thread_await_until": [_THREAD, c_uint64, c_uint64, POINTER(c_bool)],
 }
 _SHORT: dict[str, list[Any]] = {
-    "heap_dropped": [_HEAP, c_size_t, POINTER(DroppedRow), c_size_t, POINTER(c_size_t)],
+    "heap_dropped": [_HEAP, c_size_t, POINTER(DroppedRow)],
     "heap_stats": [_HEAP, POINTER(StatsRow)],
     "heap_waits": [_HEAP, POINTER(WaitRow), c_size_t, POINTER(c_size_t)],
     "thread_begin": [POINTER(c_uint64), _HEAP],
-    "thread_event": [_THREAD, POINTER(c_int)],
-    "thread_ask": [_THREAD, POINTER(c_uint64)],
     "thread_end": [_THREAD],
-    "thread_try_enter": [_THREAD, c_uint32],
     "thread_exit": [_THREAD, c_uint32],
     "thread_load": [_THREAD, c_uint32, POINTER(c_uint64)],
     "thread_store": [_THREAD, c_uint32, c_uint64],
-    "thread_notify": [_THREAD, c_uint32, POINTER(c_uint32)],
-    "thread_notify_all": [_THREAD, c_uint32, POINTER(c_uint64)],
+    "thread_revert": [_THREAD],
+    "thread_notify": [_THREAD, c_uint32, c_bool, POINTER(c_uint64)],
     "thread_take": [_THREAD, c_uint32, c_uint32, POINTER(c_uint32)],
     "thread_give": [_THREAD, c_uint32, c_uint32, c_uint32],
-    "thread_revert": [_THREAD],
-}
-_TELLING: dict[str, tuple[list[Any], Any]] = {
-    "version": ([], c_uint32),
-    "heap_message": ([], c_char_p),
-    "heap_error": ([], c_int),
-    "pool_fields": ([c_uint32, POINTER(FieldRow), c_size_t], c_uint32),
-    "thread_lane": ([_THREAD], c_uint32),
-    "thread_earlier": ([_THREAD], c_uint64),
-    "thread_sections": ([_THREAD], c_uint64),
-    "thread_durable": ([_THREAD], c_uint64),
+    "thread_progress": [_THREAD, POINTER(ProgressRow)],
+    "thread_event": [_THREAD, POINTER(c_int)],
+    "thread_ask": [_THREAD, POINTER(c_uint64)],
+    "pool_fields": [c_uint32, POINTER(FieldRow), c_size_t],
 }
 
 
@@ -203,31 +158,54 @@ class Library:
 
     def __init__(self, path: str) -> None:
         try:
-            lets_go, keeps = ctypes.CDLL(path), ctypes.PyDLL(path)
+            releases, keeps = ctypes.CDLL(path), ctypes.PyDLL(path)
         except OSError as error:
             raise NoLibrary(path, f"the shared library can't be loaded: {error}", CURE) from error
         self.path = path
-        for name, (takes, answers) in _TELLING.items():
-            self._declare(keeps, name, takes, answers)
+        self.version = self._call(keeps, "version", [])
         version = self.version()
-        if version != VERSION:
-            raise NoLibrary(path, f"the library's version is {version}, and this package's {VERSION}", "take both from one release")
+        if version < VERSION:
+            raise NoLibrary(path, f"the library's version is {version}, and this package needs {VERSION}", "take both from one release")
         for name, takes in _SLEEPING.items():
-            self._declare(lets_go, name, takes, c_uint32)
+            setattr(self, name, self._call(releases, name, takes))
         for name, takes in _SHORT.items():
-            self._declare(keeps, name, takes, c_uint32)
+            setattr(self, name, self._call(keeps, name, takes))
+        # With a deadline of 0 it never sleeps.
+        self.try_enter = self._call(keeps, "thread_enter_until", _SLEEPING["thread_enter_until"])
+        self.heap_failure = self._call(keeps, "heap_failure", [POINTER(FailureRow)], c_char_p)
+        self.status_text = self._call(keeps, "status_text", [c_uint32], c_char_p)
 
     def __getattr__(self, name: str) -> Any:
         raise AttributeError(f"the library has no call zelamiku_{name}")
 
-    def _declare(self, of: ctypes.CDLL, name: str, takes: list[Any], answers: Any) -> None:
+    def _call(self, of: ctypes.CDLL, name: str, takes: list[Any], returns: Any = c_uint32) -> Any:
         try:
             call = getattr(of, f"zelamiku_{name}")
         except AttributeError:
             raise NoLibrary(self.path, f"the library has no zelamiku_{name}", "take both from one release") from None
         call.argtypes = takes
-        call.restype = answers
-        setattr(self, name, call)
+        call.restype = returns
+        return call
+
+    def failure(self, status: int) -> FailureRow:
+        """The failure of this thread's last call, which has returned this status."""
+        row = FailureRow()
+        self.heap_failure(byref(row))
+        if row.status != status:
+            # A signal's handler has made another call meanwhile.
+            row = FailureRow(status=status, object=NO_NUMBER, field=NO_NUMBER, cause=self.status_text(status), cure=b"")
+        return row
+
+    def error(self, path: str, row: FailureRow, also: Mapping[int, type[Error]] = {}, about: str = "") -> Error:
+        """The exception for a failure. ``also`` has kinds before :data:`KINDS`."""
+        kind = also.get(row.status) or KINDS.get(row.status, Refused)
+        cure = CURES.get(kind) or row.cure.decode(errors="replace") or ("close the heap and open it again" if issubclass(kind, Stopped) else "try again")
+        cause = about + row.cause.decode(errors="replace")
+        if not row.error:
+            return kind(path, cause, cure)
+        error = kind(path, f"{cause}: {os.strerror(row.error)}", cure)
+        error.__cause__ = OSError(row.error, os.strerror(row.error), path)
+        return error
 
 
 CURE = f"name the folder that has {NAME} in the variable ZELAMIKU_LIBS, or install it so that pkg-config finds zelamiku"
@@ -235,7 +213,7 @@ CURE = f"name the folder that has {NAME} in the variable ZELAMIKU_LIBS, or insta
 
 @functools.cache
 def library() -> Library:
-    """The library, loaded once. :class:`NoLibrary` where it isn't found."""
+    """The library, loaded once. :class:`NoLibrary`: it wasn't found."""
     for path in places():
         if path.is_file():
             return Library(str(path))
@@ -244,7 +222,7 @@ def library() -> Library:
 
 
 def places() -> Iterator[Path]:
-    """Where the library may be: a folder of the variable ZELAMIKU_LIBS (with ``:`` between them), this package's own, pkg-config's."""
+    """Where the library may be: the folders in the variable ZELAMIKU_LIBS (``:`` between them), this package's own, pkg-config's."""
     for folder in os.environ.get("ZELAMIKU_LIBS", "").split(os.pathsep):
         if folder:
             yield Path(folder, NAME)
@@ -254,7 +232,7 @@ def places() -> Iterator[Path]:
 
 
 def _asked_of_pkg_config() -> str:
-    import subprocess  # which few need, and takes its time
+    import subprocess  # most programs don't need it, and it takes its time
 
     words = ["pkg-config", "--variable=libdir", "zelamiku"]
     try:

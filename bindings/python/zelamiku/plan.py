@@ -1,14 +1,11 @@
-"""What an opening declares, numbered as the file has it: objects in the order of their names, and each one's fields in that of its class."""
+"""What an opening declares, numbered as in the file: objects in the order of their names, and each one's fields in the order of its class."""
 from __future__ import annotations
 
-import itertools
 from collections.abc import Iterator, Mapping, Sequence
 from dataclasses import dataclass
-from typing import TypeVar, Union
+from typing import Union
 
 from .declare import MOST, Member, Object
-
-T = TypeVar("T")
 
 Declared = Union[type[Object], Sequence[type[Object]]]
 """What a name of :func:`zelamiku.open` stands for: an object of a class, or several."""
@@ -38,12 +35,12 @@ class Plan:
     """The objects and fields that are declared."""
 
     def __init__(self, declared: Mapping[str, Declared]) -> None:
-        self._declared = {name: each if isinstance(each, type) else tuple(each) for name, each in declared.items()}
         self.objects: list[PlannedObject] = []
         self.fields: list[PlannedField] = []
         self.places: dict[str, int | range] = {}
         """Of each name: the number of its object, or those of its objects."""
-        for name, one_or_more in self._declared.items():
+        self._count = 0
+        for name, one_or_more in declared.items():
             first = len(self.objects)
             if isinstance(one_or_more, type):
                 self.places[name] = first
@@ -59,13 +56,10 @@ class Plan:
     def _add_object(self, name: str, cls: type[Object]) -> None:
         if not (isinstance(cls, type) and issubclass(cls, Object)):
             raise TypeError(f"{name}: a subclass of zelamiku.Object is wanted, and not {cls!r}")
-        last = self.objects[-1] if self.objects else None
-        begin = last.numbers[_END] if last else 0
         numbers = {}
         for key, member in cls._members.items():
-            numbers[key] = begin
-            begin += member.size
-        numbers[_END] = begin
+            numbers[key] = self._count
+            self._count += member.size
         self.objects.append(PlannedObject(name, cls, numbers))
 
     def _planned(self, number: int, member: Member) -> Iterator[PlannedField]:
@@ -80,9 +74,9 @@ class Plan:
         return place
 
     def fingerprint(self) -> int:
-        """The number of the names of all objects and then of all fields, in their order; 0 where there is no room for it.
+        """The number of the names of all objects and then of all fields, in their order; 0: the heap has no room for it.
 
-        It is the 64 bits of FNV-1a, over the names in UTF-8 with a byte ff between two. Of names that give 0 it is 1.
+        It is FNV-1a of 64 bits, over the names in UTF-8 with a byte ff between two; 1 for names that give 0.
         """
         if len(self.fields) >= _MOST_FIELDS:
             return 0
@@ -92,15 +86,15 @@ class Plan:
         return number or 1
 
     def difference(self, what: int, field: int, has: int, planned: int) -> str:
-        """In what the file's heap differs, by name: the numbers are those of a zelamiku_report."""
+        """How the file's heap differs, by name. The numbers are those of a zelamiku_report."""
         if what == _LANES:
             return f"it has {has} lanes, and {planned} are asked for"
         if what == _OBJECTS:
-            return f"it has {has} objects, and declared are {planned}: {self._list_objects()}"
+            return f"it has {has} objects, and {planned} are declared"
         if what == _COUNT:
-            return f"it has {has} fields (a fingerprint counts as one), and declared are {planned}: {self._list_fields()}"
+            return f"it has {has} fields (a fingerprint counts as one), and {planned} are declared"
         if what == _FINGERPRINT:
-            return f"it was made with other names or in another order, of fingerprint {has:#x} and not {planned:#x}{self._swapped(has)}"
+            return f"it was made with other names or in another order, of fingerprint {has:#x} and not {planned:#x}"
         return f"{self.fields[field].name} (field {field}): {self._row_difference(what, has, planned)}{self._hint(what, field, has)}"
 
     def _row_difference(self, what: int, has: int, planned: int) -> str:
@@ -112,7 +106,7 @@ class Plan:
         return f"there it is {kinds[has != 0]}, and declared as {kinds[planned != 0]}"
 
     def _hint(self, what: int, field: int, has: int) -> str:
-        """A fingerprint is the last field of its heap, a transient one of object 0, which guards it."""
+        """A fingerprint is the last field of its heap: transient, and of object 0, which guards it."""
         is_like_one = field + 1 == len(self.fields) and (what == _MARK) == (has != 0)
         return f", or it is the fingerprint of a heap of {field} fields" if is_like_one else ""
 
@@ -125,63 +119,12 @@ class Plan:
             return f"declare the same names in the same order; if you have only renamed some, open it with fingerprint={has:#x}"
         return "declare what the file has, or choose another path"
 
-    def _swapped(self, fingerprint: int) -> str:
-        """Tells two objects or two fields that have this fingerprint if they are declared the other way round. Of a large plan it looks at
-        as many as can be tried in a moment."""
-        tries = _MOST_TRIED // (len(self.fields) + 1)
-        for first, second, plan in itertools.islice(self._swaps(), tries):
-            if plan.fingerprint() == fingerprint:
-                return f": {first} and {second} the other way round"
-        return ""
-
-    def _swaps(self) -> Iterator[tuple[str, str, Plan]]:
-        """The plan with two objects, or two members of a class, in each other's place."""
-        for declared, first, second in _swaps(self._declared):
-            yield first, second, Plan(declared)
-        for cls in dict.fromkeys(each.cls for each in self.objects):
-            for members, first, second in _swaps(cls._members):
-                other = type(cls)(cls.__name__, (Object,), members)
-                declared = {name: self._with(each, cls, other) for name, each in self._declared.items()}
-                yield f"{cls.__name__}.{first}", f"{cls.__name__}.{second}", Plan(declared)
-
-    @staticmethod
-    def _with(declared: Declared, cls: type[Object], other: type[Object]) -> Declared:
-        if isinstance(declared, type):
-            return other if declared is cls else declared
-        return [other if each is cls else each for each in declared]
-
     def _object(self, number: int) -> str:
         return f"object {number} ({self.objects[number].name})" if number < len(self.objects) else f"object {number}"
 
-    def _list_objects(self) -> str:
-        return _few([name if isinstance(place, int) else f"{len(place)} in {name}" for name, place in self.places.items()])
-
-    def _list_fields(self) -> str:
-        counts: dict[str, int] = {}
-        for planned in self.fields:
-            counts[self.objects[planned.owner].name] = counts.get(self.objects[planned.owner].name, 0) + 1
-        return _few([f"{count} of {name}" for name, count in counts.items()])
-
-
-# The place after the last field of an object, among its numbers: no member has that name.
-_END = ""
 
 # ZELAMIKU_DIFFERENT_..
 _LANES, _OBJECTS, _COUNT, _OWNER, _GUARD, _MARK, _FINGERPRINT = range(1, 8)
 
 _MOST_FIELDS = 16_384
 """A heap's, of which a fingerprint takes one."""
-_MOST_TRIED = 20_000
-"""How many fields are hashed, at most, to find out which names were swapped."""
-
-
-def _swaps(of: Mapping[str, T]) -> Iterator[tuple[dict[str, T], str, str]]:
-    """The mapping with two of its keys in each other's place, and these keys."""
-    for first, second in itertools.combinations(of, 2):
-        other = {first: second, second: first}
-        names = [other.get(name, name) for name in of]
-        yield {name: of[name] for name in names}, first, second
-
-
-def _few(names: list[str]) -> str:
-    return ", ".join(names) if len(names) <= 8 else ", ".join([*names[:7], f"and {len(names) - 7} more"])

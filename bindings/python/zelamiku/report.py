@@ -43,15 +43,15 @@ class Report:
     size: int
     """How many bytes the heap has."""
     lanes: int
-    """How many threads may use it at once. The helper's lane is left out, here and below."""
+    """How many threads may use it at once. The helper's lane is left out here and below."""
     capacity: int
     """How many records a lane's log holds."""
     kept: tuple[int, ...]
     """How many sections of each lane were kept, since the opening before."""
     dropped: tuple[Dropped, ...]
-    """Those that weren't, by lane and then by number."""
+    """The sections that weren't kept, by lane and then by number."""
     undone: int
-    """How many fields took an old value back, where a section was dropped; 0 where none was."""
+    """How many fields got an old value back; 0 if no section was dropped."""
 
 
 @dataclass(frozen=True)
@@ -63,16 +63,16 @@ class Wait:
     object: Object
     """Whose monitor it is."""
     owner: int | None
-    """The lane of the thread that has the monitor. None: it has just been given back."""
+    """The lane of the thread that has the monitor. None: no thread has it now, or it isn't known."""
     in_circle: bool
-    """Whether it is one of threads that wait for each other, in a circle: none of them will go on."""
+    """Whether it waits in a circle of threads, none of which can go on."""
 
 
 class Cause(enum.Enum):
     """Why a round came."""
 
     NONE = 0
-    """There was none yet."""
+    """No round has come yet."""
     AWAITED = 2
     """A thread waits until its sections are durable."""
     ROOM = 3
@@ -86,32 +86,32 @@ class Cause(enum.Enum):
     CLOSING = 7
     """The heap was being closed."""
     LEFT = 8
-    """The last one had left records, for its bound."""
+    """The last one has reached its bound and left records."""
 
 
 @dataclass(frozen=True)
 class Stats:
-    """Counts since the opening, of moments close to each other. Times are seconds."""
+    """Counts since the opening, at moments close to each other. Times are seconds."""
 
     rounds: int
-    """Rounds that have ended, also those of which a call failed."""
+    """Rounds that have ended, also those with a failed call."""
     sections: int
     """Sections that are durable."""
     records: int
     """Records that rounds took."""
     calls: int
-    """Calls that were made on the file, syncs among them."""
+    """Calls on the file, with the syncs."""
     syncs: int
     troubles: int
-    """Rounds of which a write failed."""
+    """Rounds with a failed write."""
     calls_time: float
     """In the calls of all rounds."""
     longest_round: float
     """From its first record to its last call."""
     two_sync_rounds: int
-    """Rounds whose calls, which are all made, had two syncs."""
+    """Rounds with two syncs, all their calls made."""
     four_sync_rounds: int
-    """And four: the heap has no lane for the helper (see :func:`open`), or what the round has changed has no room in it."""
+    """With four: the heap has no lane for the helper (see :func:`open`), or that lane has no room for what the round changed."""
     lent: int
     """Lanes in use."""
     awaiting: int
@@ -121,4 +121,4 @@ class Stats:
     last_cause: Cause
     """Why the last round came."""
     is_astray: bool
-    """The path doesn't lead to the heap's file any more: it was removed or replaced. What is stored goes on into a file without that name."""
+    """The path doesn't lead to the heap's file any more, which was removed or replaced. Stores go into a file without a name: make a copy."""

@@ -23,7 +23,7 @@ class _Watch:
 
 
 class Tasks:
-    """Those that wait for sections of one thread. The loop that runs there watches the event of its lane while some wait."""
+    """The tasks that wait for one thread's sections. While some wait, each loop that runs there watches the event of the thread's lane."""
 
     def __init__(self, link: Link, lane: Lane) -> None:
         self._link = link
@@ -34,13 +34,13 @@ class Tasks:
 
     def durable(self) -> asyncio.Future[None]:
         """A future of the running loop, done once all is durable that the thread has ended by now."""
-        # Whose program has a running loop has it by now; to others it would be a tenth of a second.
+        # A program with a running loop has imported it; for others it would take a tenth of a second.
         import asyncio
 
         loop = asyncio.get_running_loop()
         watch = self._watches.get(loop) or self._watch(loop)
         future = loop.create_future()
-        self._waiting.append((self._lane.ended(), future))
+        self._waiting.append((self._lane.progress().sections, future))
         if not watch.asks_soon:
             # Once for all tasks that run before the loop waits for events.
             watch.asks_soon = True
@@ -48,8 +48,6 @@ class Tasks:
         return future
 
     def _watch(self, loop: asyncio.AbstractEventLoop) -> _Watch:
-        for closed in [each for each in self._watches if each.is_closed()]:
-            del self._watches[closed]
         event = c_int()
         status = self._link.calls.thread_event(self._lane.handle, byref(event))
         if status != OK:
@@ -59,7 +57,7 @@ class Tasks:
         return watch
 
     def _look(self, watch: _Watch) -> None:
-        """Tells those whose sections are durable, and all where it went wrong. Asks for the others' sections."""
+        """Wakes the tasks whose sections are durable, and all after a failure. Asks for the others' sections."""
         watch.asks_soon = False
         count = c_uint64()
         status = self._link.calls.thread_ask(self._lane.handle, byref(count))
@@ -69,18 +67,15 @@ class Tasks:
         while waiting and status != OK:
             _settle(waiting.popleft()[1], self._link.error(status))
         if not waiting:
-            self._watch_no_more()
-
-    def _watch_no_more(self) -> None:
-        """So no loop keeps the lane, whose event is closed with it."""
-        watches, self._watches = self._watches, {}
-        for loop, watch in watches.items():
-            if not loop.is_closed():
-                loop.remove_reader(watch.event)
+            # So no loop keeps the lane, whose event is closed with it.
+            watches, self._watches = self._watches, {}
+            for loop, each in watches.items():
+                if not loop.is_closed():
+                    loop.remove_reader(each.event)
 
 
 def _settle(future: asyncio.Future[None], error: Error | None) -> None:
-    # One that was cancelled waits no more, nor does one whose loop was closed.
+    # A task that was cancelled, or whose loop was closed, waits no more.
     if future.done() or future.get_loop().is_closed():
         return
     if error is None:
