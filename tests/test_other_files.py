@@ -5,12 +5,13 @@ why and of which file, in 64 MB of address space and ten seconds, and keep every
 and `drive` make an image. A link to an image stays, and what it leads to is replaced. Of an image whose control is damaged each slot is
 told.
 
-Block devices, which end where the image does or later: `show`, `dump` and `get` print what they do of a file of these bytes; each other
-word is refused, names the device, and leaves every byte.
+Block devices, which end where the image does or later: each word prints what it does on a file of these bytes, and changes no byte behind
+the image; but for `run` and `set`, and `format` over what isn't zeros, which are refused, name the device, and leave every byte. On zeros
+`format` and `drive` make an image in place.
 
-Lost blocks: an image in one place whose file reads what its disk hasn't, as the system leaves one where a write has failed: all its blocks
-are lost beneath an ext4 of blocks of 1,024 bytes. `recover`, `upgrade` and `drive` write them back, so that the image is whole once the
-file system was mounted again.
+Lost gates: an image in one place whose file reads a gate that its disk hasn't, as the system leaves one where a sync has failed: it is
+changed beneath an ext4 of blocks of 1,024 bytes. `recover`, `upgrade` and `drive` write it again, so that the image is whole once the file
+system was mounted again. They write no more than their gates, their fields and a control: a sparse file stays sparse.
 
 Lost names: an image whose rename no sync has made durable, as a maker leaves it that was killed before it synced the folder. `recover`,
 `upgrade` and `drive` make the name durable: what they have told is at the path after a power cut, which leaves what the disk was given.
@@ -234,33 +235,56 @@ class Blocks(InFolder):
     def test_an_image_in_two_places(self):
         self.try_blocks(" --sectors 4096")
 
+    def on_device(self, *texts):
+        """What these words did on a block device of the image's bytes, as if on the image, and the bytes then."""
+        device = loop_device(self.image)
+        if device is None:
+            self.skipTest("no loop device")
+        try:
+            ran = [self.play(text.replace("{image}", device), OVER) for text in texts]
+        finally:
+            subprocess.run(["losetup", "--detach", device], check=True)
+        return [each._replace(told=each.told.replace(device, str(self.image))) for each in ran], bytes_of(self.image)
+
     def try_blocks(self, sectors):
+        self.put(None)
+        self.play(WORDS["format"] + sectors)
+        made = self.image.read_bytes()
         for more in (0, 5 * PAGE):
-            self.put(None)
-            self.play(WORDS["format"] + sectors)
-            os.truncate(self.image, (self.image.stat().st_size + PAGE - 1) // PAGE * PAGE + more)
-            device = loop_device(self.image)
-            if device is None:
-                self.skipTest("no loop device")
-            try:
-                for word, text in WORDS.items():
-                    for _ in range(tries(1)):
-                        self.count(words_on_block_devices=1)
-                        self.fault(self.fault_of(word, text, device), word=word, more=more)
-            finally:
-                subprocess.run(["losetup", "--detach", device], check=True)
+            image = made + bytes(-len(made) % PAGE + more)
+            for word, text in WORDS.items():
+                for _ in range(tries(1)):
+                    self.count(words_on_block_devices=1)
+                    self.image.write_bytes(image)
+                    (ran,), left = self.on_device(text)
+                    self.image.write_bytes(image)
+                    self.fault(self.fault_of(word, text, ran, left, image), word=word, more=more)
 
-    def fault_of(self, word, text, device):
-        ran, before = self.play(text.replace("{image}", device), OVER), bytes_of(self.image)
-        if word in ("show", "dot", "dump", "get"):
-            is_so = ran == (0, self.play(text).out, "") and len(ran.out) > 0
-        else:
+    def fault_of(self, word, text, ran, left, image):
+        if word.startswith(("run", "set", "format")):
             lines = ran.told.splitlines()
-            is_so = ran.status == 1 and len(lines) == 2 and lines[1].startswith(f"heapctl: {device}: it is a block device")
-        return None if is_so and bytes_of(self.image) == before else ran
+            is_so = ran.status == 1 and len(lines) == 2 and lines[1].startswith(f"heapctl: {self.image}: it is a block device")
+            return None if is_so and left == image else ran
+        return None if ran == self.play(text, OVER) and left == bytes_of(self.image) else ran
+
+    def test_a_making_in_place(self):
+        for text in (WORDS["format"], WORDS["format"] + " --sectors 4096", WORDS["drive"]):
+            self.put(None)
+            self.play(text)
+            size = self.image.stat().st_size
+            # room for it; too little; and a byte within it, or behind it, that isn't zero
+            for room, byte in ((size, None), (size - PAGE, None), (size, size - 1), (size + PAGE, size)):
+                zeros = bytearray((room + PAGE - 1) // PAGE * PAGE)
+                if byte is not None:
+                    zeros[byte] = 1
+                self.image.write_bytes(zeros)
+                (ran, shown), left = self.on_device(text, WORDS["show"])
+                is_made = byte in (None, size) and room >= size
+                is_so = ran.status == shown.status == 0 and left[size:] == zeros[size:] if is_made else ran.status == 1 and left == zeros
+                self.fault(None if is_so else (ran, shown), text=text, room=room, byte=byte)
 
 
-FIBMAP, BLOCK = 1, 1024
+FIBMAP, BLOCK, GATES = 1, 1024, (8, *CONTROLS)
 
 
 @needs_root
@@ -277,7 +301,7 @@ class Stale(InFolder):
         disk, there = self.folder / "disk", self.folder / "there"
         there.mkdir()
         self.image = there / "image"
-        for number in range(tries(1)):
+        for gate in GATES * tries(1):
             with open(disk, "wb") as file:
                 file.truncate(8 << 20)
             subprocess.run(["mkfs.ext4", "-q", "-F", "-b", f"{BLOCK}", disk], check=True)
@@ -285,21 +309,35 @@ class Stale(InFolder):
                 self.image.write_bytes(image)
                 os.sync()
                 bytes_of(self.image)
-                self.lose_blocks(disk)
+                self.lose(disk, gate)
                 ran, told = self.play(text), heap_of(self.image)
             with mounted(there, "-o", "loop", disk):
                 found = heap_of(self.image)
-            self.count(disks_that_lost_blocks=1)
+            self.count(disks_that_lost_gates=1)
             is_so = ran.status == 0 and found is not None and found == told
-            self.fault(None if is_so else f"{ran}: the heap was {told}, and is {found} once it was mounted again", number=number)
+            self.fault(None if is_so else f"{ran}: the heap was {told}, and is {found} once it was mounted again", gate=gate)
 
-    def lose_blocks(self, disk):
-        """Beneath the file system, so that its cache still has them."""
+    def lose(self, disk, gate):
+        """The gate, beneath the file system, so that its cache still has it."""
         with open(self.image, "rb") as file, open(disk, "r+b") as under:
-            for number in range((self.image.stat().st_size + BLOCK - 1) // BLOCK):
-                (there,) = struct.unpack("i", fcntl.ioctl(file, FIBMAP, struct.pack("i", number)))
-                under.seek(there * BLOCK)
-                under.write(bytes(BLOCK))
+            (there,) = struct.unpack("i", fcntl.ioctl(file, FIBMAP, struct.pack("i", gate // BLOCK)))
+            under.seek(there * BLOCK + gate % BLOCK)
+            under.write(bytes(1))
+
+
+@each({"recover": WORDS["recover"], "upgrade": WORDS["upgrade"]})
+class Sparse(InFolder):
+    def check(self, word, text):
+        self.put(None)
+        self.play(WORDS["format"] + " --capacity 100000")
+        sparse = self.folder / "sparse"
+        subprocess.run(["cp", "--sparse=always", self.image, sparse], check=True)
+        sparse.rename(self.image)
+        before = self.image.stat().st_blocks
+        ran = self.play(text)
+        after, whole = self.image.stat().st_blocks, self.image.stat().st_size // 512
+        self.count(sparse_files=1)
+        self.fault(None if ran.status == 0 and after - before <= 64 and before < whole // 2 else (ran, before, after, whole))
 
 
 @needs_root

@@ -1,3 +1,4 @@
 pub mod Again
 pub mod Spans
 pub mod Unwritten
+pub mod WrittenBack

@@ -1,9 +1,9 @@
 -- Lists of ranges, one of which is replaced, or that get one more.
-use Rattle.std.proofs.Common.{◌≡◌, ℕ, zero, suc, ◌+◌, ◌<◌, ◌≤◌, List, [], ◌∷◌, ◌++◌, length, get_or, arith, Option}
+use Rattle.std.proofs.Common.{◌≡◌, ℕ, zero, suc, ◌+◌, ◌<◌, ◌≤◌, List, [], ◌∷◌, ◌++◌, length, get_or, refl, arith, Option}
 use Rattle.std.proofs.Math.ListN.{set}
-use Rattle.disk_file.specs.Backing.{Held, Has, HasBut}
+use Rattle.disk_file.specs.Backing.{Held, Reads, ReadsBut}
 use Rattle.block_disk.specs.Device.{Range, IsOutside, IsClear}
-use Rattle.disk_file.proofs.Again.{has_all}
+use Rattle.disk_file.proofs.Again.{reads_all}
 use Rattle.disk_file.specs.Buffered.{AllWithin, LastCovers}
 
 -- clear of all is clear of each
@@ -39,10 +39,15 @@ pub clear_push : (i : ℕ) (rs : List Range) (r : Range) → IsOutside i r → I
 clear_push i [] r out clear = (out, tt)
 clear_push i (s ∷ rs) r out clear = (clear.0, clear_push i rs r out clear.1)
 
--- with no ranges left a file has the bytes
-pub has_empty : (rs : List Range) (bytes : List ℕ) (file : Option Held) → length rs ≡ 0 → HasBut rs bytes file → Has bytes file
-has_empty [] bytes file empty near = has_all bytes file near
-has_empty (r ∷ rs) bytes file empty near = absurd (omega (arith, empty))
+-- with no ranges left a file reads the bytes
+pub reads_empty : (rs : List Range) (bytes : List ℕ) (file : Option Held) → length rs ≡ 0 → ReadsBut rs bytes file → Reads bytes file
+reads_empty [] bytes file empty near = reads_all bytes file near
+reads_empty (r ∷ rs) bytes file empty near = absurd (omega (arith, empty))
+
+-- none are left
+pub none_left : (rs : List Range) → length rs ≡ 0 → rs ≡ []
+none_left [] empty = refl
+none_left (r ∷ rs) empty = absurd (omega (arith, empty))
 
 -- all but the first lie within
 pub within_rest : (size : ℕ) (r : Range) (rs : List Range) → AllWithin size (r ∷ rs) → AllWithin size rs

@@ -1,7 +1,7 @@
 -- Disks whose bytes reach a file at each sync, or at each write (this project's own).
-use Rattle.std.specs.Prelude.{◌≡◌, ℕ, Bool, false, ◌+◌, ◌≤◌, List, [], ◌∷◌, ◌++◌, All, IsTrue, length, Option, if◌then◌else◌}
+use Rattle.std.specs.Prelude.{◌≡◌, ℕ, Bool, ◌+◌, ◌≤◌, List, [], ◌∷◌, ◌++◌, All, IsTrue, length, Option, if◌then◌else◌}
 use Rattle.block_disk.specs.Device.{Range, Device, IsClear, IsOutside}
-use Rattle.disk_file.specs.Backing.{Held, Has, HasBut, IsPendingIn}
+use Rattle.disk_file.specs.Backing.{Held, IsPendingIn, ReadsBut}
 
 -- the range lies within a disk of this size
 abbrev pub IsWithin : ℕ → Range → Type 0
@@ -51,18 +51,14 @@ TakesBoth last start len both = (i : ℕ) → IsOutside i both → IsOutside i l
 abbrev pub TakesNoMore : (last : Range) → (start len : ℕ) → Range → Type 0
 TakesNoMore last start len both = (i : ℕ) → IsOutside i last → IsOutside i (record { start = start; len = len }) → IsOutside i both
 
--- The bytes are those that the device reads. Those that may not be in the file are pending, and the file reads the others, and keeps them.
+-- The bytes are those that the device reads. Those that may not be in the file are pending, and the file reads the others.
 pub record IsBuffered (d : Device) (bytes : List ℕ) (unwritten : List Range) (file : Option Held) : Type 0 where
   pub reads : d.now.bytes ≡ bytes
   pub within : AllWithin (length bytes) unwritten
-  pub near : HasBut unwritten bytes file
+  pub near : ReadsBut unwritten bytes file
   pub waits : IsPendingIn unwritten file
-  pub pending : (i : ℕ) → IsClear i d.now.pending → IsClear i unwritten
-
--- The file has all of the bytes, unless a call of it has failed since the last sync.
-pub record IsMirrored (behind : Bool) (d : Device) (bytes : List ℕ) (written : List Range) (file : Option Held) : Type 0 where
-  pub buffered : IsBuffered d bytes written file
-  pub current : behind ≡ false → Has bytes file
+  pub pending : Covers d.now.pending unwritten
+  pub exact : Covers unwritten d.now.pending
 
 -- The file is brought up to the bytes at the next sync; the range written last can be lengthened.
 pub record IsDeferred (d : Device) (bytes : List ℕ) (unwritten : List Range) (file : Option Held) : Type 0 where

@@ -1,6 +1,6 @@
 //! The file that a disk writes to.
-ghost use Rattle.std.specs.Prelude.{◌≡◌, Option, None, length, OnOk, OnErr, IfOk, IfSome, option_map};
-ghost use Rattle.disk_file.specs.Backing.{GivesPart, Held, TornFile, Unsettled, emptied, put_at, settled};
+ghost use Rattle.std.specs.Prelude.{◌≡◌, [], ◌∷◌, Option, None, length, OnOk, OnErr, IfOk, IfSome, option_map};
+ghost use Rattle.disk_file.specs.Backing.{GivesPart, HasWrittenBack, Held, MayLose, TornFile, byte_at, Unsettled, emptied, put_at, settled};
 
 use std::fs::{File, TryLockError};
 use std::io;
@@ -19,7 +19,7 @@ pub enum Claim {
 /// A file that a disk keeps its bytes in. Places and lengths count bytes, from 0.
 ///
 /// What a file of the system holds is not known: of a [`File`] the contract claims nothing. A file in memory can say
-/// what it holds, and then a [`FileDisk`](crate::FileDisk) over it says so too.
+/// what it holds, and then a [`BufferedDisk`](crate::BufferedDisk) over it says so too.
 ///
 /// What a file reads needn't be what its device has, where another process has had the file before: after a sync that failed the system may take
 /// bytes for written that never were. They reach the device where they are written again and synced.
@@ -48,6 +48,14 @@ pub trait BackingFile {
             ≡ option_map (put_at at bytes.now) (holds self.old)) }
         ensures err { OnErr result (TornFile at (length bytes.now) (holds self.old)
             (holds self.new)) };
+
+    /// Writes the byte at this place again, with the value that the file reads there. After an error the file may read any byte there.
+    ///
+    /// The premise on which openings rest is stated here, and of this call alone: a byte that the device has isn't lost where it is written
+    /// again with its own value (docs/FORMAT.md, "What the device keeps").
+    fn write_back(&mut self, at: u64) -> io::Result<()>
+        ensures ok { OnOk result (HasWrittenBack at (holds self.old) (holds self.new)) }
+        ensures err { OnErr result (MayLose (byte_at at ∷ []) (holds self.old) (holds self.new)) };
 
     /// Makes what was written, and the file's length, durable. What was only found isn't written by it.
     fn settle(&mut self) -> io::Result<()>
@@ -82,6 +90,12 @@ impl BackingFile for File {
 
     fn write_to(&mut self, at: u64, bytes: &[u8]) -> io::Result<()> {
         write_there(self, at, bytes)
+    }
+
+    fn write_back(&mut self, at: u64) -> io::Result<()> {
+        let mut byte = [0];
+        read_there(self, at, &mut byte)?;
+        write_there(self, at, &byte)
     }
 
     fn settle(&mut self) -> io::Result<()> {

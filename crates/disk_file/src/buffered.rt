@@ -1,8 +1,9 @@
 //! A disk whose bytes reach a file at each sync.
-ghost use Rattle.std.specs.Prelude.{◌≡◌, ◌+◌, ◌*◌, ◌<◌, ◌≤◌, length, replicate, IfOk, IfSome, IsErrOf, IsOk, OnErr, OnOk};
+ghost use Rattle.std.specs.Prelude.{◌≡◌, ◌+◌, ◌++◌, ◌*◌, List, ◌<◌, ◌≤◌, length, replicate, IfOk, IfSome, IsErrOf, IsOk, OnErr, OnOk};
 ghost use Rattle.block_disk.specs.Bytes.{part};
-ghost use Rattle.disk_file.specs.Backing.{CrashesAs, Has, HasBut, IsPendingIn, Mends, ReadsForGood, StaysBut, WaitsWithin};
-ghost use Rattle.block_disk.specs.Device.{Image, SameMoments, new_device, synced, unit_ranges, written, written_units};
+ghost use Rattle.disk_file.specs.Backing.{CrashesAs, HasFound, IsPendingIn, KeepsAllBut, KeepsStill, Mends, Reads, ReadsBut, ReadsForGood, ReadsSettled, StaysBut, WaitsWithin, bytes_at};
+ghost use Rattle.disk_file.specs.Mirror.{LacksIn, LacksNoMore};
+ghost use Rattle.block_disk.specs.Device.{Image, Range, SameMoments, SameOutside, new_device, synced, unit_ranges, written, written_units};
 ghost use Rattle.block_disk.specs.Since.{CountsOneMore, HasFailedSince, LeavesBut};
 ghost use Rattle.block_disk.specs.declared.error.DiskError.TheVariants.{Fault, OutOfRange};
 ghost use Rattle.disk_file.specs.Buffered.{AllWithin, GoesOn, IsWithin};
@@ -23,9 +24,11 @@ use std::marker::Model;
 /// It takes its bytes, and a range for each run of writes since the last sync: nothing grows with the calls before that.
 ///
 /// A `Fault` is one of the file, or want of memory for one more range. A disk goes on to work after it: the next sync
-/// writes again what was written since the last one that succeeded. What it may claim of a crash rests on the file, as
-/// for a [`FileDisk`](crate::FileDisk): between two syncs each written range may hold any bytes, so a write may as
-/// well reach the file at the sync.
+/// writes again what was written since the last one that succeeded. What it may claim of a crash rests on the file: that
+/// `fdatasync` makes durable what this disk has written before it, and that a write leaves the bytes outside its range
+/// alone. Between two syncs each written range may hold any bytes, so a write may as well reach the file at the sync.
+/// No other process may write the file meanwhile. The folder is never synced, so that a power failure soon after
+/// [`create`](BufferedDisk::create) may leave no file of that name.
 #[derive(Drop)]
 pub struct BufferedDisk<F: BackingFile + Drop> {
     bytes: Vec<u8>,
@@ -65,19 +68,17 @@ impl<F: BackingFile + Drop> BufferedDisk<F> {
         BufferedDisk::filled(alloc, create_file(rt, path)?, size)
     }
 
-    /// The disk whose bytes the file has, as many as its length says.
-    ///
-    /// The file is opened, synced and measured first (`Fault`); then there is memory for the bytes or there isn't
-    /// (`NoMemory`); then they are read, written back and synced (`Fault`).
+    /// The disk whose bytes the file has, as many as its length says. Refused as of [`found`](BufferedDisk::found), and by `Fault` where it
+    /// can't be opened.
     pub fn attach<R: Files<File = F>>(
         rt: &R,
         alloc: Global,
         path: &str,
+        places: &[u64],
     ) -> Result<BufferedDisk<F>, FileError>
         ensures ok { IfOk result (λ disk. disk.device ≡ new_device disk.device.now.bytes) }
-        ensures durable { IfOk result (λ disk. ReadsForGood disk.device.now.bytes disk.file) }
     {
-        BufferedDisk::found(alloc, find_file(rt, path)?)
+        BufferedDisk::found(alloc, find_file(rt, path)?, places)
     }
 
     /// A disk of `size` zero bytes in this file, which is open and whatever it had. Refused as of [`create`](BufferedDisk::create).
@@ -97,15 +98,22 @@ impl<F: BackingFile + Drop> BufferedDisk<F> {
         })
     }
 
-    /// The disk of the bytes in this file, which is open. Refused as of [`attach`](BufferedDisk::attach).
-    pub fn found(alloc: Global, mut file: F) -> Result<BufferedDisk<F>, FileError>
+    /// The disk of the bytes in this file, which is open. Of these only those at the places are written, each with its own value.
+    ///
+    /// The file is synced and measured first (`Fault`); then there is memory for the bytes or there isn't (`NoMemory`); then they are read,
+    /// and the bytes at the places written again and synced (`Fault`).
+    pub fn found(alloc: Global, mut file: F, places: &[u64]) -> Result<BufferedDisk<F>, FileError>
         ensures ok { IfOk result (λ disk. disk.device ≡ new_device disk.device.now.bytes) }
-        // Once a file is open as a disk, a crash leaves what was read of it, whatever became of syncs before.
-        ensures durable { IfOk result (λ disk. ReadsForGood disk.device.now.bytes disk.file) }
         ensures given { IfOk result (λ disk. IfSome (F.holds file)
             (λ h. disk.device.now.bytes ≡ h.reads)) }
+        // Once a file is open as a disk, a crash leaves what was read of it, but for bytes elsewhere than at the places that
+        // its device didn't have.
+        ensures lacks { IfOk result (λ disk. IfSome (F.holds file)
+            (λ h. (stale : List Range) → SameOutside (bytes_at places.now ++ stale) h.reads h.kept.bytes → LacksIn stale disk)) }
+        // Opening a file as a disk writes the bytes at the places, each with its own value, and no others.
+        ensures found { IfOk result (λ disk. HasFound (bytes_at places.now) (F.holds file) disk.file) }
     {
-        let bytes = read_whole(alloc, &mut file)?;
+        let bytes = read_whole(alloc, &mut file, places)?;
         let trace = Trace::of(&bytes);
         Ok(BufferedDisk {
             bytes,
@@ -116,12 +124,13 @@ impl<F: BackingFile + Drop> BufferedDisk<F> {
         })
     }
 
-    /// The file holds at every moment one of the images that a crash may leave.
+    /// The file reads at every moment one of the images that a crash may leave.
     pub fn possible_law(&self)
         // The file reads what a crash of the device might leave now.
         ensures reads { IfSome self.now.file (λ h. Image self.now.device.now h.reads) }
-        // Whatever a crash leaves of the file now is what one of the device may leave.
-        ensures crash { CrashesAs self.now.device.now self.now.file }
+        // Whatever a crash leaves of the file now is what one of the device may leave, but for bytes that the file's device
+        // lacks since before it was opened.
+        ensures crash { (stale : List Range) → LacksIn stale self.now → CrashesAs stale self.now.device.now self.now.file }
     {
         let _ = &self.bytes;
     }
@@ -168,6 +177,8 @@ impl<F: BackingFile + Drop> Disk for BufferedDisk<F> {
         ensures goes_on { GoesOn at self.old.device.now.pending → ¬ IsErrOf result Fault }
         // A write leaves the file as it was.
         ensures file { self.new.file ≡ self.old.file }
+        // What is written isn't lacked: a write leaves no more of what was found to be lacked.
+        ensures lacks { LacksNoMore self.old self.new }
     {
         let size = self.bytes.len();
         if !lies_within(at, bytes.len(), size) {
@@ -196,6 +207,8 @@ impl<F: BackingFile + Drop> Disk for BufferedDisk<F> {
         ensures goes_on { GoesOn at self.old.device.now.pending → IsOk result }
         // A write leaves the file as it was.
         ensures file { self.new.file ≡ self.old.file }
+        // What is written isn't lacked: a write leaves no more of what was found to be lacked.
+        ensures lacks { LacksNoMore self.old self.new }
     {
         let size = self.bytes.len();
         let len = units.len() as u64;
@@ -215,11 +228,12 @@ impl<F: BackingFile + Drop> Disk for BufferedDisk<F> {
         ensures fault { IsErrOf result Fault → SameMoments self.old.device self.new.device }
         ensures cause { IsErrOf result Fault → HasFailedSince self.old.device self.new.device }
         ensures counted { IsErrOf result Fault → CountsOneMore self.old.device self.new.device }
-        // After a sync that succeeds, whatever failed before, the file reads the device's bytes, and has since it was
-        // synced.
-        ensures durable { OnOk result (ReadsForGood self.new.device.now.bytes self.new.file) }
+        // After a sync that succeeds, whatever failed before, the file reads the device's bytes, and nothing is pending.
+        ensures settled { OnOk result (ReadsSettled self.new.device.now.bytes self.new.file) }
+        // A sync brings to the file's device all that was written; of what was only found it lacks no more than before.
+        ensures lacks { LacksNoMore self.old self.new }
     {
-        if flush(&mut self.file, &self.unwritten, &self.bytes).is_err() {
+        if let Err(_error) = flush(&mut self.file, &self.unwritten, &self.bytes) {
             return Err(fail(&mut self.failures));
         }
         self.unwritten.clear();
@@ -232,14 +246,16 @@ impl<F: BackingFile + Drop> Disk for BufferedDisk<F> {
     }
 }
 
-/// Makes the file have these bytes, durably; it has them but for these ranges, in which all lies that is pending.
-pub(crate) fn flush<F: BackingFile>(file: &mut F, spans: &[Span], bytes: &[u8]) -> io::Result<()>
+// Makes the file read these bytes, with nothing pending; it reads them but for these ranges, in which all lies that is pending.
+fn flush<F: BackingFile>(file: &mut F, spans: &[Span], bytes: &[u8]) -> io::Result<()>
     requires within { AllWithin (length bytes.now) spans.now }
-    requires near { HasBut spans.now bytes.now (F.holds file.old) }
+    requires near { ReadsBut spans.now bytes.now (F.holds file.old) }
     requires waits { IsPendingIn spans.now (F.holds file.old) }
-    ensures ok { OnOk result (ReadsForGood bytes.now (F.holds file.new)) }
-    ensures near { OnErr result (HasBut spans.now bytes.now (F.holds file.new)) }
+    ensures ok { OnOk result (ReadsSettled bytes.now (F.holds file.new)) }
+    ensures kept { OnOk result (KeepsAllBut spans.now bytes.now (F.holds file.old) (F.holds file.new)) }
+    ensures near { OnErr result (ReadsBut spans.now bytes.now (F.holds file.new)) }
     ensures waits { OnErr result (IsPendingIn spans.now (F.holds file.new)) }
+    ensures still { OnErr result (KeepsStill spans.now bytes.now (F.holds file.old) (F.holds file.new)) }
 {
     write_spans(file, spans, bytes)?;
     file.settle()
@@ -248,11 +264,13 @@ pub(crate) fn flush<F: BackingFile>(file: &mut F, spans: &[Span], bytes: &[u8]) 
 // Writes these bytes in each of the ranges.
 fn write_spans<F: BackingFile>(file: &mut F, spans: &[Span], bytes: &[u8]) -> io::Result<()>
     requires within { AllWithin (length bytes.now) spans.now }
-    requires near { HasBut spans.now bytes.now (F.holds file.old) }
+    requires near { ReadsBut spans.now bytes.now (F.holds file.old) }
     requires waits { IsPendingIn spans.now (F.holds file.old) }
-    ensures ok { OnOk result (Has bytes.now (F.holds file.new)) }
-    ensures near { OnErr result (HasBut spans.now bytes.now (F.holds file.new)) }
+    ensures ok { OnOk result (Reads bytes.now (F.holds file.new)) }
+    ensures kept { OnOk result (KeepsAllBut spans.now bytes.now (F.holds file.old) (F.holds file.new)) }
+    ensures near { OnErr result (ReadsBut spans.now bytes.now (F.holds file.new)) }
     ensures waits { IsPendingIn spans.now (F.holds file.new) }
+    ensures still { OnErr result (KeepsStill spans.now bytes.now (F.holds file.old) (F.holds file.new)) }
 {
     let mut rest = spans;
     while let Some((first, later)) = rest.split_first() {

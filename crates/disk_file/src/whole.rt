@@ -1,11 +1,9 @@
 //! All bytes of a file.
-ghost use Rattle.std.specs.Prelude.{[], IfOk, OnOk};
-ghost use Rattle.disk_file.specs.Backing.{Appends, Has, Reads, ReadsForGood, ReadsOverAny};
+ghost use Rattle.std.specs.Prelude.{◌≡◌, [], option_map, IfOk, OnOk};
+ghost use Rattle.disk_file.specs.Backing.{Appends, Has, HasFound, HasWrittenBackAll, MayLose, Reads, ReadsForGood, ReadsSettled, bytes_at, settled};
 
 use crate::backing::BackingFile;
-use crate::buffered::flush;
 use crate::error::FileError;
-use crate::span::Span;
 use std::alloc::Global;
 use std::fs::{Files, OpenOptions};
 use std::io;
@@ -62,25 +60,62 @@ fn write_behind<F: BackingFile>(file: &mut F, at: u64, piece: &[u8]) -> io::Resu
     file.write_to(at, piece)
 }
 
-/// The file's bytes, which are written back and synced, so that what is read is what a crash leaves, whatever became of syncs before. It is
-/// synced first, so that a write of another process that has failed is told, and nothing of it is pending.
-pub(crate) fn read_whole<F: BackingFile>(alloc: Global, file: &mut F) -> Result<Vec<u8>, FileError>
-    ensures durable { IfOk result (λ bytes. ReadsForGood bytes.items (F.holds file.new)) }
+/// The bytes of a file that was found. It is synced first, so that a write of another process that has failed is told, and nothing of it is
+/// pending; then the bytes at these places are written again, each with its own value, and it is synced once more.
+pub fn read_whole<F: BackingFile>(
+    alloc: Global,
+    file: &mut F,
+    places: &[u64],
+) -> Result<Vec<u8>, FileError>
     ensures given { IfOk result (λ bytes. Reads bytes.items (F.holds file.old)) }
+    ensures settled { IfOk result (λ bytes. ReadsSettled bytes.items (F.holds file.new)) }
+    // Opening a file writes the bytes at these places, each with its own value, and no others.
+    ensures found { OnOk result (HasFound (bytes_at places.now) (F.holds file.old) (F.holds file.new)) }
+    // However far an opening has come, a crash leaves what it left before, but for bytes at these places that the device
+    // didn't have.
+    ensures loses { MayLose (bytes_at places.now) (F.holds file.old) (F.holds file.new) }
 {
-    file.settle().map_err(fault)?;
-    let len = file.len().map_err(fault)?;
-    let mut bytes = vec![in alloc; 0u8; len as usize].map_err(|_| FileError::NoMemory)?;
-    file.read_from(0, &mut bytes).map_err(fault)?;
-    write_back(file, &bytes).map_err(fault)?;
+    let bytes = match read_all(alloc, file) {
+        Ok(bytes) => bytes,
+        Err(error) => return Err(error),
+    };
+    if let Err(error) = write_back(file, places, bytes.len() as u64) {
+        return Err(fault(error));
+    }
+    if let Err(error) = file.settle() {
+        return Err(fault(error));
+    }
     Ok(bytes)
 }
 
-// Makes these bytes, which the file reads, its device's too.
-fn write_back<F: BackingFile>(file: &mut F, bytes: &[u8]) -> io::Result<()>
-    requires { ReadsOverAny bytes.now (F.holds file.old) }
-    ensures { OnOk result (ReadsForGood bytes.now (F.holds file.new)) }
+// Syncs the file, and reads its bytes.
+fn read_all<F: BackingFile>(alloc: Global, file: &mut F) -> Result<Vec<u8>, FileError>
+    ensures given { IfOk result (λ bytes. Reads bytes.items (F.holds file.old)) }
+    ensures synced { OnOk result (F.holds file.new ≡ option_map settled (F.holds file.old)) }
+    ensures loses { MayLose [] (F.holds file.old) (F.holds file.new) }
 {
-    let all = [Span::new(0, bytes.len() as u64)];
-    flush(file, &all, bytes)
+    if let Err(error) = file.settle() {
+        return Err(fault(error));
+    }
+    let len = file.len().map_err(fault)?;
+    let mut bytes = vec![in alloc; 0u8; len as usize].map_err(|_| FileError::NoMemory)?;
+    file.read_from(0, &mut bytes).map_err(fault)?;
+    Ok(bytes)
+}
+
+// Writes the bytes at these places again, those that lie within so many.
+fn write_back<F: BackingFile>(file: &mut F, places: &[u64], len: u64) -> io::Result<()>
+    ensures ok { OnOk result (HasWrittenBackAll len places.now (F.holds file.old) (F.holds file.new)) }
+    ensures loses { MayLose (bytes_at places.now) (F.holds file.old) (F.holds file.new) }
+{
+    let mut rest = places;
+    while let Some((first, later)) = rest.split_first() {
+        if *first < len {
+            if let Err(error) = file.write_back(*first) {
+                return Err(error);
+            }
+        }
+        rest = later;
+    }
+    Ok(())
 }

@@ -1,8 +1,9 @@
 -- The disk of an image file of either kind, as clauses see it (this project's own).
 use Rattle.std.specs.Int.{div_ceil}
-use Rattle.std.specs.Prelude.{ℕ, List, Option, None, Some, replicate}
-use Rattle.block_disk.specs.Device.{Device}
-use Rattle.disk_file.specs.Backing.{ReadsForGood}
+use Rattle.std.specs.Prelude.{ℕ, List, ◌++◌, Option, None, Some, IfSome, replicate}
+use Rattle.block_disk.specs.Device.{Device, Range, SameOutside}
+use Rattle.disk_file.specs.Backing.{HasFound, Held}
+use Rattle.disk_file.specs.Mirror.{LacksIn}
 use Rattle.disk_sectors.specs.declared.size.SectorSize.{SectorSize}
 use Rattle.disk_sectors.specs.Size.{bytes_in, place_of}
 use Rattle.disk_sector_file.specs.declared.image_disk.ImageDisk.{ImageDisk}
@@ -13,10 +14,15 @@ abbrev pub device_on : {F : Type 0} → ImageDisk F → Device
 device_on (Plain disk) = disk.device
 device_on (Placed disk) = disk.device
 
--- the file's own bytes are what its device has: a crash leaves what the disk reads
-abbrev pub IsKeptAsFound : {F : Type 0} → ImageDisk F → Type 0
-IsKeptAsFound (Plain disk) = ReadsForGood disk.device.now.bytes disk.file
-IsKeptAsFound (Placed disk) = Unit {0}
+-- of what was read of the file in one place, its device lacks no more than it did, without the bytes in these ranges
+abbrev pub LacksAsFound : {F : Type 0} → List Range → (was : Option Held) → ImageDisk F → Type 0
+LacksAsFound places was (Plain disk) = IfSome was (λ h. (stale : List Range) → SameOutside (places ++ stale) h.reads h.kept.bytes → LacksIn stale disk)
+LacksAsFound places was (Placed disk) = Unit {0}
+
+-- of the file in one place only the bytes in these ranges were written
+abbrev pub IsFoundBy : {F : Type 0} → List Range → (was : Option Held) → ImageDisk F → Type 0
+IsFoundBy places was (Plain disk) = HasFound places was disk.file
+IsFoundBy places was (Placed disk) = Unit {0}
 
 -- where it lies in two places, how many bytes a sector of theirs has
 abbrev pub sectors_on : {F : Type 0} → ImageDisk F → Option SectorSize

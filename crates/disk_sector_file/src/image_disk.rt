@@ -1,7 +1,8 @@
 //! The disk of an image file of either kind.
 ghost use Rattle.std.specs.Prelude.{◌≡◌, IfOk};
 ghost use Rattle.block_disk.specs.Device.{new_device};
-ghost use Rattle.disk_sector_file.specs.ImageDisks.{IsKeptAsFound, device_on, sectors_for, sectors_on, zeros_for};
+ghost use Rattle.disk_sector_file.specs.ImageDisks.{IsFoundBy, LacksAsFound, device_on, sectors_for, sectors_on, zeros_for};
+ghost use Rattle.disk_file.specs.Backing.{bytes_at};
 ghost use Rattle.disk_sectors.specs.Size.{zeros_in};
 
 use crate::file_sectors::FileSectors;
@@ -21,21 +22,24 @@ pub enum ImageDisk<F: BackingFile + Drop> {
 }
 
 impl<F: BackingFile + Drop> ImageDisk<F> {
-    /// The disk of this file, which is one in two places where it begins with a label and has all its sectors; then nothing is written. The
-    /// file's own bytes are written back as they are read, and synced.
+    /// The disk of this file, which is one in two places where it begins with a label and has all its sectors; then nothing is written. Of
+    /// the file's own bytes those at the places are written again, each with its own value, and synced.
     ///
     /// `Fault` and `NoMemory`, as they come.
-    pub fn found(alloc: Global, mut file: F) -> Result<ImageDisk<F>, PlacesError>
+    pub fn found(alloc: Global, mut file: F, places: &[u64]) -> Result<ImageDisk<F>, PlacesError>
         ensures ok { IfOk result (λ disk. device_on disk ≡ new_device (device_on disk).now.bytes) }
-        // Once an image in one place is open, a crash leaves what was read of it, whatever became of syncs before.
-        ensures durable { IfOk result (λ disk. IsKeptAsFound disk) }
+        // Once an image in one place is open, a crash leaves what was read of it, but for bytes elsewhere than at the places
+        // that its device didn't have.
+        ensures lacks { IfOk result (λ disk. LacksAsFound (bytes_at places.now) (F.holds file) disk) }
+        // Opening an image in one place writes the bytes at the places, each with its own value, and no others.
+        ensures found { IfOk result (λ disk. IsFoundBy (bytes_at places.now) (F.holds file) disk) }
     {
         match label_of(&mut file) {
             Ok(Some(label)) => match open_places(alloc, file, label) {
                 Ok(disk) => Ok(ImageDisk::Placed(disk)),
                 Err(why) => Err(why),
             },
-            Ok(None) => match BufferedDisk::found(alloc, file) {
+            Ok(None) => match BufferedDisk::found(alloc, file, places) {
                 Ok(disk) => Ok(ImageDisk::Plain(disk)),
                 Err(error) => Err(told_of(error)),
             },

@@ -1,11 +1,15 @@
 //! What an image file begins with.
+ghost use Rattle.std.specs.Prelude.{◌≡◌};
 
 use disk_file::BackingFile;
 use disk_sectors::{LABEL_BYTES, Label};
 use std::io;
 
 /// The label with which this file begins, where it has all sectors of such a disk in two places.
-pub fn label_of<F: BackingFile>(file: &mut F) -> io::Result<Option<Label>> {
+pub fn label_of<F: BackingFile>(file: &mut F) -> io::Result<Option<Label>>
+    // Looking for a label leaves the file as it is.
+    ensures { F.holds file.new ≡ F.holds file.old }
+{
     let len = file.len()?;
     if len < LABEL_BYTES as u64 {
         return Ok(None);

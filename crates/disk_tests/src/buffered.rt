@@ -1,7 +1,8 @@
 //! Disks that forget, over files that fail.
 use crate::flaky_file::Medium;
 use crate::steps::{BEYOND, FAULT, OK, Step, go_so, go_so_alone};
-use disk_file::{BufferedDisk, FileError, VolatileDisk};
+use block_disk::Disk;
+use disk_file::{BackingFile, BufferedDisk, FileError, VolatileDisk};
 use std::alloc::Global;
 use std::fs;
 
@@ -138,7 +139,7 @@ fn is_not_filled(alloc: Global, call: u64) -> bool {
 
 fn is_not_found(alloc: Global, call: u64) -> bool {
     let medium = Medium::failing(&[1, 2], call);
-    match BufferedDisk::found(alloc, medium.file()) {
+    match BufferedDisk::found(alloc, medium.file(), &[1]) {
         Ok(disk) => {
             drop(disk);
             false
@@ -155,19 +156,34 @@ fn a_fault_at_each_call_makes_no_buffered_disk(rt: HostRuntime) {
     assert!(rt; is_not_found(alloc, 3) && is_not_found(alloc, 4));
 }
 
-// What the file reads and its device hasn't, as where a sync of another process has failed, is written to it, and synced.
+// A sync alone leaves what the device hasn't: another process wrote it, and the system takes it for written.
+fn is_left_by_a_sync() -> bool {
+    let medium = Medium::stale(&[1, 2, 3, 4], &[1, 9, 9, 4]);
+    let is_synced = medium.file().settle().is_ok();
+    is_synced && medium.has(&[1, 2, 3, 4]) && medium.keeps(&[1, 9, 9, 4])
+}
+
+// An opening writes the byte at the place again, and the disk what is written to it. A place past the end is left out.
 const BROUGHT: &[Step<'_>] = &[
     Step::Has(&[1, 2, 3, 4]),
-    Step::Keeps(&[1, 2, 3, 4]),
+    Step::Keeps(&[1, 2, 9, 4]),
     Step::Calls(1, 2),
+    Step::Read(0, &[1, 2, 3, 4]),
+    Step::Write(2, &[3], OK),
+    Step::Sync(OK),
+    Step::Keeps(&[1, 2, 3, 4]),
+];
+
+const GOING_ON: &[Step<'_>] = &[
+    Step::Sync(FAULT),
+    Step::Size(4),
     Step::Read(0, &[1, 2, 3, 4]),
 ];
 
-fn is_brought(alloc: Global) -> bool {
-    let medium = Medium::stale(&[1, 2, 3, 4], &[1, 9, 9, 4]);
-    match BufferedDisk::found(alloc, medium.file()) {
+fn is_found_so(alloc: Global, medium: &Medium, steps: &[Step<'_>]) -> bool {
+    match BufferedDisk::found(alloc, medium.file(), &[1, 4]) {
         Ok(mut disk) => {
-            let is_so = go_so(&medium, &mut disk, BROUGHT);
+            let is_so = go_so(medium, &mut disk, steps);
             drop(disk);
             is_so
         }
@@ -176,8 +192,17 @@ fn is_brought(alloc: Global) -> bool {
 }
 
 #[test]
-fn an_opening_brings_to_the_device_what_it_has_read(rt: HostRuntime) {
-    assert!(rt; is_brought(rt.alloc()));
+fn an_opening_brings_to_the_device_what_it_has_read_at_a_place(rt: HostRuntime) {
+    let medium = Medium::stale(&[1, 2, 3, 4], &[1, 9, 9, 4]);
+    assert!(rt; is_left_by_a_sync());
+    assert!(rt; is_found_so(rt.alloc(), &medium, BROUGHT));
+}
+
+// The fifth call of the file is that of the sync: an opening syncs, reads, writes a byte and syncs.
+#[test]
+fn a_disk_that_was_found_goes_on_after_a_fault(rt: HostRuntime) {
+    let medium = Medium::failing(&[1, 2, 3, 4], 5);
+    assert!(rt; is_found_so(rt.alloc(), &medium, GOING_ON));
 }
 
 // What was not synced is lost with the disk, as in a crash.
@@ -199,7 +224,7 @@ fn is_written_to_a_file(rt: &HostRuntime) -> bool {
 }
 
 fn is_read_of_a_file(rt: &HostRuntime) -> bool {
-    match BufferedDisk::attach(rt, rt.alloc(), "buffered") {
+    match BufferedDisk::attach(rt, rt.alloc(), "buffered", &[]) {
         Ok(mut disk) => {
             let is_so = go_so_alone(&mut disk, &[Step::Read(0, &[0, 5, 6, 0])]);
             drop(disk);
@@ -218,4 +243,89 @@ fn is_attached(rt: &HostRuntime) -> bool {
 #[test]
 fn a_file_is_attached_with_what_was_synced(rt: HostRuntime) {
     assert!(rt; is_attached(&rt));
+}
+
+fn is_missing(rt: &HostRuntime) -> bool {
+    match BufferedDisk::attach(rt, rt.alloc(), "missing", &[]) {
+        Ok(disk) => {
+            drop(disk);
+            false
+        }
+        Err(why) => why == FileError::Fault,
+    }
+}
+
+fn is_empty(rt: &HostRuntime) -> bool {
+    if fs::write(rt, "none", "").is_err() {
+        return false;
+    }
+    match BufferedDisk::attach(rt, rt.alloc(), "none", &[0]) {
+        Ok(mut disk) => {
+            let is_so = go_so_alone(&mut disk, &[Step::Size(0), Step::Sync(OK)]);
+            drop(disk);
+            is_so
+        }
+        Err(_) => false,
+    }
+}
+
+#[test]
+fn a_missing_file_is_a_fault_and_an_empty_one_is_none(rt: HostRuntime) {
+    assert!(rt; is_missing(&rt) && is_empty(&rt));
+}
+
+// Whether the file of three bytes is attached, or there is no memory for it.
+fn is_attached_or_refused(rt: &HostRuntime) -> bool {
+    match BufferedDisk::attach(rt, rt.alloc(), "image", &[0]) {
+        Ok(disk) => {
+            let is_so = disk.size() == 3;
+            drop(disk);
+            is_so
+        }
+        Err(error) => error == FileError::NoMemory,
+    }
+}
+
+// Whether a disk is made in it, or there is no memory for it and the file is as it was.
+fn is_created_or_refused(rt: &HostRuntime) -> bool {
+    match BufferedDisk::create(rt, rt.alloc(), "image", 2) {
+        Ok(disk) => {
+            let is_so = disk.size() == 2;
+            drop(disk);
+            is_so
+        }
+        Err(error) => error == FileError::NoMemory && file_has_three_bytes(rt),
+    }
+}
+
+fn file_has_three_bytes(rt: &HostRuntime) -> bool {
+    match fs::metadata(rt, "image") {
+        Ok(found) => found.len() == 3,
+        Err(_) => false,
+    }
+}
+
+// Run with each allocation refused in turn: there is no disk then and an old file is as it was.
+#[test]
+fn a_refused_allocation_makes_no_disk(rt: HostRuntime) {
+    assert!(rt; fs::write(&rt, "image", "123").is_ok());
+    assert!(rt; is_attached_or_refused(&rt) && is_attached_or_refused(&rt));
+    assert!(rt; is_created_or_refused(&rt));
+}
+
+fn reads_as(alloc: Global, error: FileError, words: &str) -> bool {
+    match format!(in alloc; "{error}") {
+        Ok(text) => {
+            let is_so = text.as_str() == words;
+            drop(text);
+            is_so
+        }
+        Err(_) => false,
+    }
+}
+
+#[test]
+fn errors_have_texts(rt: HostRuntime) {
+    assert!(rt; reads_as(rt.alloc(), FileError::Fault, "fault"));
+    assert!(rt; reads_as(rt.alloc(), FileError::NoMemory, "no memory"));
 }

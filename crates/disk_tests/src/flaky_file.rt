@@ -245,6 +245,11 @@ impl BackingFile for FlakyFile<'_> {
         write_there(self, at, bytes)
     }
 
+    fn write_back(&mut self, at: u64) -> io::Result<()> {
+        let byte = [self.medium.byte(at as usize).unwrap_or(0)];
+        self.write_to(at, &byte)
+    }
+
     fn settle(&mut self) -> io::Result<()> {
         count(&self.medium.settles);
         if self.medium.is_due() {

@@ -11,8 +11,6 @@ mod buffered;
 #[cfg(test)]
 mod deferred;
 #[cfg(test)]
-mod file;
-#[cfg(test)]
 mod flaky_file;
 #[cfg(test)]
 mod memory;

@@ -58,7 +58,7 @@ fn wrong_kind(kind: FileType) -> Option<&'static str> {
         Some("it is a folder; name a file")
     } else if kind.is_block_device() {
         Some(
-            "it is a block device, which 'show', 'dump' and 'get' read; the other words want a regular file: copy the device to one",
+            "it is a block device: 'run' and 'set' want a regular file, and 'format' and 'drive' make an image where it has zeros alone (blkdiscard -z)",
         )
     } else {
         Some("it is a device, a pipe or a socket, which holds no image; name a regular file")
@@ -75,7 +75,7 @@ pub(crate) fn tell_cause<R: Files + Eprint>(rt: &R, path: &Path<'_>, error: &Opt
         Place::Passing => (path.image, PASSING),
         Place::Output => ("standard output", ""),
     };
-    if is_named(path.place) && is_wrong_path(rt, name) {
+    if is_named(path.place) && !is_device(rt, name) && is_wrong_path(rt, name) {
         return;
     }
     match error {
@@ -86,6 +86,14 @@ pub(crate) fn tell_cause<R: Files + Eprint>(rt: &R, path: &Path<'_>, error: &Opt
         None => {
             let _ = eprintln!(rt; "heapctl: {name}{end}: a call has failed");
         }
+    }
+}
+
+// A word may work on it, so that a call which fails has a cause of its own.
+fn is_device<R: Files>(rt: &R, path: &str) -> bool {
+    match rt.metadata(path) {
+        Ok(metadata) => metadata.file_type().is_block_device(),
+        Err(_) => false,
     }
 }
 
@@ -145,7 +153,9 @@ fn disk_cure(error: &io::Error) -> &'static str {
 
 // What mends want of room.
 fn room_cure<R: Files>(rt: &R, path: &Path<'_>) -> &'static str {
-    if rt.metadata(path.image).is_ok() {
+    if is_device(rt, path.image) {
+        "; give the device more, or type fewer lanes or a smaller capacity"
+    } else if rt.metadata(path.image).is_ok() {
         "; free some space, and try again: the image that was there is still there"
     } else {
         "; free some space, and try again: nothing was made"

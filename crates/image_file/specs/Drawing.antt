@@ -23,7 +23,7 @@ pub record IsNotDrawn (given : Option Declarations) (last : ℕ) (had old new : 
 
 -- what a refusal says of it, and of what was written
 abbrev pub RefusesToDraw : Option Declarations → (last : ℕ) → (had old new : Option (List ℕ)) → NamedFault → Type 0
-RefusesToDraw given last had old new fault = IsNotHadToName old new fault ⊎ IsNotDrawn given last had old new fault
+RefusesToDraw given last had old new fault = IsNotHadToName had old new fault ⊎ IsNotDrawn given last had old new fault
 
 -- by the names of the schema file, where one is named
 pub record DrawsAt {P : Type 0} (path : Option P) (last : ℕ) (had old new : Option (List ℕ)) : Type 0 where

@@ -23,7 +23,7 @@ pub record IsNotDumped (given : Option Declarations) (had old new : Option (List
 
 -- what a refusal says of it, and of what was written
 abbrev pub RefusesToDump : Option Declarations → (had old new : Option (List ℕ)) → NamedFault → Type 0
-RefusesToDump given had old new fault = IsNotHadToName old new fault ⊎ IsNotDumped given had old new fault
+RefusesToDump given had old new fault = IsNotHadToName had old new fault ⊎ IsNotDumped given had old new fault
 
 -- by the names of the schema file, where one is named
 pub record DumpsAt {P : Type 0} (path : Option P) (had old new : Option (List ℕ)) : Type 0 where

@@ -1,9 +1,11 @@
 -- What is known of an image at a path (this project's own).
 use Rattle.std.specs.Prelude.{◌≡◌, ◌≤◌, ◌⊎◌, ◌++◌, List, [], ℕ, Option, IfSome, length}
 use Rattle.block_disk.specs.Device.{Image, Moment}
-use Rattle.image_parts.specs.Header.{HasHeader}
+use Rattle.image_parts.specs.Header.{HasHeader, IsFormatted}
 use Rattle.image_parts.specs.Layout.{size_of}
 use Rattle.image_parts.specs.declared.layout.Layout.{Layout}
+use Rattle.image_file.specs.declared.error.FileFault.{FileFault}
+use Rattle.image_file.specs.declared.error.FileFault.TheVariants as files
 
 -- this image is there, where it is known which one is
 abbrev pub IsThere : List ℕ → Option (List ℕ) → Type 0
@@ -19,6 +21,11 @@ pub record BeginsWith (bytes image : List ℕ) : Type 0 where
 -- the image that is there begins so, where it is known which one is
 abbrev pub BeginsThere : List ℕ → Option (List ℕ) → Type 0
 BeginsThere bytes held = IfSome held (BeginsWith bytes)
+
+-- the image that is there may be refused so: as none only where it doesn't begin with an image's name and an open gate
+abbrev pub MayNotBeHad : FileFault → Option (List ℕ) → Type 0
+MayNotBeHad files.NotImage held = IfSome held (λ image. IsFormatted image → ⊥)
+MayNotBeHad _ held = Unit {0}
 
 -- what is there is what a crash may leave of a disk at this moment
 abbrev pub IsLeft : Moment → Option (List ℕ) → Type 0

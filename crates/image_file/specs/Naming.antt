@@ -8,6 +8,7 @@ use Rattle.script_declarations.specs.declared.schema_fault.SchemaFaultKind.TheVa
 use Rattle.image_schema.specs.declared.error.DumpError.{DumpError}
 use Rattle.image_schema.specs.declared.error.DumpError.TheVariants as dumps
 use Rattle.recover_heap.specs.declared.error.RecoverError.TheVariants.{Fault, NoMemory}
+use Rattle.image_file.specs.Images.{MayNotBeHad}
 use Rattle.image_file.specs.Showing.{told_of_attaching}
 use Rattle.image_file.specs.declared.error.FileFault.{FileFault}
 use Rattle.image_file.specs.declared.error.ImageFault.TheVariants as images
@@ -46,8 +47,9 @@ pub record IsNotNamed (old new : Option (List ℕ)) (fault : NamedFault) : Type 
   pub why : IsOfSchemaFile fault
   pub silent : Appends old new []
 
--- the image was not had, and nothing was written
-pub record IsNotHadToName (old new : Option (List ℕ)) (fault : NamedFault) : Type 0 where
+-- the image that is there was not had, and nothing was written
+pub record IsNotHadToName (had old new : Option (List ℕ)) (fault : NamedFault) : Type 0 where
   pub why : FileFault
+  pub may : MayNotBeHad why had
   pub told : fault ≡ named.Image (told_of_attaching why)
   pub silent : Appends old new []

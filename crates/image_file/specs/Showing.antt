@@ -1,7 +1,7 @@
 -- What showing an image writes (docs/SCRIPTS.md, "The inspector's lines").
 use Rattle.std.specs.Prelude.{ℕ, ◌≡◌, ◌⊎◌, Option, List, [], Result, Ok, Err}
 use Rattle.std.specs.Io.KnownBytes.{Appends, Consumes, IsAtEnd}
-use Rattle.image_file.specs.Images.{BeginsThere}
+use Rattle.image_file.specs.Images.{BeginsThere, MayNotBeHad}
 use Rattle.image_file.specs.declared.error.FileFault.{FileFault}
 use Rattle.image_file.specs.declared.error.FileFault.TheVariants as files
 use Rattle.image_file.specs.declared.error.ImageFault.{ImageFault}
@@ -36,9 +36,10 @@ pub record Shows (text : Study → List ℕ) (had old new : Option (List ℕ)) :
   pub begins : BeginsThere image had
   pub shown : Inspects text image old new
 
--- the image was not had, and nothing was written
-pub record IsNotHad (old new : Option (List ℕ)) (fault : ImageFault) : Type 0 where
+-- the image that is there was not had, and nothing was written
+pub record IsNotHad (had old new : Option (List ℕ)) (fault : ImageFault) : Type 0 where
   pub why : FileFault
+  pub may : MayNotBeHad why had
   pub told : fault ≡ told_of_attaching why
   pub silent : Appends old new []
 
@@ -53,4 +54,4 @@ pub record IsNotShown (text : Study → List ℕ) (had old new : Option (List �
 -- how it ends, by the image that was there before and is now, and by what was written before and is now
 abbrev pub ShowsBy : (text : Study → List ℕ) → Result (Unit {0}) ImageFault → (had has old new : Option (List ℕ)) → Type 0
 ShowsBy text (Ok done) had has old new = Shows text had old new × (has ≡ had)
-ShowsBy text (Err fault) had has old new = (IsNotHad old new fault ⊎ IsNotShown text had old new fault) × (has ≡ had)
+ShowsBy text (Err fault) had has old new = (IsNotHad had old new fault ⊎ IsNotShown text had old new fault) × (has ≡ had)

@@ -9,18 +9,18 @@ use std::alloc::Global;
 use std::fs::{Metadata, OpenFile, OpenOptions};
 use std::io;
 use std::io::ErrorKind;
-use std::os::unix::fs::MetadataExt;
+use std::os::unix::fs::{FileTypeExt, MetadataExt};
 use std::path::Path;
 use std::rt::Files;
 
 /// What a file has, by its length and its first bytes.
 #[derive(Clone, Copy, Debug, PartialEq, Eq)]
 pub enum Content {
-    /// No bytes.
+    /// No bytes; or a block device that begins with zeros.
     Nothing,
     /// What an image begins with: its name and an open gate; or the label of one in two places, whose sectors are all there.
     Image,
-    /// Other bytes; or it is no regular file.
+    /// Other bytes; or it is neither a regular file nor a block device.
     Other,
 }
 
@@ -30,6 +30,11 @@ const NO_FILE: i32 = 2;
 /// What is told of a path at which there is no file.
 pub(crate) fn no_file() -> io::Error {
     io::Error::from_raw_os_error(NO_FILE)
+}
+
+/// Whether it is a block device.
+pub(crate) fn is_device<F: OpenFile>(file: &F) -> io::Result<bool> {
+    Ok(file.metadata()?.file_type().is_block_device())
 }
 
 /// What a file has. No more than its header is read.
@@ -47,7 +52,8 @@ pub fn content_of<F: BackingFile + OpenFile>(
 }
 
 fn read_content<F: BackingFile + OpenFile>(file: &mut F) -> io::Result<Content> {
-    if !file.metadata()?.is_file() {
+    let is_device = is_device(file)?;
+    if !is_device && !file.metadata()?.is_file() {
         return Ok(Content::Other);
     }
     let len = file.len()?;
@@ -61,6 +67,9 @@ fn read_content<F: BackingFile + OpenFile>(file: &mut F) -> io::Result<Content> 
     file.read_from(0, &mut head)?;
     if is_formatted(&head) {
         return Ok(Content::Image);
+    }
+    if is_device && head[..] == [0; HEADER_BYTES][..] {
+        return Ok(Content::Nothing);
     }
     match label_of(file) {
         Ok(Some(_)) => Ok(Content::Image),
@@ -136,6 +145,9 @@ where
     F: BackingFile + OpenFile + Drop,
     R: Files<File = F>,
 {
+    if is_device(file)? {
+        return Ok(());
+    }
     let target = rt.canonicalize(alloc, path)?;
     let synced = sync_folder_of(rt, target.as_str());
     drop(target);

@@ -1,9 +1,12 @@
 //! The images in files of the system.
-ghost use Rattle.std.specs.Prelude.{None};
+ghost use Rattle.std.specs.Prelude.{◌≡◌, [], ◌∷◌, None};
+ghost use Rattle.image_parts.specs.Slots.{slot_at};
+ghost use Rattle.image_parts.specs.declared.slot.Slot.TheVariants.{A, B};
 
 use crate::claiming::{
-    Content, claim, claim_at, claim_image, content_of, is_same, no_file, sync_folder_of,
+    Content, claim, claim_at, claim_image, content_of, is_device, is_same, no_file, sync_folder_of,
 };
+use crate::devices::{Beginning, take_device};
 use crate::error::FileFault;
 use crate::images::Images;
 use crate::reading::read_there;
@@ -38,7 +41,7 @@ const IS_THERE: i32 = 17;
 /// The images in files of the system.
 ///
 /// A new image is made in a file beside the path, which takes its place once it is whole: a stop at any time leaves what was there, or the
-/// new one. Both files are claimed until another image is made, or this is dropped, so that no other process works on either.
+/// new one. On a block device it is made in place, where all bytes that it takes are zeros: a stop leaves no image, or the new one. Both files are claimed until another image is made, or this is dropped, so that no other process works on either.
 #[derive(Drop)]
 pub struct FileImages<'a, F: BackingFile + Drop, R> {
     rt: &'a R,
@@ -54,7 +57,10 @@ struct Taken<F: Drop> {
     // What was there, which is claimed, and the file in which the new one is made.
     old: Option<F>,
     new: F,
+    // The new one is at the path.
     is_there: bool,
+    // It is made there, on a block device.
+    is_in_place: bool,
 }
 
 // The path that was named; where the image is to be, at the end of links; where it is made; where one that was there is kept; and by
@@ -88,7 +94,7 @@ where
     F: BackingFile + OpenFile + Read + Drop,
     R: Files<File = F>,
 {
-    type Medium = ImageDisk<Watched<'a, F>>;
+    type Medium = ImageDisk<Watched<'a, Beginning<F>>>;
 
     ghost holds = { λ _ _. None };
 
@@ -117,18 +123,27 @@ where
         read_there(self.rt, alloc, path, self.trouble)
     }
 
-    fn open(&mut self, alloc: Global, path: &str) -> Result<ImageDisk<Watched<'a, F>>, FileFault> {
+    fn open(
+        &mut self,
+        alloc: Global,
+        path: &str,
+    ) -> Result<ImageDisk<Watched<'a, Beginning<F>>>, FileFault> {
         let file = match file_there(self.rt, alloc, path, &self.taken, self.trouble) {
             Ok(file) => file,
             Err(fault) => return Err(fault),
         };
-        match ImageDisk::found(alloc, Watched::new(file, Place::Image, self.trouble)) {
+        let file = match beginning_of(file) {
+            Ok(file) => Watched::new(file, Place::Image, self.trouble),
+            Err(error) => return Err(noted(Place::Image, &error, self.trouble)),
+        };
+        let places = gates();
+        match ImageDisk::found(alloc, file, &places) {
             Ok(disk) => Ok(disk),
             Err(error) => Err(FileFault::from(error)),
         }
     }
 
-    fn close(&mut self, _path: &str, disk: ImageDisk<Watched<'a, F>>) {
+    fn close(&mut self, _path: &str, disk: ImageDisk<Watched<'a, Beginning<F>>>) {
         drop(disk);
     }
 
@@ -138,15 +153,20 @@ where
         path: &str,
         sectors: Option<SectorSize>,
         size: u64,
-    ) -> Result<ImageDisk<Watched<'a, F>>, FileFault> {
-        let taken = match take(self.rt, alloc, path, sectors, self.trouble) {
+    ) -> Result<ImageDisk<Watched<'a, Beginning<F>>>, FileFault> {
+        let taken = match take(self.rt, alloc, path, sectors, size, self.trouble) {
             Ok(taken) => taken,
             Err(fault) => return Err(fault),
         };
         let again = taken.new.try_clone();
+        let is_in_place = taken.is_in_place;
         keep(&mut self.taken, taken);
         let file = match again {
-            Ok(file) => Watched::new(file, Place::Image, self.trouble),
+            Ok(file) => Watched::new(
+                Beginning::new(file, is_in_place),
+                Place::Image,
+                self.trouble,
+            ),
             Err(error) => return Err(noted(Place::Beside, &error, self.trouble)),
         };
         match ImageDisk::blank(alloc, file, sectors, size) {
@@ -159,7 +179,7 @@ where
         &mut self,
         path: &str,
         sectors: Option<SectorSize>,
-        _disk: &ImageDisk<Watched<'a, F>>,
+        _disk: &ImageDisk<Watched<'a, Beginning<F>>>,
         is_kept: bool,
     ) -> Result<(), FileFault> {
         let Some(taken) = &mut self.taken else {
@@ -167,6 +187,9 @@ where
         };
         if taken.names.path.as_str() != path || taken.sectors != sectors {
             return Err(FileFault::Fault);
+        }
+        if taken.is_in_place {
+            return Ok(());
         }
         if is_kept {
             if let Err((place, error)) = keep_old(self.rt, taken) {
@@ -191,6 +214,25 @@ where
 // The place that was taken, in place of one that was before.
 fn keep<F: Drop>(place: &mut Option<Taken<F>>, taken: Taken<F>) {
     *place = Some(taken);
+}
+
+// The places of an image's gates: of its header, and of both slots of its control. An opening writes each again with its own value, since a sync
+// that has failed may have left the newest in a cache alone. Whatever else such a sync has left there, recovery writes before it counts.
+fn gates() -> [u64; 3]
+    ensures { result ≡ 8 ∷ slot_at A ∷ slot_at B ∷ [] }
+{
+    [8, 64, 1112]
+}
+
+// The file's bytes that are the image's.
+fn beginning_of<F: BackingFile + OpenFile + Drop>(file: F) -> io::Result<Beginning<F>> {
+    match is_device(&file) {
+        Ok(is_device) => Beginning::found(file, is_device),
+        Err(error) => {
+            drop(file);
+            Err(error)
+        }
+    }
 }
 
 fn noted(place: Place, error: &io::Error, trouble: &Trouble) -> FileFault {
@@ -309,6 +351,7 @@ fn take<F, R>(
     alloc: Global,
     path: &str,
     sectors: Option<SectorSize>,
+    size: u64,
     trouble: &Trouble,
 ) -> Result<Taken<F>, FileFault>
 where
@@ -319,6 +362,23 @@ where
         Ok(names) => names,
         Err(fault) => return Err(fault),
     };
+    match take_device(rt, names.target.as_str(), sectors, size, trouble) {
+        Ok(Some(new)) => {
+            return Ok(Taken {
+                names,
+                sectors,
+                old: None,
+                new,
+                is_there: true,
+                is_in_place: true,
+            });
+        }
+        Ok(None) => {}
+        Err(fault) => {
+            drop(names);
+            return Err(fault);
+        }
+    }
     match take_files(rt, names.target.as_str(), names.beside.as_str(), trouble) {
         Ok((old, new)) => Ok(Taken {
             names,
@@ -326,6 +386,7 @@ where
             old,
             new,
             is_there: false,
+            is_in_place: false,
         }),
         Err(fault) => {
             drop(names);

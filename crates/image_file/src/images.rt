@@ -1,10 +1,10 @@
 //! The images that words name by paths.
-ghost use Rattle.std.specs.Prelude.{◌≡◌, ◌⊎◌, ◌↔◌, ℕ, List, [], Option, replicate, IfOk, IfSome, IsTrue, OnErr, OnOk};
+ghost use Rattle.std.specs.Prelude.{◌≡◌, ◌⊎◌, ◌↔◌, ℕ, List, [], Option, replicate, IfErr, IfOk, IfSome, IsTrue, OnErr, OnOk};
 ghost use Rattle.block_disk.specs.Device.{Device, new_device};
 ghost use Rattle.disk_sectors.specs.declared.size.SectorSize.{SectorSize as Size};
 ghost use Rattle.disk_sector_file.specs.ImageDisks.{room_for};
 ghost use Rattle.image_file.specs.Beside.{IsKept, KeepsBeside, LeavesBeside, LiesOn, LeavesBesideIt, kept_at};
-ghost use Rattle.image_file.specs.Images.{BeginsThere, IsLeft, IsThere};
+ghost use Rattle.image_file.specs.Images.{BeginsThere, IsLeft, IsThere, MayNotBeHad};
 
 use crate::error::FileFault;
 use block_disk::Disk;
@@ -56,6 +56,8 @@ pub trait Images {
     fn look(&mut self, alloc: Global, path: &str) -> Result<Vec<u8>, FileFault>
         // What is looked at is what the image at the path begins with.
         ensures ok { IfOk result (λ image. BeginsThere image.items (holds self.old path.now)) }
+        // What is looked at is told as no image only where it doesn't begin with an image's name and an open gate.
+        ensures refused { IfErr result (λ why. MayNotBeHad why (holds self.old path.now)) }
         ensures same { holds self.new path.now ≡ holds self.old path.now }
         ensures beside { LeavesBeside path.now (holds self.old) (holds self.new) (lies self.old)
             (lies self.new) };
@@ -69,6 +71,8 @@ pub trait Images {
         // A disk that is opened at a path has the bytes of the image there.
         ensures ok { IfOk result
             (λ disk. IsThere (Self.Medium.device disk).now.bytes (holds self.old path.now)) }
+        // What is opened is told as no image only where it doesn't begin with an image's name and an open gate.
+        ensures refused { IfErr result (λ why. MayNotBeHad why (holds self.old path.now)) }
         ensures err { OnErr result (holds self.new path.now ≡ holds self.old path.now) }
         ensures beside { LeavesBeside path.now (holds self.old) (holds self.new) (lies self.old)
             (lies self.new) };
@@ -143,6 +147,7 @@ pub fn look_at<D: Disk + Drop, P: Images<Medium = D>>(
 ) -> Result<VolatileDisk, FileFault>
     ensures ok { IfOk result
         (λ (disk : Device). BeginsThere disk.now.bytes (P.holds images.old path.now)) }
+    ensures refused { IfErr result (λ why. MayNotBeHad why (P.holds images.old path.now)) }
     ensures same { P.holds images.new path.now ≡ P.holds images.old path.now }
     ensures beside { LeavesBesideIt path.now P.holds P.lies images.old images.new }
 {

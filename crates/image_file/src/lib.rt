@@ -8,6 +8,7 @@
 #![tactic(auto)]
 
 mod claiming;
+mod devices;
 mod dumping;
 mod error;
 mod file_images;
@@ -24,6 +25,7 @@ mod trouble;
 mod watched;
 
 pub use claiming::{Content, claim_at, content_of};
+pub use devices::Beginning;
 pub use dumping::dump_at;
 pub use error::{FileFault, FormatError, ImageFault, NamedFault};
 pub use file_images::{BESIDE, FileImages, KEPT, KEPT_IN_USE, PASSING};

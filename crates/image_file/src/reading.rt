@@ -176,8 +176,8 @@ fn fault_of_reading(error: &std::io::Error) -> FileFault {
     }
 }
 
-// The image's size, as a header says, or no more than the header's where no image has so many bytes.
-fn size_in(head: &[u8]) -> u64 {
+/// The image's size, as a header says, or no more than the header's where no image has so many bytes.
+pub(crate) fn size_in(head: &[u8]) -> u64 {
     let mut size = 0u64;
     for place in 24..32 {
         let byte = head.get(place).copied().unwrap_or(0);

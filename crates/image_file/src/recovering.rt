@@ -11,7 +11,7 @@ ghost use Rattle.inspect.specs.ReportText.{report_text};
 ghost use Rattle.image_file.specs.declared.error.ImageFault.TheVariants.{Image};
 ghost use Rattle.image_file.specs.Beside.{LeavesBesideIt};
 ghost use Rattle.image_file.specs.Images.{AtPath, Stays};
-ghost use Rattle.image_file.specs.Recovering.{IsOnTheWayAt, IsRecoveredAt, IsToldOf, RecoversAt};
+ghost use Rattle.image_file.specs.Recovering.{IsOnTheWayAt, IsRecoveredAt, IsToldOf, MayBlameBytes, RecoversAt};
 ghost use Rattle.image_file.specs.Telling.{MayBeRefusedBy, TellsLessOfVersions};
 
 use crate::error::ImageFault;
@@ -113,6 +113,8 @@ pub fn recover_at<D: Disk + Drop, P: Images<Medium = D>, W: Write>(
         (TellsLessOfVersions versions (W.contents writer.old) (W.contents writer.new)) }
     // An image is refused as old only where version 1 isn't taken.
     ensures too_old { IfErr result (MayBeRefusedBy versions) }
+    // An image is refused as not formatted only where it doesn't begin with an image's name and an open gate.
+    ensures blames { IfErr result (λ error. MayBlameBytes error (P.holds images.old path.now)) }
     // Nothing beside the path is lost.
     ensures beside { LeavesBesideIt path.now P.holds P.lies images.old images.new }
 {
@@ -139,6 +141,7 @@ fn recovered_at<D: Disk + Drop, P: Images<Medium = D>>(
         (λ error. error ≢ Image Fault → AtPath Stays P.holds images.old images.new path.now) }
     ensures way { OnErr result (AtPath IsOnTheWayAt P.holds images.old images.new path.now) }
     ensures too_old { IfErr result (MayBeRefusedBy versions) }
+    ensures blames { IfErr result (λ error. MayBlameBytes error (P.holds images.old path.now)) }
     ensures beside { LeavesBesideIt path.now P.holds P.lies images.old images.new }
 {
     let disk = match images.open(alloc, path) {

@@ -56,6 +56,10 @@ impl<F: BackingFile + Drop> BackingFile for Watched<'_, F> {
         noted(self.inner.write_to(at, bytes), self.place, self.trouble)
     }
 
+    fn write_back(&mut self, at: u64) -> io::Result<()> {
+        noted(self.inner.write_back(at), self.place, self.trouble)
+    }
+
     fn settle(&mut self) -> io::Result<()> {
         noted(self.inner.settle(), self.place, self.trouble)
     }

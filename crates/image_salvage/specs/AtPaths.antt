@@ -30,7 +30,7 @@ pub record IsNotDumped (refuses : Refusal) (given : Option Declarations) (had ol
 
 -- what a refusal says of it, and of what was written
 abbrev pub RefusesThere : Refusal → Option Declarations → (had old new : Option (List ℕ)) → NamedFault → Type 0
-RefusesThere refuses given had old new fault = IsNotHadToName old new fault ⊎ IsNotDumped refuses given had old new fault
+RefusesThere refuses given had old new fault = IsNotHadToName had old new fault ⊎ IsNotDumped refuses given had old new fault
 
 -- by the names of the schema file, where one is named
 pub record DumpsAt {P : Type 0} (dumps : Dump) (path : Option P) (had old new : Option (List ℕ)) : Type 0 where

@@ -194,6 +194,11 @@ impl BackingFile for SectorFile<'_> {
         if makes { Ok(()) } else { Err(dead()) }
     }
 
+    // Nothing is written again on sectors.
+    fn write_back(&mut self, _at: u64) -> io::Result<()> {
+        Err(dead())
+    }
+
     fn settle(&mut self) -> io::Result<()> {
         if self.medium.fails() || !self.medium.makes() {
             return Err(dead());

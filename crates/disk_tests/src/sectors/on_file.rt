@@ -86,7 +86,7 @@ fn is_right(
     truth: &mut Truth,
     chance: &mut Chance,
 ) -> Option<bool> {
-    let mut disk = ImageDisk::found(alloc, medium.file()).ok()?;
+    let mut disk = ImageDisk::found(alloc, medium.file(), &[0]).ok()?;
     medium.die_in(1 + chance.below(9));
     let mut is_done = true;
     for _ in 0..3 {
@@ -128,7 +128,7 @@ fn is_still(alloc: Global, medium: &Medium, truth: &Truth) -> Option<bool> {
 }
 
 fn read_back(alloc: Global, medium: &Medium, out: &mut [u8]) -> bool {
-    match ImageDisk::found(alloc, medium.file()) {
+    match ImageDisk::found(alloc, medium.file(), &[0]) {
         Ok(mut disk) => {
             let read = disk.read_at(0, out);
             drop(disk);

@@ -3,9 +3,9 @@ use Rattle.block_disk.specs.Device.{Device, written_units, unit_ranges}
 use Rattle.block_disk.specs.Images.{ImageBut, LeavesOnly}
 use Rattle.block_disk.proofs.InUnits.{units_leave}
 use Rattle.disk_file.specs.Buffered.{AllWithin, GoesOn}
-use Rattle.disk_file.specs.Mirror.{Mirror}
+use Rattle.disk_file.specs.Mirror.{LacksIn, Mirror}
 use Rattle.block_disk.specs.Traced.{Traced, failing}
-use Rattle.disk_file.proofs.Unwritten.{deferred_units, goes_on_last, units_failing}
+use Rattle.disk_file.proofs.Unwritten.{deferred_units, goes_on_last, lacks_units, units_failing}
 use Rattle.disk_file.proofs.buffered.BufferedDiskDisk.write_units.Goals as goal
 
 pub invariant_of-self-2 : goal.invariant_of-self-2
@@ -38,3 +38,12 @@ returns-then-not-add-clause-goes_on g c goes =
     let r = goes_on_last c.args.at d.trace.past.device.now.pending d.unwritten.items here c.self.invariant.newest in
     let clash : false ≡ true = c.if-not-add.ensures.goes_on r.0 r.1 r.2 r.3 in
     absurd cc
+
+pub returns-clause-lacks : goal.returns-clause-lacks
+returns-clause-lacks g c stale had =
+    let d = c.self.inside in
+    let old = d.trace.past.device in
+    let fits : c.args.at + length c.args.units.now ≤ length d.bytes.items = search rules in
+    rw (c.write_units.ensures)
+    (lacks_units c.args.count old d.bytes.items c.args.units.now (g.F.BackingFile.holds d.file) c.args.at c.requires.whole fits c.self.invariant.buffered.reads stale
+    (subst (λ (m : Mirror). LacksIn stale m) (sym c.self.view_is) had))
