@@ -147,7 +147,7 @@ static zelamiku_heap opened;
 
 static void open_heap(const char *path, uint32_t lanes, uint32_t capacity, uint32_t ring, bool reverts) {
     static const zelamiku_field TWO[2] = {{.owner = 0, .guard = 0}, {.owner = 1, .guard = 1}};
-    zelamiku_plan plan = {.fields = TWO, .count = 2, .objects = 2, .lanes = lanes, .capacity = capacity, .ring = ring, .reverts = reverts};
+    zelamiku_plan plan = {.size = sizeof(zelamiku_plan), .fields = TWO, .count = 2, .objects = 2, .lanes = lanes, .capacity = capacity, .ring = ring, .reverts = reverts};
     must(zelamiku_heap_open(&opened, path, &plan, NULL), path);
 }
 

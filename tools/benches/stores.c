@@ -63,7 +63,7 @@ static void z_open(void) {
     zelamiku_field *fields = calloc(count, sizeof *fields);
     must(fields != NULL, "fields");
     for (uint32_t i = 0; i < count; i++) fields[i] = (zelamiku_field){.owner = i, .guard = i};
-    zelamiku_plan plan = {.fields = fields, .count = count, .objects = count, .lanes = threads};
+    zelamiku_plan plan = {.size = sizeof(zelamiku_plan), .fields = fields, .count = count, .objects = count, .lanes = threads};
     z(zelamiku_heap_open(&heap, path, &plan, NULL), "open");
     free(fields);
 }
