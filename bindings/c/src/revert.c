@@ -211,7 +211,7 @@ static zelamiku_status not_reverted_of(heap *heap, seat *own, zelamiku_thread th
                     "revert before that, or store the old values by calls of your own", "revert");
     bool has_stored = own->has_stored != 0 || own->passed == own->ended + 1;
     if (!has_stored) return ZELAMIKU_OK;
-    return fail(heap->path, ZELAMIKU_NOT_REVERTED, 0, "the heap's plan doesn't keep what a section changes", "open it with reverts = 1", "revert");
+    return fail(heap->path, ZELAMIKU_NOT_REVERTED, 0, "the heap's plan doesn't keep what a section changes", "open it with reverts", "revert");
 }
 
 zelamiku_status zelamiku_thread_revert(zelamiku_thread thread) {

@@ -294,7 +294,7 @@ static void old(void) {
         MUST(pread(file, &gate, 1, SLOTS[i]) == 1);
         if (gate == 0xa5) MUST(pwrite(file, &version, 1, SLOTS[i] + 19) == 1);
     }
-    MUST(close(file) == 0 && open_heap(&heap) == ZELAMIKU_OLD_VERSION && strstr(zelamiku_heap_failure(NULL), "upgrades = 1") != NULL);
+    MUST(close(file) == 0 && open_heap(&heap) == ZELAMIKU_OLD_VERSION && strstr(zelamiku_heap_failure(NULL), "let the open upgrade it") != NULL);
     plan.upgrades = 1;
     MUST(open_heap(&heap) == ZELAMIKU_OK && report.is_upgraded == 1 && add(heap, 0) == 8 && zelamiku_heap_close(heap) == ZELAMIKU_OK);
     MUST(open_heap(&heap) == ZELAMIKU_OK && report.is_upgraded == 0 && zelamiku_heap_close(heap) == ZELAMIKU_OK);

@@ -527,7 +527,7 @@ static void refusals(void) {
     MUST(is_transient(12) && zelamiku_thread_revert(own) == ZELAMIKU_NOT_REVERTED);
     OK(zelamiku_thread_store(own, 0, 77));
     MUST(zelamiku_thread_revert(own) == ZELAMIKU_NOT_REVERTED);
-    MUST(says("revert.heap: revert: the heap's plan doesn't keep what a section changes; open it with reverts = 1"));
+    MUST(says("revert.heap: revert: the heap's plan doesn't keep what a section changes; open it with reverts"));
     OK(zelamiku_thread_exit(own, 0));
     MUST(seen(0) == 77);
     close_all();

@@ -173,7 +173,7 @@ static void must_exist(void) {
     zelamiku_heap heap;
     zelamiku_report report = {.size = sizeof report};
     zelamiku_plan strict = plan;
-    static const char ZEROS[300], CUT_OFF[2200] = "MONIHEAP", NONE[] = "there is no heap; mount its volume, or open without must_exist to make one";
+    static const char ZEROS[300], CUT_OFF[2200] = "MONIHEAP", NONE[] = "there is no heap; mount its volume, or let the open make one";
     strict.must_exist = 1;
     IS(zelamiku_heap_open(&heap, "absent", &strict, &report), NO_HEAP, "absent: open: there is no heap: No such file or directory; mount its");
     MUST(last_failure().error == ENOENT && access("absent", F_OK) != 0 && report.is_made == 0);
