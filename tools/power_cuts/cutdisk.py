@@ -46,7 +46,7 @@ class Event:
 
 
 class Disk:
-    """The methods without a line below are a client's."""
+    """What the disk has and has had. A client asks for `state`, and for the methods from `open` on."""
 
     def __init__(self, size, told):
         self.size, self.lock, self.clients = size, threading.Condition(), 0
