@@ -1,4 +1,4 @@
-/* Zelamiku for the threads of a program: a heap in a file, by its path, or on another device. A program begins with this header.
+/* Zelamiku's C API for programs with threads: a heap in a file, named by its path, or on another device.
  *
  *     static const zelamiku_field FIELDS[] = {{0, 0, 100, 0}};                field 0: of object 0, guarded by it, at first 100
  *     zelamiku_plan plan = {.size = sizeof plan, .objects = 1, .fields = FIELDS, .count = 1};
@@ -9,41 +9,41 @@
  *     if (zelamiku_thread_enter(own, 0) != ZELAMIKU_OK) ...                               sleeps while another thread has the monitor
  *     if (zelamiku_thread_store(own, 0, 90) != ZELAMIKU_OK) ...
  *     if (zelamiku_thread_exit(own, 0) != ZELAMIKU_OK) ...                                the section ends
- *     if (zelamiku_thread_await(own) != ZELAMIKU_OK) ...                                  sleeps until no crash loses it
+ *     if (zelamiku_thread_await(own) != ZELAMIKU_OK) ...                                  sleeps until no crash can lose the section
  *     if (zelamiku_thread_end(own) != ZELAMIKU_OK) ...
  *     if (zelamiku_heap_close(heap) != ZELAMIKU_OK) ...
  *
  * Threads use the heap as they use mutexes and condition variables. The helper, a thread of the library, makes their sections durable, in rounds
  * of two syncs each. Link with -lzelamiku and -pthread. docs/EMBEDDING.md is the manual.
  *
- * Statuses. Every call returns a status, whatever its arguments are, and its comment names each status that it returns. These hold for all calls
- * and aren't repeated:
+ * Statuses. Every call with a handle returns a status, whatever its arguments are; the comment above it names each status that it can return. These
+ * hold for all calls and aren't repeated:
  *   BAD_ARGUMENT         a required pointer is NULL, or the size of a struct isn't set. Nothing was done
- *   NOTHING              the handle was never opened, its heap has ended and another heap uses its place, or zelamiku_thread_end has ended it
+ *   NOTHING              the handle was never opened; or its heap has ended and another heap has taken that heap's place; or zelamiku_thread_end has
+ *                        ended the handle
  *   FORKED               this process is a forked child, and the heap is its parent's. The parent goes on
  * "Ended" in a comment stands for these five. The heap has ended, every later call on it returns the same status, and what was durable stays:
  *   CLOSED               it was closed or stopped
  *   ABANDONED            it was stopped with this reason (zelamiku_heap_stop)
- *   LOST                 a sync has failed, or the program has closed the heap's descriptor. What wasn't durable may be gone, though the file
- *                        still reads as it was written. Close the heap and open it again; if that fails with EIO, mount the file system
- *                        again first
+ *   LOST                 a sync has failed, or the program has closed the heap's descriptor. What wasn't durable may be gone, though reading the
+ *                        file still returns it. Close the heap and open it again; if that fails with EIO, mount the file system again first
  *   FAILED, WORN         the library has stopped: it had no memory, or a number has reached its limit. Close the heap, and open it again
- * If an enter or a wait was in progress when the heap ended, that section may go on; its last exit returns the reason.
- * DEVICE doesn't end the heap: a write has failed, for example on a full disk. Nothing is lost. The next call that waits for a round makes the
- * write again, and so does the helper, each second. After a stop nobody makes it again, so zelamiku_heap_stop returns LOST.
- * A call that fails keeps the reason for its thread, with path, cause and cure: zelamiku_heap_failure.
+ * If the heap ends during an enter or a wait, that call may still succeed and its section go on; the section's last exit returns the reason.
+ * DEVICE doesn't end the heap: a write has failed, for example on a full disk. Nothing is lost. The next call that waits for a round retries the
+ * write, and the helper retries it each second. After a stop nobody retries it, so zelamiku_heap_stop returns LOST. A call that fails records the
+ * reason for its thread, with path, cause and cure: zelamiku_heap_failure returns the record.
  *
  * Structs. Each struct with a `size` can grow, up to 4,096 bytes. The program sets `size` to sizeof the struct before the call. The library reads
- * and writes no byte beyond it: a program that was built with an older header runs over a newer library. A member that the program doesn't have
- * is 0, its default. A program that was built with a newer header gets BAD_ARGUMENT if it sets a member that the library doesn't know, and 0 in
- * each member that the library can't fill in. All other structs stay as they are.
+ * and writes no byte beyond that size, so a program that was built with an older header works with a newer library. A member that the program
+ * doesn't have is 0, its default. A program that was built with a newer header gets BAD_ARGUMENT if it sets a member that the library doesn't know,
+ * and 0 in each member that the library can't fill in. Structs without a `size` never change.
  *
  * Rules. Use a thread's handle in one call at a time, except in calls whose comment says "any thread may". Make no call from a signal handler,
  * and cancel no thread inside a call. Handles are numbers: they may be copied, kept, and handed to other threads. If a process has several
  * copies of the library, a handle belongs to the one that made it. A thread that opens, closes or stops a heap needs 512 kB of stack, one that
  * copies it 64 kB, and any other one 32 kB.
  *
- * This is C over the proved library. Nothing proves it; docs/TESTED.md says how it is tested. */
+ * This is unproved C over the proved library; docs/TESTED.md says how it is tested. */
 #ifndef ZELAMIKU_H
 #define ZELAMIKU_H
 #include <stdbool.h>
@@ -57,15 +57,15 @@ extern "C" {
 #define ZELAMIKU_VERSION "0.2.0"
 #define ZELAMIKU_VERSION_NUMBER 200 /* 10,000 times the first, 100 times the second, and the third */
 
-/* The layout of this header's calls, statuses and structs: libzelamiku.so.1 has layout 1. It stays while programs that were built with an older
- * header run over the newer library: new calls, statuses, and members at a struct's end don't change it. */
+/* The layout of this header's calls, statuses and structs: libzelamiku.so.1 has layout 1. It stays the same as long as programs that were built with
+ * an older header work with the newer library: new calls, statuses, and members at a struct's end don't change it. */
 #define ZELAMIKU_LAYOUT 1
 
 /* The version of the images that the library reads and writes. */
 #define ZELAMIKU_IMAGE_VERSION 2
 
 /* Limits. */
-#define ZELAMIKU_MOST_HEAPS 256      /* one more than may be open at once in a process */
+#define ZELAMIKU_MOST_HEAPS 256      /* at most 255 may be open at once in a process */
 #define ZELAMIKU_MOST_LANES 32
 #define ZELAMIKU_MOST_OBJECTS 4096
 #define ZELAMIKU_MOST_FIELDS 16384
@@ -106,15 +106,15 @@ typedef enum {
     ZELAMIKU_RUNNING = 9,         /* a section is open, or a thread waits */
     ZELAMIKU_UNKNOWN_OBJECT = 10, /* there is no such object */
     ZELAMIKU_UNKNOWN_FIELD = 11,  /* there is no such field */
-    ZELAMIKU_NOT_HELD = 12,       /* the thread doesn't hold the monitor, or that of the field's guard; or no section is open */
-    ZELAMIKU_BEHIND = 13,         /* the lane has no room for a whole section's records before a round: try again */
+    ZELAMIKU_NOT_HELD = 12,       /* the thread doesn't hold the monitor, or the one that guards the field; or no section is open */
+    ZELAMIKU_BEHIND = 13,         /* until the next round the lane has no room for a whole section's records: try again */
     ZELAMIKU_SECTION_FULL = 14,   /* the section would have more than 1,000 records */
     ZELAMIKU_TOO_MANY = 15,       /* the thread holds 16 monitors; or a pool would have more than 16,383 slots */
     ZELAMIKU_TOO_DEEP = 16,       /* the thread has 65,536 locks of the monitor */
-    ZELAMIKU_NO_FAT = 17,         /* 1,024 other monitors were waited on, or locked more than 256 times, before this one */
+    ZELAMIKU_NO_FAT = 17,         /* 1,024 other monitors were waited on, or held with more than 256 locks at once, before this one */
     ZELAMIKU_WORN = 18,           /* a number has reached its limit: the monitor's 2^40 - 1, the lane's 2^62, the control's 2^64 - 1 */
     ZELAMIKU_HELD = 19,           /* another thread has the monitor, or had it when this one tried */
-    ZELAMIKU_FAILED = 22,         /* the heap has stopped, in this call or an earlier one: there was no memory for the calls of the device */
+    ZELAMIKU_FAILED = 22,         /* the heap has stopped, in this call or an earlier one: there was no memory to make the device's calls */
     ZELAMIKU_BAD_ARGUMENT = 24,   /* a pointer is NULL, a struct has a wrong size, or a number is out of its limits */
     ZELAMIKU_NOT_FORMATTED = 25,  /* the file or the device has other bytes than a heap's, and isn't free */
     ZELAMIKU_TOO_SMALL = 27,      /* the device has fewer bytes than the heap takes */
@@ -123,7 +123,7 @@ typedef enum {
     ZELAMIKU_BUSY = 34,           /* another process has the heap, this one has it open already, or the file was replaced meanwhile */
     ZELAMIKU_POOL_EMPTY = 36,     /* no slot of the pool is free */
     ZELAMIKU_NOT_TAKEN = 37,      /* the slot isn't taken, or the pool has no such slot */
-    ZELAMIKU_DAMAGED = 38,        /* a field of the pool names no slot: it isn't a pool's, or was stored to by other calls */
+    ZELAMIKU_DAMAGED = 38,        /* a field of the pool holds no valid slot number: it isn't a pool's, or other calls stored to it */
     ZELAMIKU_CLOSED = 39,         /* the heap was closed or stopped */
     ZELAMIKU_OLD_VERSION = 40,    /* the image has version 1, from before there were transient fields: a plan with `upgrades` opens it */
     ZELAMIKU_FORKED = 41,         /* the heap belongs to the parent process */
@@ -142,7 +142,7 @@ typedef struct {
     uint32_t is_transient; /* 0: stores become durable. Else they aren't logged, and the field is `first` again at each open */
 } zelamiku_field;
 
-/* A heap, and a thread's use of one: a lane of it. All zeros is no handle. To other languages each is a uint64_t. */
+/* Handles of a heap, and of a thread's use of it (a lane). All zeros is never a valid handle. To other languages each is a uint64_t. */
 typedef struct {
     uint64_t number;
 } zelamiku_heap;
@@ -161,13 +161,13 @@ ZELAMIKU_MUST_USE uint32_t zelamiku_version(void);
 /* The clock of all deadlines: nanoseconds of CLOCK_MONOTONIC. */
 uint64_t zelamiku_now(void);
 
-/* Why a call failed. The texts are the thread's, and valid until its next call that fails. None is NULL. */
+/* Why a call failed. The texts belong to the calling thread, and are valid until its next call that fails. No text is ever NULL. */
 typedef struct {
     uint32_t size;     /* sizeof(zelamiku_failure) */
     uint32_t status;   /* what the call returned; OK: no call of this thread has failed */
     int32_t error;     /* the errno of it, such as ENOSPC; 0: there was none */
     uint32_t object;   /* the object that the call named; or ZELAMIKU_NO_NUMBER */
-    uint32_t field;    /* the field that the call named, of a pool its head; or ZELAMIKU_NO_NUMBER */
+    uint32_t field;    /* the field that the call named (for a pool, its head); or ZELAMIKU_NO_NUMBER */
     uint32_t reserved; /* 0 */
     const char *path;  /* of the heap, or of a copy, or the device's name; the last 500 bytes of a longer one. "": there was none */
     const char *call;  /* what was called, such as "open" or "store field 3" */
@@ -175,7 +175,7 @@ typedef struct {
     const char *cure;  /* what to do about it */
 } zelamiku_failure;
 
-/* The calling thread's last call here that failed: fills in `failure`, unless it is NULL, and returns one line of it all:
+/* Describes the calling thread's last failed call: fills in `failure`, unless it is NULL, and returns all of it as one line:
  * "PATH: CALL: CAUSE: the text of errno; CURE". "": no call has failed. HELD, BEHIND and POOL_EMPTY are no failures, and change nothing.
  * NULL: `failure` has a wrong size, and is as it was. */
 const char *zelamiku_heap_failure(zelamiku_failure *failure);
@@ -185,26 +185,26 @@ const char *zelamiku_heap_failure(zelamiku_failure *failure);
  * A heap needn't lie in a file. Whatever has bytes that can be read, written and synced can hold one: a volume, an NBD export
  * (examples/c/nbd.c), a region of another file. The program provides four functions, which the library calls as SQLite calls a VFS. Each returns
  *   OK      it is done
- *   DEVICE  it failed, and may be tried again. The device keeps what it had; of the bytes of this write any may be there, or none
+ *   DEVICE  it failed, and may be tried again. The device keeps what it had; any of this write's bytes may have reached it, or none
  *   LOST    it failed, and no later call may follow: the connection is gone, or what was written since the last sync may be gone. Every
  *           other value counts as this one
  * and sets errno to the cause (without one the library reports EIO). What each does:
  *   read    fills all of `bytes` with what was last written at that place, synced or not
  *   write   takes all of the bytes. They needn't be durable before the next sync. No write is longer than 65,536 bytes, and few are aligned
- *   sync    returns OK once all earlier writes are durable: no crash and no loss of power loses them. A device that returns DEVICE must have
- *           kept what was written since the last sync that was OK: the library syncs again, and doesn't repeat the writes. A system's
- *           fdatasync doesn't keep it: its failure is LOST
+ *   sync    returns OK once all earlier writes are durable: no crash and no loss of power loses them. Return DEVICE only if everything written since
+ *           the last successful sync is kept: the library syncs again, and doesn't repeat the writes. The system's fdatasync doesn't
+ *           guarantee that, so return LOST if it fails
  *   length  returns how many bytes there are, from 0 on. The number doesn't fall while the heap is open
- * Between two syncs each range that is written may hold any bytes after a crash, and every other byte stays. docs/FORMAT.md, "What the device
- * keeps", says which devices promise that. Each opening also writes three single bytes, at 8, 64 and 1,112, with the values that it has read
- * there: a byte that is written with its durable value must survive a crash.
+ * After a crash each range that was written since the last sync may hold any bytes; every other byte keeps its value. docs/FORMAT.md, "What the
+ * device keeps", says which devices promise that. Each opening also rewrites three single bytes, at 8, 64 and 1,112, with the values that it has
+ * read there: a crash during such a rewrite must not change a durable byte.
  *
- * A heap is made in place if the device is free: the bytes that the heap takes are zeros, or what a making that was cut off at any call has left.
- * Later bytes are never read. Nothing is locked: the program must see to it that one heap at a time is on a device, and that nobody else writes
- * there.
+ * A heap is made in place if the device is free: the bytes that the heap takes are zeros, or what an interrupted making has left, wherever it was
+ * interrupted. Later bytes are never read. Nothing is locked: the program must see to it that one heap at a time is on a device, and that nobody
+ * else writes there.
  *
  * Errors. While a heap is opened, an error means no heap: zelamiku_heap_open returns DEVICE, with the cause. Later, DEVICE doesn't end the
- * heap: the failed call is made again, as the top of this header says, and then the others, in order. LOST ends it.
+ * heap: the failed call is retried, as the top of this header says; the remaining calls of the round follow in order. LOST ends it.
  *
  * Threads. `read` and `length` are called by the thread that opens the heap; `write` and `sync` by that thread, and later by any thread that
  * waits for a round, closes or stops the heap, or by the helper. Two calls never overlap. None comes after the heap's close or stop has returned,
@@ -224,8 +224,8 @@ typedef struct {
 /* ---- a heap ---- */
 
 /* The log hook: `level` is one of these, `text` one line without a newline. The caller is the helper's thread, a thread that opens, closes,
- * copies or waits for a round, or one that has slept for a monitor for a second. The calling thread holds no mutex of the library. The hook must
- * not call anything of this heap. The heap's close or stop, and an open that fails, wait for a running hook; after they have returned it isn't
+ * or copies a heap or waits for a round, or one that has waited a second for a monitor. The calling thread holds no mutex of the library. The hook
+ * must not call anything of this heap. The heap's close or stop, and an open that fails, wait for a running hook; after they have returned it isn't
  * called any more. */
 enum { ZELAMIKU_LOG_INFO = 0, ZELAMIKU_LOG_WARNING = 1, ZELAMIKU_LOG_ERROR = 2 };
 typedef void zelamiku_log(void *context, uint32_t level, const char *text);
@@ -241,7 +241,7 @@ typedef struct {
     const zelamiku_field *fields;  /* numbered from 0 */
     uint32_t count;                /* of fields: 1 to 16,384, or with a fingerprint to 16,383 */
     uint32_t lanes;                /* how many threads use the heap at once: 1 to 32; 0 is 8. See zelamiku_heap_open for the helper's lane */
-    uint32_t capacity;             /* records of a lane's log: 2,000 to 1,048,576; 0: as its ring. A heap that is there keeps its own */
+    uint32_t capacity;             /* records of a lane's log: 2,000 to 1,048,576; 0: the same as its ring. An existing heap keeps its own */
     uint32_t ring;                 /* records of a lane's ring: 4,096 to 65,536; 0 is 16,384. 24 bytes of memory each: 393 kB a lane */
     uint32_t linger;               /* microseconds before a round takes a section that has stored and that nobody awaits; 0 is 5,000 */
     uint32_t upgrades;             /* 1: a heap of an older version is upgraded in place; 0: OLD_VERSION */
@@ -275,8 +275,8 @@ enum {
     ZELAMIKU_DAMAGED_LOG = 5      /* no threads can have left these records */
 };
 
-/* What an opening found. It leaves the helper's lane out: `lanes` counts the lanes of threads, and `dropped` threads' sections alone. If
- * `dropped` is 0, so is `undone`; otherwise `undone` also counts fields whose values the helper's lane had. */
+/* What an opening found. It leaves the helper's lane out: `lanes` counts the lanes of threads, and `dropped` counts only threads' sections. If
+ * `dropped` is 0, so is `undone`; otherwise `undone` also counts fields whose old values were in the helper's lane. */
 typedef struct {
     uint32_t size;         /* sizeof(zelamiku_report) */
     uint32_t is_made;      /* 1: the path had no heap, and this open made one */
@@ -293,15 +293,15 @@ typedef struct {
     uint64_t bytes;        /* of the image */
     uint64_t dropped;      /* the sections that recovery dropped; none of them was acknowledged. zelamiku_heap_dropped has each */
     uint64_t undone;       /* the fields that recovery has set back to an old value */
-    uint64_t kept[ZELAMIKU_MOST_LANES]; /* how many sections of each lane were kept, since the opening before */
+    uint64_t kept[ZELAMIKU_MOST_LANES]; /* how many sections of each lane were kept, since the previous opening */
 } zelamiku_report;
 
-/* Opens the heap of the file at this path, and starts its helper. Recovers a heap that is there. Makes one if there is no file, or a free one:
- * it is empty, has only zeros, or is a heap whose making was cut off. The file stays locked while the heap is open. `report` may be NULL; it is
- * filled in also if the call fails. After a failure `heap` is no handle.
- * A heap is made in a new file beside the path (PATH.heapctl-new, where the path's links lead). That file is locked, synced and renamed to the
- * path, and the folder is synced. If the process dies meanwhile, the path stays as it was, and the next making or copy there replaces the file
- * beside it.
+/* Opens the heap of the file at this path, and starts its helper. Recovers the heap at the path. If there is no file, or a free one (empty, only
+ * zeros, or left by an interrupted making), makes a heap. The file stays locked while the heap is open. `report` may be NULL; it is filled in even
+ * if the call fails. After a failure `heap` is no handle.
+ * A heap is made in a new file beside the path (PATH.heapctl-new, after following the path's symbolic links). That file is locked, synced and
+ * renamed to the path, and the folder is synced. If the process dies meanwhile, the path stays as it was, and the next making or copy there
+ * replaces the file beside it.
  * Each opening syncs the folder of the real path, or its whole file system if the folder can't be read. After that no crash loses the file's
  * name, even if the file was renamed to the path just before.
  * The path may name a block device: a disk, a partition, a logical volume, or one on another machine (RBD, DRBD, iSCSI, the kernel's NBD). It is
@@ -309,17 +309,16 @@ typedef struct {
  * A new heap has a lane for each of the plan's threads, and one more for the helper; with it rounds take two syncs. With 32 threads it has 32
  * lanes, and none for the helper: rounds take four. An existing heap may have more lanes than the plan has threads: its last lane is then the
  * helper's, and all others are threads'. One with as many lanes as the plan has threads is opened too, without a lane for the helper: rounds
- * take four. The file doesn't record whether its last lane was the helper's. If this plan and the one before differ in that, the report omits
- * the threads' sections in that lane, or lists the helper's as UNSETTLED.
- * A heap made by a plan with a fingerprint has one field more, the last: transient, of object 0, with the fingerprint as its first value. The
- * report doesn't count it, and programs don't use it: a store there lasts until the heap is closed, and changes no fingerprint. A heap without
- * one, with as many fields as the plan, is opened too.
+ * take four. The file doesn't record whether its last lane was the helper's. If the previous plan used the last lane differently, the report omits
+ * the threads' sections in that lane, or lists the helper's as UNSETTLED. A heap made by a plan with a fingerprint has one field more, the last:
+ * transient, of object 0, with the fingerprint as its first value. The report doesn't count it, and programs don't use it: a store there lasts until
+ * the heap is closed, and changes no fingerprint. A heap with no fingerprint and as many fields as the plan is opened too.
  *
  * Returns OK, or one of these:
- *   BAD_ARGUMENT    a number of the plan is out of its limits, or a field names no object of the plan; the cause names it
- *   BUSY            another process has the heap, makes one there, or has locked the file, as any program that may read it can. Or this process
- *                   has it open, by this or another name: close that heap first, also if the program has closed its descriptor. Or the file was
- *                   replaced meanwhile. Never for a device of your own
+ *   BAD_ARGUMENT    a number of the plan is out of its limits, or a field names an object that the plan doesn't have; the failure's cause says which
+ *   BUSY            another process has the heap, makes one there, or has locked the file (any program that may read the file can lock it). Or this
+ *                   process has it open, by this or another name: close that heap first, even if the program has closed its descriptor. Or the file
+ *                   was replaced meanwhile. Never for a device of your own
  *   NO_HEAP         there is no heap, and the plan says must_exist: there is no file, or a free one
  *   OTHER_HEAP      the file's heap isn't that of the plan: the report has the first difference
  *   OLD_VERSION     an older library made the heap, and the plan doesn't say `upgrades`
@@ -352,7 +351,7 @@ typedef struct {
     uint32_t why;           /* ZELAMIKU_NOT_ENDED, .. */
     uint32_t lane;
     uint32_t other_lane;    /* after ZELAMIKU_DEPENDED: the lane of the section on which it depends; else ZELAMIKU_NOBODY */
-    uint64_t section;       /* its number in its lane, from 1, since the opening before */
+    uint64_t section;       /* its number in its lane, from 1, since the previous opening */
     uint64_t other_section; /* and that section's number */
 } zelamiku_dropped;
 
@@ -425,7 +424,7 @@ ZELAMIKU_MUST_USE zelamiku_status zelamiku_heap_stats(zelamiku_heap heap, zelami
 typedef struct {
     uint32_t lane;      /* the thread's */
     uint32_t object;    /* whose monitor it wants */
-    uint32_t owner;     /* the lane that has it; ZELAMIKU_NOBODY: none now, or unknown, because all lanes are in sections and none sleeps */
+    uint32_t owner;     /* the lane that has it; ZELAMIKU_NOBODY: nobody now, or unknown: every lane is in a section and none sleeps */
     uint32_t in_circle; /* 1: it waits in a circle of threads, none of which can go on */
 } zelamiku_wait;
 
@@ -435,7 +434,7 @@ typedef struct {
  * Returns OK; Ended: `written` is 0. */
 ZELAMIKU_MUST_USE zelamiku_status zelamiku_heap_waits(zelamiku_heap heap, zelamiku_wait *waits, size_t count, size_t *written);
 
-/* Sleeps until more rounds than `seen` have ended, or until the deadline (zelamiku_now), or ZELAMIKU_NO_DEADLINE. `rounds` gets how many have
+/* Sleeps until more than `seen` rounds have ended, or until the deadline (zelamiku_now); ZELAMIKU_NO_DEADLINE means none. `rounds` gets how many have
  * ended. It requests a round if a section has ended that no round has taken. Any thread may call it, without a lane: one thread can wait for the
  * sections of many (zelamiku_thread_progress). Returns OK, also at the deadline; DEVICE: the write of a round has failed; Ended. */
 ZELAMIKU_MUST_USE zelamiku_status zelamiku_heap_await_round(zelamiku_heap heap, uint64_t seen, uint64_t deadline, uint64_t *rounds);
@@ -449,7 +448,7 @@ ZELAMIKU_MUST_USE zelamiku_status zelamiku_thread_begin(zelamiku_thread *thread,
 ZELAMIKU_MUST_USE zelamiku_status zelamiku_thread_end(zelamiku_thread thread);
 
 /* Locks the object's monitor, or locks it once more. Sleeps while another thread has it, or until a round makes room in the lane. Threads that
- * sleep for one monitor get it in the order in which they came; a thread that calls while it is free may get it before them. Take monitors in
+ * sleep for one monitor get it in the order in which they came; but a thread that calls while the monitor is free may get it first. Take monitors in
  * one order everywhere: two threads that wait for each other's monitors wait for ever.
  * Returns OK; UNKNOWN_OBJECT, SECTION_FULL, TOO_MANY, TOO_DEEP, NO_FAT, WORN (of this monitor or lane: the heap goes on); DEVICE, if it waited for
  * a round that can't write: what is held stays as it was. Ended. */
@@ -472,9 +471,9 @@ ZELAMIKU_MUST_USE zelamiku_status zelamiku_thread_store(zelamiku_thread thread, 
 
 /* Undoes what the open section has stored: each field gets the value that it had before the section's first store to it, and each slot of a pool
  * is taken or free as it was. The monitors stay held and the section goes on. It may store again; otherwise it ends as a section without stores.
- * After a crash no other outcome shows, because all of it is one section. Threads that it has notified stay notified.
+ * After a crash no state in between shows, because all of it is one section. Threads that it has notified stay notified.
  *   - A section can be reverted while it holds every monitor under which it has stored. Once it has freed one of them, by an exit or a wait,
- *     and goes on with others, it can't be reverted until it ends: other threads may have seen those values. Stores that a revert has
+ *     and goes on with others, it can no longer be reverted: other threads may have seen those values. Stores that a revert has
  *     undone don't count.
  *   - A wait with no other monitor held ends the section: its stores stay. A later revert undoes the stores since the wait.
  *   - One record of the section's 1,000 is kept free for each persistent field that it has stored to, for the old value. So it can store to
@@ -489,9 +488,9 @@ ZELAMIKU_MUST_USE zelamiku_status zelamiku_thread_revert(zelamiku_thread thread)
  * Returns OK; UNKNOWN_OBJECT, NOT_HELD, BEHIND, SECTION_FULL, NO_FAT, WORN, DEVICE: the monitor is held as before. Ended: it isn't held. */
 ZELAMIKU_MUST_USE zelamiku_status zelamiku_thread_wait(zelamiku_thread thread, uint32_t object);
 
-/* Notifies a thread that waits on a monitor that is held, or with `all` each of them. They go on once the monitor is free, in any order. `lanes`
- * gets the bit 1 << lane for each, or 0 if none waits; it may be NULL. If several wait and one is notified, any of them may be chosen, and one may
- * be passed over for ever. Returns OK; UNKNOWN_OBJECT, NOT_HELD, Ended: nobody is notified. */
+/* Notifies one thread that waits on the monitor, which the caller must hold, or with `all` every such thread. They go on once the monitor is free,
+ * in any order. `lanes` gets the bit 1 << lane for each, or 0 if none waits; it may be NULL. If several wait and one is notified, any of them may be
+ * chosen, and one may be passed over for ever. Returns OK; UNKNOWN_OBJECT, NOT_HELD, Ended: nobody is notified. */
 ZELAMIKU_MUST_USE zelamiku_status zelamiku_thread_notify(zelamiku_thread thread, uint32_t object, bool all, uint64_t *lanes);
 
 /* A monitor, as zelamiku_thread_look sees it. */
@@ -513,15 +512,15 @@ typedef struct {
     uint32_t end;      /* OK while the heap goes on; then the status that its calls return */
     uint64_t sections; /* how many sections the thread has ended since zelamiku_thread_begin */
     uint64_t durable;  /* how many of these are durable, counted from the first */
-    uint64_t earlier;  /* how many sections the lane had ended in this opening before that. Section n of the lane in the next opening's report
-                          (zelamiku_dropped, and `kept`) is this thread's section n - earlier */
+    uint64_t earlier;  /* how many sections the lane had ended in this opening before zelamiku_thread_begin. Section n of the lane in the next
+                          opening's report (zelamiku_dropped, and `kept`) is this thread's section n - earlier */
 } zelamiku_progress;
 
 /* Any thread may ask. Returns OK, also after the heap has ended. After a failure `lane` is ZELAMIKU_NOBODY, and all else is 0. */
 ZELAMIKU_MUST_USE zelamiku_status zelamiku_thread_progress(zelamiku_thread thread, zelamiku_progress *progress);
 
-/* Sleeps until the first `sections` that the thread has ended are durable (ZELAMIKU_ALL_SECTIONS, or more than have ended: all), and until the
- * deadline at most (zelamiku_now, or ZELAMIKU_NO_DEADLINE). It requests a round, and sleeps on while a section that one of them depends on is
+/* Sleeps until the thread's first `sections` sections are durable, at most until the deadline (zelamiku_now, or ZELAMIKU_NO_DEADLINE).
+ * ZELAMIKU_ALL_SECTIONS, or a number above those ended, means all. It requests a round, and sleeps on while a section that one of them depends on is
  * open. `is_durable` gets whether they are. A deadline that has passed requests the round and doesn't sleep. A timeout changes nothing for the
  * sections. Any thread may call it. Returns OK, also at the deadline, or
  *   RUNNING  for ZELAMIKU_ALL_SECTIONS alone: the thread has a section open. Exit its monitors first
@@ -540,12 +539,12 @@ ZELAMIKU_MUST_USE static inline zelamiku_status zelamiku_thread_await(zelamiku_t
  *
  * A pool has slots, numbered from 0. It lies in persistent fields of one object, which guards them: the head, and after it a field for each
  * slot. The program keeps a slot's contents in fields of its own, as field BASE + slot. They may hold the numbers of other slots, which makes
- * lists and trees. A crash that drops a section undoes what it took and released; one that keeps it keeps that too. Nothing else stores to the
- * pool's fields. The image doesn't record where a heap has a pool: the program knows. */
+ * lists and trees. If a crash drops a section, what it took and released is undone; if the section is kept, that is kept too. Nothing else stores to
+ * the pool's fields. The image doesn't record where a heap has a pool: the program knows. */
 
 /* Fills in the fields of a pool of `count - 1` slots, all free: `fields` gets the head and then the slots, one after another, for the plan.
- * Returns OK. BAD_ARGUMENT: there are fewer than 2. TOO_MANY: there are more than ZELAMIKU_MOST_SLOTS + 1. `fields` is as it was, and no failure is
- * kept. `fields` may not be NULL. */
+ * Returns OK. BAD_ARGUMENT: there are fewer than 2. TOO_MANY: there are more than ZELAMIKU_MOST_SLOTS + 1. After either error `fields` is unchanged
+ * and no failure is recorded. `fields` must not be NULL. */
 ZELAMIKU_MUST_USE zelamiku_status zelamiku_pool_fields(uint32_t object, zelamiku_field *fields, size_t count);
 
 /* Takes a free slot of the pool with this head and this number of slots. The thread must hold its object's monitor; the call makes two records.
@@ -558,24 +557,24 @@ ZELAMIKU_MUST_USE zelamiku_status zelamiku_thread_give(zelamiku_thread thread, u
 
 /* ---- threads with an event loop ----
  *
- * Such a thread serves any number of clients by one lane, and doesn't sleep until their sections are durable. It holds replies back:
- *     for (each client that has sent something) a section; its reply waits under the number of the section, which the program counts
+ * Such a thread serves any number of clients by one lane, without sleeping for durability: it holds each reply back until its section is durable.
+ *     for (each client that has sent something) run a section; queue its reply under the section's number, which the program counts
  *     zelamiku_thread_ask(own, &durable)         once for all of them, before it waits for events
  *     for (each reply that waits under a number up to `durable`) send it
  *     epoll_wait(..)                             for its clients, and for the event
- * One round makes all their sections durable. Ask also for a section that has only loaded: it may have seen what isn't durable yet. A thread
+ * One round makes all their sections durable. Ask also for a section that has only loaded: it may have read values that aren't durable yet. A thread
  * that has nothing else to do meanwhile may call zelamiku_thread_await instead, and needs no event. */
 
 /* Returns the thread's event: a descriptor that becomes readable
  *   - once a round has made some of the requested sections durable,
- *   - once a lane for which zelamiku_thread_enter_until with a deadline of 0 has returned BEHIND may have room,
+ *   - once the lane may have room again, after zelamiku_thread_enter_until with a deadline of 0 returned BEHIND,
  *   - once a write has failed while one of these is pending, and
  *   - once the heap has ended.
  * zelamiku_thread_ask makes it unreadable. Exception: the first ask after it has reported room leaves it readable until a section of the thread
  * has ended. So a loop that asks before it waits still wakes up and tries again.
  * The first call makes the descriptor. It belongs to the library: only wait for it, by level or by edge. zelamiku_thread_end closes it, also
- * after the heap has ended, and a fork closes it in the child: remove it from the loop first. If the program has closed it by mistake, the
- * library leaves alone the file that has its number by then, and the next call makes another one.
+ * after the heap has ended, and a fork closes it in the child: remove it from the loop first. If the program has closed it by mistake, the library
+ * doesn't touch whatever file has that number by then, and the next call makes another one.
  * Returns OK, also after the heap has ended. NO_MEMORY: the system has no descriptor; the failure has its error. `descriptor` is -1 after each
  * failure. */
 ZELAMIKU_MUST_USE zelamiku_status zelamiku_thread_event(zelamiku_thread thread, int *descriptor);
