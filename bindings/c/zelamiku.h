@@ -114,7 +114,7 @@ typedef enum {
     ZELAMIKU_NO_FAT = 17,         /* 1,024 other monitors were waited on, or held with more than 256 locks at once, before this one */
     ZELAMIKU_WORN = 18,           /* a number has reached its limit: the monitor's 2^40 - 1, the lane's 2^62, the control's 2^64 - 1 */
     ZELAMIKU_HELD = 19,           /* another thread has the monitor, or had it when this one tried */
-    ZELAMIKU_FAILED = 22,         /* the heap has stopped, in this call or an earlier one: there was no memory to make the device's calls */
+    ZELAMIKU_FAILED = 22,         /* the heap has stopped, in this call or an earlier one: there was no memory for the calls of the device */
     ZELAMIKU_BAD_ARGUMENT = 24,   /* a pointer is NULL, a struct has a wrong size, or a number is out of its limits */
     ZELAMIKU_NOT_FORMATTED = 25,  /* the file or the device has other bytes than a heap's, and isn't free */
     ZELAMIKU_TOO_SMALL = 27,      /* the device has fewer bytes than the heap takes */
