@@ -50,6 +50,5 @@ fn the_header_has_the_limits_and_numbers_of_the_library_and_of_this_crate() {
     }
     // And the library that is linked, and this crate, are this header's.
     assert_eq!(u64::from(zelamiku::library_version()), header("VERSION_NUMBER"));
-    let [first, second, third] = [env!("CARGO_PKG_VERSION_MAJOR"), env!("CARGO_PKG_VERSION_MINOR"), env!("CARGO_PKG_VERSION_PATCH")].map(|it| it.parse::<u64>().unwrap());
-    assert_eq!(10_000 * first + 100 * second + third, header("VERSION_NUMBER"));
+    assert!(fs::read_to_string("../c/zelamiku.h").unwrap().contains(concat!("ZELAMIKU_VERSION \"", env!("CARGO_PKG_VERSION"), '"')));
 }
