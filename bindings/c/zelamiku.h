@@ -331,9 +331,10 @@ typedef struct {
  *   DEVICE          the file can't be opened, made, locked, read or written, or its folder can't be synced: the failure has the system's error
  *   NONE_LEFT       255 heaps are open
  *   NO_MEMORY       no memory, or no thread could be started
- * All of these leave an existing file or device as it was, and no file where there was none. Two exceptions: if a new heap's folder can't be
- * synced (DEVICE), a file that was free may hold the heap; and after a DEVICE whose cause is a write or a sync, a heap that is there may have been
- * recovered already, and a free device may hold a part of a new one. Opening again goes on from there. */
+ * All of these leave an existing file or device as it was, and no file where there was none. Exceptions: if a new heap's folder can't be synced
+ * (DEVICE), a file that was free may hold the heap. After NO_MEMORY a new heap may be there, and a heap that was there may have been recovered.
+ * After a DEVICE whose cause is a write or a sync that may be too, and a free device may hold a part of a new heap. Opening again goes on from
+ * there. */
 ZELAMIKU_MUST_USE zelamiku_status zelamiku_heap_open(zelamiku_heap *heap, const char *path, const zelamiku_plan *plan,
                                                      zelamiku_report *report);
 

@@ -329,13 +329,6 @@ ZELAMIKU_MUST_USE zelamiku_status zelamiku_pool_give(zelamiku_handle *session, u
  * WAITING, WRONG_KIND: the handle is as it was. */
 ZELAMIKU_MUST_USE zelamiku_status zelamiku_end(zelamiku_handle *session);
 
-/* ---- measurements of these calls ---- */
-
-/* Makes all pending calls of the device on a file, for measurements of the calls here without the scheduler. `made` gets how many. DEVICE: a
- * write has failed, and no call after it was made; the next zelamiku_make_calls begins with it. LOST: a sync has failed, and no call may follow
- * (zelamiku_call_failed). errno has the cause. */
-ZELAMIKU_MUST_USE zelamiku_status zelamiku_make_calls(zelamiku_handle *heap, int descriptor, uint64_t *made);
-
 #ifdef ZELAMIKU_HAS_SIZE
 ZELAMIKU_HAS_SIZE(zelamiku_handle, 16);
 ZELAMIKU_HAS_SIZE(zelamiku_found, 48);

@@ -73,10 +73,3 @@ static zelamiku_status make_calls_on(zelamiku_handle *handle, const zelamiku_dev
         *syncs += call.kind == ZELAMIKU_SYNC;
     }
 }
-
-zelamiku_status zelamiku_make_calls(zelamiku_handle *handle, int descriptor, uint64_t *made) {
-    zelamiku_device file = device_of_file(descriptor);
-    uint64_t syncs = 0, none = 0;
-    if (handle == NULL) return null_pointer("make calls", "give a heap");
-    return make_calls_on(handle, &file, made != NULL ? made : &none, &syncs);
-}

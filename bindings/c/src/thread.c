@@ -388,7 +388,7 @@ static zelamiku_status progress_of(const heap *heap, const seat *own, zelamiku_t
     uint64_t ended = own->ended, acknowledged = own->acknowledged, earlier = own->earlier;
     if (ended < acknowledged) ended = acknowledged; /* a round may take a section before its last exit has counted it */
     zelamiku_status end_status = (zelamiku_status)heap->end_status;
-    progress->lane = own->lane;
+    progress->lane = (uint32_t)((own - seats) % ZELAMIKU_MOST_LANES); /* of a stale handle `lane` may be written meanwhile */
     progress->is_open = own->was_cut_off || (own->is_busy && end_status != ZELAMIKU_OK) || own->open == thread.number;
     progress->end = end_status;
     progress->sections = ended - earlier;

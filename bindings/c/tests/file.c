@@ -1,4 +1,4 @@
-/* Tests of the heap's file (zelamiku_heap_open, zelamiku_heap_copy, zelamiku_make_calls): a file that moves a byte at a time, is interrupted,
+/* Tests of the heap's file (zelamiku_heap_open, zelamiku_heap_copy): a file that moves a byte at a time, is interrupted,
  * fails at each call in turn, is cut off or killed at each call of its making, has an old image, is made by several at once, and is replaced
  * while it is opened or copied to. A program closes it by mistake.
  *
@@ -128,12 +128,6 @@ static void be_slow(const char *path, int when) {
 
 static int releasing_nanosleep(const struct timespec *time, struct timespec *left);
 
-static int fstat_error; /* what fstat fails with */
-
-static int flaky_fstat(int file, struct stat *info) {
-    return fstat_error != 0 ? (errno = fstat_error, -1) : fstat(file, info);
-}
-
 static mode_t mode_made; /* that of the last file which was made, before any umask */
 
 static int flaky_open(const char *path, int flags, ...) {
@@ -171,7 +165,6 @@ static void *watched_malloc(size_t size) {
 #define open flaky_open
 #define flock(file, how) replacing_flock(file, how)
 #define malloc watched_malloc
-#define fstat flaky_fstat
 #define nanosleep releasing_nanosleep
 #include "../zelamiku_threads.c"
 #undef pwrite
@@ -180,7 +173,6 @@ static void *watched_malloc(size_t size) {
 #undef open
 #undef flock
 #undef malloc
-#undef fstat
 #undef nanosleep
 
 #include "must.h"
@@ -499,48 +491,6 @@ static int failing_makings(void) {
     }
 }
 
-/* The system doesn't say which file was made beside: nothing is left there. */
-static void unknown_drafts(void) {
-    zelamiku_heap heap;
-    remove_file();
-    fstat_error = EIO;
-    MUST(open_heap(&heap) == ZELAMIKU_DEVICE && last_failure().error == EIO && is_missing("heap") && is_missing(BESIDE_IT));
-    fstat_error = 0;
-    MUST(found() == 5);
-}
-
-/* Each write and sync of one round fails in turn, by the bare calls: a write is made again, and a sync lets the heap go. What was acknowledged
- * before stays. Answers how many calls there were. */
-static int failing_rounds(void) {
-    for (int call = 1;; call++) {
-        zelamiku_heap heap;
-        zelamiku_thread own;
-        remove_file();
-        MUST(open_heap(&heap) == ZELAMIKU_OK && add(heap, 2) == 7 && zelamiku_thread_begin(&own, heap) == ZELAMIKU_OK);
-        uint64_t rounds = stats_now(heap).two_sync_rounds;
-        fails_in = call;
-        MUST(zelamiku_thread_enter(own, 0) == ZELAMIKU_OK && zelamiku_thread_store(own, 0, 8) == ZELAMIKU_OK);
-        zelamiku_status status = zelamiku_thread_exit(own, 0);
-        if (status == ZELAMIKU_OK) status = zelamiku_thread_await(own);
-        int left = fails_in;
-        fails_in = 0;
-        if (status == ZELAMIKU_OK) {
-            MUST(left > 0 && zelamiku_heap_close(heap) == ZELAMIKU_OK && found() == 8);
-            return call - 1;
-        }
-        MUST(last_failure().error == ENOSPC);
-        if (status == ZELAMIKU_DEVICE) {
-            MUST(zelamiku_thread_await(own) == ZELAMIKU_OK);
-            UNTIL(stats_now(heap).two_sync_rounds == rounds + 1); /* which are counted after their sections */
-            MUST(zelamiku_heap_stop(heap, ZELAMIKU_ABANDONED) == ZELAMIKU_OK && found() == 8);
-        } else {
-            MUST(status == ZELAMIKU_LOST && zelamiku_heap_close(heap) == ZELAMIKU_LOST);
-            uint64_t value = found();
-            MUST(value == 7 || value == 8);
-        }
-    }
-}
-
 /* ---- what a crash leaves of a file that is being made ---- */
 
 enum { PIECE = 512, CRASHES = 24 };
@@ -781,17 +731,6 @@ static void links(void) {
 
 /* ---- copies ---- */
 
-static uint8_t *bytes_of(const char *path, size_t *size) {
-    struct stat info;
-    int file = open(path, O_RDONLY | O_CLOEXEC);
-    MUST(file >= 0 && fstat(file, &info) == 0);
-    uint8_t *bytes = (uint8_t *)malloc((size_t)info.st_size + 1);
-    MUST(bytes != NULL && read(file, bytes, (size_t)info.st_size) == info.st_size && close(file) == 0);
-    *size = (size_t)info.st_size;
-    return bytes;
-}
-
-/* What the heap at the path has. */
 static uint64_t value_at(const char *path) {
     zelamiku_heap heap;
     MUST(zelamiku_heap_open(&heap, path, &plan, NULL) == ZELAMIKU_OK);
@@ -829,35 +768,8 @@ static void leave_child_that_has_not_run(void) {
     let_live((pid_t)syscall(SYS_fork));
 }
 
-/* Each write, sync and rename of a copy fails in turn: what was there stays, but where the folder's sync fails after the rename. Nothing is left
- * beside. Answers how many there are. */
-static int failing_copies(zelamiku_heap heap) {
-    for (int call = 1;; call++) {
-        size_t size, size_after;
-        uint8_t *before = bytes_of("copy", &size);
-        uint64_t value = add(heap, 1);
-        fails_in = call;
-        zelamiku_status status = zelamiku_heap_copy(heap, "copy");
-        int left = fails_in;
-        fails_in = 0;
-        MUST(is_missing("copy.heapctl-new"));
-        uint8_t *after_ = bytes_of("copy", &size_after);
-        bool is_old = size == size_after && memcmp(before, after_, size) == 0;
-        free(before);
-        free(after_);
-        if (status == ZELAMIKU_OK) {
-            MUST(left > 0 && !is_old && value_at("copy") == value);
-            return call - 1;
-        }
-        MUST(status == ZELAMIKU_DEVICE && last_failure().error == ENOSPC);
-        bool is_new = strstr(zelamiku_heap_failure(NULL), "copy: copy: the new copy is at the path, but its folder can't be synced: No space") != NULL;
-        MUST(is_new || strstr(zelamiku_heap_failure(NULL), "the copy can't be written: No space left on device; what was at the path is there still"));
-        MUST(is_old != is_new && (is_old || value_at("copy") == value));
-    }
-}
-
 /* A copy and an open of its path keep each other out, and so do two copies, from when the copy begins until it is in its place. */
-static int copies(void) {
+static void copies(void) {
     zelamiku_heap heap, other;
     life();
     MUST(open_heap(&heap) == ZELAMIKU_OK && zelamiku_heap_copy(heap, "copy") == ZELAMIKU_OK && value_at("copy") == 8);
@@ -886,9 +798,7 @@ static int copies(void) {
         MUST(kill(lasting, SIGKILL) == 0 && waitpid(lasting, NULL, 0) == lasting);
     }
     before_rename = NULL;
-    int calls = failing_copies(heap);
     MUST(zelamiku_heap_close(heap) == ZELAMIKU_OK && chmod("heap", 0600) == 0);
-    return calls;
 }
 
 /* ---- a file that goes ---- */
@@ -1018,10 +928,9 @@ int main(int argc, char **argv) {
     rings();
     lanes();
     openings();
-    int makings = failing_makings(), calls = failing_rounds(), crashes = cut_off_makings(), old_crashes = old_makings();
-    int killed = killed_makings(makings), copy_calls = copies();
-    MUST(makings > 5 && calls > 4 && copy_calls > 3 && killed >= 2);
-    unknown_drafts();
+    int makings = failing_makings(), crashes = cut_off_makings(), old_crashes = old_makings(), killed = killed_makings(makings);
+    MUST(makings > 5 && killed >= 2);
+    copies();
     at_once();
     slow_opens();
     links();
@@ -1036,9 +945,11 @@ int main(int argc, char **argv) {
     remove_file();
     life();
     old();
-    MUST(copies() > copy_calls && descriptors(&inherited) == before);
-    printf("file: lives, an old image, other opens, a block device, large files, rings, the helper's lane, links, a file that goes, one that the program closes, a fault at each of %d calls of a making, %d of a round and %d of a copy, "
-           "%d crashes of a making, %d of one in place, %d kills (%d before the heap was there), and calls that are short and interrupted\n",
-           makings, calls, copy_calls, crashes, old_crashes, 2 * makings + TIMED_KILLS, killed);
+    copies();
+    MUST(descriptors(&inherited) == before);
+    printf("file: lives, an old image, other opens, a block device, large files, rings, the helper's lane, links, a file that goes, one that the program"
+           " closes, a fault at each of %d calls of a making, %d crashes of a making, %d of one in place, %d kills (%d before the heap was there), and"
+           " calls that are short and interrupted\n",
+           makings, crashes, old_crashes, 2 * makings + TIMED_KILLS, killed);
     return 0;
 }
