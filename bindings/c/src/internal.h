@@ -133,7 +133,7 @@ typedef struct {
     uint32_t guards;  /* under how many monitors it has stored, and which */
     uint16_t under[ZELAMIKU_MOST_HELD];
     bool is_past;     /* a monitor under which it had stored was freed, and taken again */
-    uint32_t all;     /* how many fields there are, and each */
+    uint32_t count;   /* how many fields there are, and each */
     kept_field fields[];
 } changes;
 

@@ -445,7 +445,8 @@ static zelamiku_status take_bytes(heap *heap, uint8_t *bytes, mode_t *mode) {
 /* Opens and locks what is at the draft's path, if there is something. DEVICE, by errno. */
 static zelamiku_status take_target(draft *draft) {
     struct stat info;
-    if (!open_listed(&draft->old, draft->path, O_RDWR, 0) && (errno == EACCES || errno == EROFS)) (void)open_listed(&draft->old, draft->path, O_RDONLY, 0);
+    bool is_for_reading = !open_listed(&draft->old, draft->path, O_RDWR, 0) && (errno == EACCES || errno == EROFS);
+    if (is_for_reading) (void)open_listed(&draft->old, draft->path, O_RDONLY, 0);
     if (draft->old < 0) return errno == ENOENT ? ZELAMIKU_OK : ZELAMIKU_DEVICE;
     if (fstat(draft->old, &info) != 0) return ZELAMIKU_DEVICE;
     if (S_ISREG(info.st_mode)) return is_open_here(&info) ? ZELAMIKU_BUSY : lock_alone(draft->old);

@@ -216,7 +216,8 @@ static zelamiku_status open_image(opening *opening, uint64_t size) {
     zelamiku_told told = {.bad_lane = ZELAMIKU_NOBODY};
     const zelamiku_device *from = &opening->heap->device;
     if (size < HEADER_BYTES) return ZELAMIKU_NOT_FORMATTED;
-    if (read_device(from, 0, begun, (size_t)(size < sizeof begun ? size : sizeof begun)) != ZELAMIKU_OK) return no_device(opening, "it can't be read");
+    size_t there = size < sizeof begun ? (size_t)size : sizeof begun;
+    if (read_device(from, 0, begun, there) != ZELAMIKU_OK) return no_device(opening, "it can't be read");
     zelamiku_status status = zelamiku_head(begun, sizeof begun, &opening->shape);
     if (status == ZELAMIKU_NOT_FORMATTED) return status;
     if (status == ZELAMIKU_OK && size < opening->shape.size) status = ZELAMIKU_TOO_SMALL;

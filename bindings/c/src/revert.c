@@ -10,56 +10,56 @@ static zelamiku_status enter_slowly(seat *own, uint32_t object, zelamiku_status 
 /* ---- the section's changes ---- */
 
 /* Forgets all saved values. */
-static inline void keep_nothing(changes *all) {
-    all->stamp++;
-    all->last = NO_FIELD;
-    all->guard = NO_OBJECT;
-    all->guards = 0;
+static inline void keep_nothing(changes *changes) {
+    changes->stamp++;
+    changes->last = NO_FIELD;
+    changes->guard = NO_OBJECT;
+    changes->guards = 0;
 }
 
 /* The open section's changes. Resets them if they belong to an earlier section. Every step but the first enter calls this, so then the section
  * has only taken its first monitor. */
 static inline changes *changes_of(seat *own) {
-    changes *all = own->changes;
-    if (all->section != own->ended) {
-        all->section = own->ended;
-        all->used = 2; /* to take that monitor and to free it */
-        all->is_past = false;
-        keep_nothing(all);
+    changes *changes = own->changes;
+    if (changes->section != own->ended) {
+        changes->section = own->ended;
+        changes->used = 2; /* to take that monitor and to free it */
+        changes->is_past = false;
+        keep_nothing(changes);
     }
-    return all;
+    return changes;
 }
 
 /* Whether there is room for a step of so many records. Freeing a monitor was counted when it was taken. */
-static inline bool has_room(const changes *all, uint32_t more) {
-    return all->used + more <= ZELAMIKU_MOST_RECORDS;
+static inline bool has_room(const changes *changes, uint32_t more) {
+    return changes->used + more <= ZELAMIKU_MOST_RECORDS;
 }
 
-static bool has_stored_under(const changes *all, uint32_t object) {
-    for (uint32_t i = 0; i < all->guards; i++)
-        if (all->under[i] == object) return true;
+static bool has_stored_under(const changes *changes, uint32_t object) {
+    for (uint32_t i = 0; i < changes->guards; i++)
+        if (changes->under[i] == object) return true;
     return false;
 }
 
 /* The section stores under this monitor, which it holds. If it has stored under 16 others, one of those isn't held any more. A revert will find
  * that one, and needn't find this one too. */
-static void note_guard(changes *all, uint16_t guard) {
-    all->guard = guard;
-    if (has_stored_under(all, guard)) return;
-    if (all->guards < ZELAMIKU_MOST_HELD) all->under[all->guards++] = guard;
+static void note_guard(changes *changes, uint16_t guard) {
+    changes->guard = guard;
+    if (has_stored_under(changes, guard)) return;
+    if (changes->guards < ZELAMIKU_MOST_HELD) changes->under[changes->guards++] = guard;
 }
 
-static inline bool is_kept(const changes *all, uint32_t field) {
-    return all->fields[field].stamp == all->stamp;
+static inline bool is_kept(const changes *changes, uint32_t field) {
+    return changes->fields[field].stamp == changes->stamp;
 }
 
 /* Saves the value of a field before the section's first store to it. */
-static inline void keep(changes *all, kept_field *kept, uint32_t field, uint64_t before) {
-    kept->stamp = all->stamp;
+static inline void keep(changes *changes, kept_field *kept, uint32_t field, uint64_t before) {
+    kept->stamp = changes->stamp;
     kept->value = before;
-    kept->next = all->last;
-    all->last = field;
-    if (all->guard != kept->guard) note_guard(all, kept->guard);
+    kept->next = changes->last;
+    changes->last = field;
+    if (changes->guard != kept->guard) note_guard(changes, kept->guard);
 }
 
 /* ---- stores ---- */
@@ -73,12 +73,12 @@ COLD zelamiku_status no_room(seat *own, uint32_t field) {
 
 /* Stores, and saves the old value. Returns what the library returns. */
 static __attribute__((noinline)) zelamiku_status store_keeping(seat *own, uint32_t field, uint64_t value) {
-    changes *all = changes_of(own);
-    if (SELDOM(field >= all->all)) return refused(own, ZELAMIKU_UNKNOWN_FIELD, "store", OF_FIELD, field);
-    kept_field *kept = &all->fields[field];
+    changes *changes = changes_of(own);
+    if (SELDOM(field >= changes->count)) return refused(own, ZELAMIKU_UNKNOWN_FIELD, "store", OF_FIELD, field);
+    kept_field *kept = &changes->fields[field];
     uint64_t before = 0;
-    bool is_first = kept->stamp != all->stamp;
-    if (SELDOM(!has_room(all, kept->records << is_first))) return no_room(own, field);
+    bool is_first = kept->stamp != changes->stamp;
+    if (SELDOM(!has_room(changes, kept->records << is_first))) return no_room(own, field);
     zelamiku_status status = ZELAMIKU_OK;
     if (is_first) status = zelamiku_load(&own->session, field, &before);
     if (SELDOM(status != ZELAMIKU_OK)) return refused(own, status, "store", OF_FIELD, field);
@@ -86,8 +86,8 @@ static __attribute__((noinline)) zelamiku_status store_keeping(seat *own, uint32
     if (SELDOM(status != ZELAMIKU_OK)) return refused(own, status, "store", OF_FIELD, field);
     own->records += kept->records;
     own->has_stored |= kept->records;
-    all->used += (uint32_t)kept->records << is_first;
-    if (is_first) keep(all, kept, field, before);
+    changes->used += (uint32_t)kept->records << is_first;
+    if (is_first) keep(changes, kept, field, before);
     return ZELAMIKU_OK;
 }
 
@@ -119,62 +119,62 @@ static bool gives(seat *own, uint32_t head, uint32_t slots, uint32_t slot, pool_
 }
 
 /* How many of the section's records a store to the field takes: its own, and for the first one also the record that would restore the old value. */
-static uint32_t room_for(const changes *all, uint32_t field) {
-    return (uint32_t)all->fields[field].records << !is_kept(all, field);
+static uint32_t room_for(const changes *changes, uint32_t field) {
+    return (uint32_t)changes->fields[field].records << !is_kept(changes, field);
 }
 
-static bool has_room_for(const changes *all, const pool_stores *two) {
-    return has_room(all, room_for(all, two->head) + room_for(all, two->cell));
+static bool has_room_for(const changes *changes, const pool_stores *two) {
+    return has_room(changes, room_for(changes, two->head) + room_for(changes, two->cell));
 }
 
-static void note_stores(changes *all, const pool_stores *two) {
-    all->used += room_for(all, two->head) + room_for(all, two->cell);
-    if (!is_kept(all, two->head)) keep(all, &all->fields[two->head], two->head, two->head_value);
-    if (!is_kept(all, two->cell)) keep(all, &all->fields[two->cell], two->cell, two->cell_value);
+static void note_stores(changes *changes, const pool_stores *two) {
+    changes->used += room_for(changes, two->head) + room_for(changes, two->cell);
+    if (!is_kept(changes, two->head)) keep(changes, &changes->fields[two->head], two->head, two->head_value);
+    if (!is_kept(changes, two->cell)) keep(changes, &changes->fields[two->cell], two->cell, two->cell_value);
 }
 
 /* A pool's calls, with old values saved. */
 static zelamiku_status take_keeping(seat *own, uint32_t head, uint32_t slots, uint32_t *slot) {
-    changes *all = changes_of(own);
+    changes *changes = changes_of(own);
     pool_stores two = {0, 0, 0, 0};
     bool is_taken = takes(own, head, slots, &two);
-    if (is_taken && !has_room_for(all, &two)) return ZELAMIKU_SECTION_FULL;
+    if (is_taken && !has_room_for(changes, &two)) return ZELAMIKU_SECTION_FULL;
     zelamiku_status status = zelamiku_pool_take(&own->session, head, slots, slot);
     assert((status == ZELAMIKU_OK) == is_taken);
-    if (is_taken) note_stores(all, &two);
+    if (is_taken) note_stores(changes, &two);
     return status;
 }
 
 static zelamiku_status give_keeping(seat *own, uint32_t head, uint32_t slots, uint32_t slot) {
-    changes *all = changes_of(own);
+    changes *changes = changes_of(own);
     pool_stores two = {0, 0, 0, 0};
     bool is_given = gives(own, head, slots, slot, &two);
-    if (is_given && !has_room_for(all, &two)) return ZELAMIKU_SECTION_FULL;
+    if (is_given && !has_room_for(changes, &two)) return ZELAMIKU_SECTION_FULL;
     zelamiku_status status = zelamiku_pool_give(&own->session, head, slots, slot);
     assert((status == ZELAMIKU_OK) == is_given);
-    if (is_given) note_stores(all, &two);
+    if (is_given) note_stores(changes, &two);
     return status;
 }
 
 /* ---- monitors ---- */
 
 /* The section goes on and has taken a monitor that it didn't hold. If it had stored under it before, others may have stored there since. */
-static void note_taken(changes *all, uint32_t object) {
-    all->used += 2;
-    assert(has_room(all, 0));
-    if (has_stored_under(all, object)) all->is_past = true;
+static void note_taken(changes *changes, uint32_t object) {
+    changes->used += 2;
+    assert(has_room(changes, 0));
+    if (has_stored_under(changes, object)) changes->is_past = true;
 }
 
 /* One lock more, where a section is open. */
 static __attribute__((noinline)) zelamiku_status enter_keeping(seat *own, uint32_t object, uint64_t deadline) {
-    changes *all = changes_of(own);
+    changes *changes = changes_of(own);
     zelamiku_sight sight = {ZELAMIKU_NOBODY, 0, 0};
     bool is_more = zelamiku_look(&own->session, object, &sight) == ZELAMIKU_OK && sight.owner != own->lane;
-    if (SELDOM(is_more && !has_room(all, 2))) return refused(own, ZELAMIKU_SECTION_FULL, "enter", OF_OBJECT, object);
+    if (SELDOM(is_more && !has_room(changes, 2))) return refused(own, ZELAMIKU_SECTION_FULL, "enter", OF_OBJECT, object);
     zelamiku_status status = zelamiku_try_enter(&own->session, object);
     if (SELDOM(status != ZELAMIKU_OK)) status = enter_slowly(own, object, status, deadline);
     if (SELDOM(status != ZELAMIKU_OK)) return status;
-    if (is_more) note_taken(all, object);
+    if (is_more) note_taken(changes, object);
     own->locks++;
     return ZELAMIKU_OK;
 }
@@ -183,22 +183,22 @@ static __attribute__((noinline)) zelamiku_status enter_keeping(seat *own, uint32
 
 /* Whether the section still holds each monitor under which it has stored. Exits aren't tracked here: a monitor that was freed is free now, or
  * was taken again. */
-static bool can_revert(seat *own, changes *all) {
-    for (uint32_t i = 0; i < all->guards && !all->is_past; i++) all->is_past = locks_of(own, all->under[i]) == 0;
-    return !all->is_past;
+static bool can_revert(seat *own, changes *changes) {
+    for (uint32_t i = 0; i < changes->guards && !changes->is_past; i++) changes->is_past = locks_of(own, changes->under[i]) == 0;
+    return !changes->is_past;
 }
 
 /* Stores the saved values back. No store is refused: each guard is held, and there is room. Goes on even if the heap has ended: nothing of an
  * unfinished section is durable then, so half a revert doesn't matter. */
-static void put_back(seat *own, changes *all) {
-    for (uint32_t field = all->last; field != NO_FIELD; field = all->fields[field].next) {
-        assert(is_kept(all, field));
-        zelamiku_status status = zelamiku_store(&own->session, field, all->fields[field].value);
+static void put_back(seat *own, changes *changes) {
+    for (uint32_t field = changes->last; field != NO_FIELD; field = changes->fields[field].next) {
+        assert(is_kept(changes, field));
+        zelamiku_status status = zelamiku_store(&own->session, field, changes->fields[field].value);
         assert(status == ZELAMIKU_OK);
         (void)status;
-        own->records += all->fields[field].records;
+        own->records += changes->fields[field].records;
     }
-    keep_nothing(all);
+    keep_nothing(changes);
 }
 
 /* Why nothing is restored. */
@@ -230,19 +230,19 @@ zelamiku_status zelamiku_thread_revert(zelamiku_thread thread) {
 static changes *new_changes(uint32_t count) {
     const size_t line = 128;
     size_t size = (sizeof(changes) + (size_t)count * sizeof(kept_field) + line - 1) / line * line;
-    changes *all = (changes *)aligned_alloc(line, size);
-    if (all == NULL) return NULL;
-    memset(all, 0, size);
-    all->section = UINT64_MAX; /* none yet; the stamp of each that comes is above 0, as no field's is now */
-    all->all = count;
-    return all;
+    changes *changes = aligned_alloc(line, size);
+    if (changes == NULL) return NULL;
+    memset(changes, 0, size);
+    changes->section = UINT64_MAX; /* none yet; the stamp of each that comes is above 0, as no field's is now */
+    changes->count = count;
+    return changes;
 }
 
 /* Notes which guard each field has, and whether it is transient. */
-static void note_fields(changes *all, const zelamiku_field *fields) {
-    for (uint32_t i = 0; i < all->all; i++) {
-        all->fields[i].guard = (uint16_t)fields[i].guard;
-        all->fields[i].records = fields[i].is_transient == 0;
+static void note_fields(changes *changes, const zelamiku_field *fields) {
+    for (uint32_t i = 0; i < changes->count; i++) {
+        changes->fields[i].guard = (uint16_t)fields[i].guard;
+        changes->fields[i].records = fields[i].is_transient == 0;
     }
 }
 

@@ -305,7 +305,8 @@ static bool is_one_of_groups(heap *heap, const seat *own) {
  * round is left to the helper. */
 static bool leads_or_counts(heap *heap, bool leaves_it, uint64_t *counted) {
     lock(&heap->mutex);
-    bool has_sections = heap->has_work || heap->has_reads || heap->has_more, is_free = !heap->is_led && heap->waiting_to_lead == 0 && heap->end_status == 0;
+    bool has_sections = heap->has_work || heap->has_reads || heap->has_more;
+    bool is_free = !heap->is_led && heap->waiting_to_lead == 0 && heap->end_status == 0;
     bool leads = is_free && has_sections && !leaves_it && !heap->is_troubled;
     if (leads) {
         heap->is_led = heap->leader_waits = true;
