@@ -41,6 +41,14 @@ pay(10)
 show(getattr(heap, sys.argv[2]), heap.durable, lambda: pay(1), heap.close)
 """
 
+ENDS = """
+fault["write"].touch()
+def leave():
+    with heap:
+        pay(10)
+show(leave, heap.durable)
+"""
+
 SYNCS = """
 fault["sync"].touch()
 pay(10)
@@ -73,6 +81,7 @@ class Faults(OnFile):
             (WRITES, "", [write] * 4 + ["True", "True", "None"], [[111, 100]]),
             (STOPS, "stop", ["SyncFailed ENOSPC", "Closed None", "Closed None", "None"], [[101, 100]]),
             (STOPS, "abandon", ["SyncFailed ENOSPC", "Abandoned None", "Abandoned None", "None"], [[101, 100]]),
+            (ENDS, "", [write, "Closed None"], [[101, 100]]),
             (SYNCS, "", [sync] * 4 + ["None"], [[101, 100], [111, 100]]),
             (COPIES, "", ["CopyFailed ENOSPC", "CopyFailed EIO", "None", "None"], [[101, 100]]),
         ]

@@ -316,6 +316,9 @@ class Endings(OnFile):
         ):
             self.assertIsInstance(outcome(call), zelamiku.Closed)
         self.assertIn("closed", repr(heap))
+        # As once another heap has its place in the library.
+        heap._link.handle = 0
+        self.assertRegex(str(outcome(heap.stats)), "the heap was closed or stopped")
         with self.open() as heap:
             self.assertEqual(self.values(heap), [1, 100])
 
@@ -338,10 +341,14 @@ class Endings(OnFile):
                     getattr(heap, end)(*[text] * bool(text))
                     heap.alice.balance = 2
             self.assertEqual([type(each) for each in outcomes], [kind])
-            with self.assertRaisesRegex(kind, text):
+            with self.assertRaisesRegex(kind, re.escape(f"{self.path}: {text}")):
                 heap.copy_to(self.path + ".copy")
             heap.abandon("too late")
+            if kind is zelamiku.Abandoned:
+                self.assertIn(text, heap._link.abandon("a thread has ended inside a section").cause)
             heap.close()
+            heap._link.handle = 0
+            self.assertRegex(str(outcome(heap.waits)), f": {text}")
             with self.open(alice=Account, bob=Account, queue=Queue) as heap:
                 self.assertEqual(self.values(heap), [100, 7])
                 dropped = [(each.lane, each.section, each.why) for each in heap.report.dropped]
