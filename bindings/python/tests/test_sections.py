@@ -229,7 +229,7 @@ class Exceptions(OnFile):
             heap = self.open(reverts=False)
             with self.assertRaises(zelamiku.Abandoned if is_inner else ValueError), heap.synchronized(heap.alice):
                 heap.alice.balance = 1
-                with self.assertRaisesRegex(zelamiku.NotReverted, "reverts=False"):
+                with self.assertRaises(zelamiku.NotReverted):
                     heap.session.revert()
                 if is_inner:
                     with contextlib.suppress(ValueError), heap.synchronized(heap.bob):

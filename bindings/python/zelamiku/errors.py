@@ -179,13 +179,9 @@ OPENING: dict[int, type[Error]] = {6: OpenError, 18: BrokenFile, 32: FileError}
 COPY: dict[int, type[Error]] = {32: CopyFailed, 34: CopyFailed}
 MONITOR: dict[int, type[Error]] = {18: Refused}
 
-# Instead of the library's own, which name its calls.
+# Instead of the library's own, those that name a call or an argument of this package.
 CURES: dict[type[Error], str] = {
     NoLaneFree: "call heap.session.end() in threads that are idle, and give a timeout; or make a heap of more lanes (32 at most)",
-    Running: "let all threads leave their sections, or call stop()",
     NoHeap: "mount its volume, or open it without create=False to make one",
     OldVersion: "open it with upgrade=True, after which older releases can't read it",
-    NotTaken: "free what take() has returned, once",
-    DamagedPool: "change a pool's fields by take() and give() alone",
-    NotReverted: "hold all monitors until the section's end, and open the heap without reverts=False",
 }
