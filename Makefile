@@ -1,6 +1,6 @@
 # What the gate runs beside `rt ci`: the tests of the host's side, over the library that tools/c-library leaves, and the tools' own steps.
 #
-#     make -k -j2 check           what the gate runs of them: c cpp rust python examples
+#     make -k -j2 check           what the gate runs of them: c cpp rust python java examples
 #     make -k c                   the C: its headers, README's program, and tests/NAME.c with the flags of each NAME.FLAGS of TESTS
 #     make device.asan            one of them
 #     make -k tsan                those of threads under ThreadSanitizer
@@ -36,22 +36,24 @@ WORDS.revert.tsan := threads
 WORDS.device.tsan := threads
 WORDS.places.tsan := 3
 COVERED := $(patsubst %,%.cov,$(sort $(basename $(TESTS))))
-STEPS := headers readme_c shared sizes objects names server classes readme_cpp readme_rust cargo unittest leases lanes lease_kills readme_python pip kills nbd \
+STEPS := headers readme_c shared sizes objects names server classes readme_cpp readme_rust cargo unittest leases lanes lease_kills readme_python pip jar java_tests readme_java referee \
+    referee_faults order_kills kills nbd \
     pages words library search power
 
 .ONESHELL:
 .SILENT:
-.PHONY: gate host check c cpp rust python examples tsan cov fuzz $(TESTS) $(THREADED) $(COVERED) $(STEPS)
+.PHONY: gate host check c cpp rust python java examples tsan cov fuzz $(TESTS) $(THREADED) $(COVERED) $(STEPS)
 SHELL := tools/step
 .SHELLFLAGS = $@
 
 gate: pages words library
 host: check search power
-check: c cpp rust python examples
+check: c cpp rust python java examples
 c: headers readme_c shared sizes objects names $(TESTS)
 cpp: classes readme_cpp
 rust: readme_rust cargo
 python: unittest leases lanes lease_kills readme_python pip
+java: jar java_tests readme_java referee referee_faults order_kills
 examples: kills server nbd
 tsan: $(THREADED)
 cov: $(COVERED)
@@ -200,6 +202,72 @@ lanes:
 lease_kills:
 	needs_python
 	tools/tests --tries $(KILLS) -k Leases examples
+
+# The package has the same bytes each time.
+jar:
+	needs_jdk
+	bindings/java/package $$work/in
+	bindings/java/package $$work/again
+	cmp $$work/in/zelamiku.jar $$work/again/zelamiku.jar
+
+JAR = $(OUT)/jar/in/zelamiku.jar
+JAVAC = javac -Werror -Xlint:all,-serial,-this-escape,-try -cp $(JAR) -d $$work/classes
+JAVA = java --enable-native-access=ALL-UNNAMED -Dzelamiku.library=$(LIBS)/libzelamiku.so.1 -cp $(JAR):$$work/classes
+
+# With one carrier: a virtual thread that pinned it would stop all others.
+java_tests: jar
+	needs_jdk
+	$(JAVAC) bindings/java/tests/Tests.java
+	$(JAVA) -Djdk.virtualThreadScheduler.parallelism=1 -Djdk.virtualThreadScheduler.maxPoolSize=1 Tests $$work/in
+
+# The library lies beside the jar.
+readme_java: jar
+	needs_jdk
+	mkdir $$work/beside
+	cp $(JAR) $(LIBS)/libzelamiku.so.1 $$work/beside
+	readme java >$$work/Transfer.java
+	cmp $$work/Transfer.java examples/java/Transfer.java
+	javac -cp $(JAR) -d $$work/classes $$work/Transfer.java
+	transfer() { java --enable-native-access=ALL-UNNAMED -cp "$$work/beside/zelamiku.jar:$$work/classes" Transfer; }
+	twelve_times transfer
+	[ "$$(cat $$work/told)" = "90 110 80 120 70 130 60 140 50 150 40 160 30 170 20 180 10 190 0 200 0 200 0 200 " ]
+
+# HotSpot's monitors beside a heap's, for so many steps.
+REFEREE ?= 20000
+referee: jar
+	needs_jdk 24
+	$(JAVAC) bindings/java/tests/Referee.java
+	heapctl=crates/heapctl/out/heapctl
+	[ -x $$heapctl ] || { echo "LEFT OUT: no $$heapctl: it didn't play the referee's scripts"; heapctl=; }
+	$(JAVA) Referee $$work/in 1 $(REFEREE) $$heapctl
+
+# What the referee must see, each within a minute on an idle machine: a notify that wakes two, an exit that keeps a count, a wait that keeps the monitor, and one that
+# returns without a notification. They are planted in a copy of the scheduler's C.
+referee_faults: jar
+	needs_jdk 24
+	needs cc
+	core=crates/zelamiku/out/libzelamiku.a
+	[ -f $$core ] || { echo "LEFT OUT: no $$core: no faults were planted for the referee"; exit 77; }
+	$(JAVAC) bindings/java/tests/Referee.java
+	while read -r fault edit; do
+	    tree=$$work/$$fault
+	    mkdir -p $$tree/bindings $$tree/tools $$tree/crates/zelamiku/out $$tree/in
+	    cp -R $(C) $$tree/bindings/
+	    cp tools/c-library tools/usage $$tree/tools/
+	    cp $$core $$tree/crates/zelamiku/out/
+	    sed -i "$$edit" $$tree/bindings/c/src/thread.c
+	    if cmp $(C)/src/thread.c $$tree/bindings/c/src/thread.c; then echo "$$fault wasn't planted"; exit 1; fi
+	    $$tree/tools/c-library --join
+	    status=0
+	    timeout 300 java --enable-native-access=ALL-UNNAMED -Dzelamiku.library=$$tree/crates/zelamiku/out/host/libzelamiku.so.1 \
+	        -cp $(JAR):$$work/classes Referee $$tree/in 1 1000000 >$$tree/told || status=$$?
+	    if [ $$status -ne 1 ] || ! grep '^DIFFERS' $$tree/told; then echo "$$fault wasn't seen: status $$status"; exit 1; fi
+	done <bindings/java/tests/faults
+
+order_kills: jar
+	needs_jdk
+	$(JAVAC) bindings/java/tests/OrdersKilled.java examples/java/orders/Orders.java
+	java -cp $$work/classes OrdersKilled $(KILLS) $$work/in/orders.heap $(JAVA) Orders
 
 # What the examples' kills, and their syncs that fail or hang, are judged by stands in tests/test_examples.py.
 kills:
