@@ -6,8 +6,10 @@ import java.nio.file.Path;
 import java.util.*;
 import java.util.concurrent.atomic.AtomicLong;
 
-/** Kills the server of examples/java/orders under load: {@code OrdersKilled KILLS FILE COMMAND..}. No order that was answered may be lost, and none may
- * be there by half. */
+/**
+ * Kills the server of examples/java/orders under load: {@code OrdersKilled KILLS FILE COMMAND..}. No order that was answered may be lost, and none
+ * may be there by half.
+ */
 public class OrdersKilled {
     static final int CUSTOMERS = 16;
     static final HttpClient HTTP = HttpClient.newHttpClient();

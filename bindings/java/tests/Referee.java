@@ -11,11 +11,13 @@ import java.util.stream.*;
 import zelamiku.*;
 
 /**
- * HotSpot judges the heap's monitors: {@code Referee FOLDER SEED STEPS [HEAPCTL]}. Random legal programs are played step by step by five real threads on
- * HotSpot's monitors, and by five on a heap's. After each step both sides must have given the answer that the rules (JLS 17.1, 17.2) give, and the same
- * threads must sleep. Then threads without a conductor play programs with one legal end on both. Each program's script also goes through HEAPCTL.
+ * HotSpot judges the heap's monitors: {@code Referee FOLDER SEED STEPS [HEAPCTL]}. Random legal programs are played step by step by five real
+ * threads on HotSpot's monitors, and by five on a heap's. After each step both sides must have given the answer that the rules (JLS 17.1, 17.2)
+ * give, and the same threads must sleep. Then threads without a conductor play programs with one legal end on both. Each program's script also goes
+ * through HEAPCTL.
  *
- * <p>What the rules leave open isn't compared: which of several waiting threads is woken, and who of several gets a monitor first. Only how many do.
+ * <p>What the rules leave open isn't compared: which of several waiting threads is woken, and who of several gets a monitor first. Only how many
+ * do.
  */
 public class Referee {
     static final int THREADS = 5, MONITORS = 3, OBJECTS = 60;
@@ -347,7 +349,9 @@ public class Referee {
         }
     }
 
-    /** One of several waiting threads was woken, whichever that is: on each side one gets the monitor, and no other. Then the others are woken too. */
+    /**
+     * One of several waiting threads was woken, whichever that is: on each side one gets the monitor, and no other. Then the others are woken too.
+     */
     private void oneOf(int thread, int monitor, List<Integer> waiting) {
         List<List<Integer>> sides = List.of(new ArrayList<>(waiting), new ArrayList<>(waiting));
         for (; locks[monitor] > 0; locks[monitor]--) play(thread, Op.EXIT, monitor, 0, "ok");

@@ -26,15 +26,15 @@ import zelamiku.HeapException.Failure;
  * }
  * }
  *
- * <p>What a thread does from its first lock to its last unlock is a <em>section</em>. After a crash it is there whole or not at all, with all sections
- * that it depends on. It is durable some time after it has ended: {@link #durable} waits for that.
+ * <p>What a thread does from its first lock to its last unlock is a <em>section</em>. After a crash it is there whole or not at all, with all
+ * sections that it depends on. It is durable some time after it has ended: {@link #durable} waits for that.
  *
- * <p>A section needs one of the heap's lanes ({@link Options#lanes}), and any thread takes a free one, also a virtual thread. If none is free the thread
- * sleeps for one, for {@link Options#laneTimeout} at most ({@link HeapException.NoLane}). A thread that waits for a signal keeps its lane. If a thread
- * ends inside a section the heap is abandoned within a second or two.
+ * <p>A section needs one of the heap's lanes ({@link Options#lanes}), and any thread takes a free one, also a virtual thread. If none is free the
+ * thread sleeps for one, for {@link Options#laneTimeout} at most ({@link HeapException.NoLane}). A thread that waits for a signal keeps its lane.
+ * If a thread ends inside a section the heap is abandoned within a second or two.
  *
- * <p>The sleep of a virtual thread for a lane, a monitor, a signal or durability doesn't pin its carrier; {@code open}, {@code close}, {@code stop} and
- * {@code copyTo} do.
+ * <p>The sleep of a virtual thread for a lane, a monitor, a signal or durability doesn't pin its carrier; {@code open}, {@code close}, {@code stop}
+ * and {@code copyTo} do.
  *
  * <p>Close the heap. When the JVM exits with an open heap, sections that weren't durable may be lost, as in a crash.
  */
@@ -120,8 +120,9 @@ public final class Heap implements AutoCloseable {
     }
 
     /**
-     * Closes the heap once all its sections are durable. If it is closed already it does nothing. {@link HeapException.Running} (a section is open, or a
-     * thread waits), {@link HeapException.WriteFailed}: it is {@linkplain #stop stopped}. Another {@link HeapException.Stopped} says how it had ended.
+     * Closes the heap once all its sections are durable. If it is closed already it does nothing. {@link HeapException.Running} (a section is open,
+     * or a thread waits), {@link HeapException.WriteFailed}: it is {@linkplain #stop stopped}. Another {@link HeapException.Stopped} says how it
+     * had ended.
      */
     @Override public void close() {
         if (!isClosed.compareAndSet(false, true)) return;
@@ -130,13 +131,16 @@ public final class Heap implements AutoCloseable {
     }
 
     /**
-     * Closes the heap also if threads are in sections or wait: their calls throw {@link HeapException.Closed}, also those that sleep. Ended sections are made
-     * durable first, unless they depend on an open one; the next opening drops those. If the heap is closed already it does nothing.
-     * {@link HeapException.SyncFailed}, {@link HeapException.Stopped}: it has ended all the same.
+     * Closes the heap also if threads are in sections or wait: their calls throw {@link HeapException.Closed}, also those that sleep. Ended
+     * sections are made durable first, unless they depend on an open one; the next opening drops those. If the heap is closed already it does
+     * nothing. {@link HeapException.SyncFailed}, {@link HeapException.Stopped}: it has ended all the same.
      */
     public void stop() { end(Library.CLOSED); }
 
-    /** As {@link #stop}, but calls throw {@link HeapException.Abandoned} with this reason from then on: for a thread that has failed inside its section. */
+    /**
+     * As {@link #stop}, but calls throw {@link HeapException.Abandoned} with this reason from then on: for a thread that has failed inside its
+     * section.
+     */
     public void abandon(String reason) {
         abandoned = reason;
         end(Library.ABANDONED);
@@ -166,15 +170,18 @@ public final class Heap implements AutoCloseable {
     // ---- sections ----
 
     /**
-     * Does the work while the thread holds these monitors, and returns its result. An exception that leaves the work takes the section back: each field has
-     * the value again that it had before the section. Then the exception goes on unchanged. What the program keeps elsewhere isn't taken back.
+     * Does the work while the thread holds these monitors, and returns its result. An exception that leaves the work takes the section back: each
+     * field has the value again that it had before the section. Then the exception goes on unchanged. What the program keeps elsewhere isn't taken
+     * back.
      *
-     * <p>Monitors are locked in the order of their objects, whichever is named first, so that no two threads wait for each other's. So an inner section takes
-     * only monitors that come after all that is held, or that are held ({@link HeapException.OutOfOrder}). An inner section that fails takes back the whole
-     * one; if the program catches its exception there, the outer one can do nothing more, and its end throws {@link HeapException.Reverted}.
+     * <p>Monitors are locked in the order of their objects, whichever is named first, so that no two threads wait for each other's. So an inner
+     * section takes only monitors that come after all that is held, or that are held ({@link HeapException.OutOfOrder}). An inner section that
+     * fails takes back the whole one; if the program catches its exception there, the outer one can do nothing more, and its end throws {@link
+     * HeapException.Reverted}.
      *
      * <p>A section can't be taken back after it has freed a monitor under which it had stored, as at the end of an inner section. Then an exception
-     * stops the heap ({@link HeapException.Abandoned}), and so it does with {@link Options#reverts(boolean) reverts(false)}. So lock all monitors at once.
+     * stops the heap ({@link HeapException.Abandoned}), and so it does with {@link Options#reverts(boolean) reverts(false)}. So lock all monitors
+     * at once.
      *
      * <p>Throws what {@link Monitor#lock} does: the work isn't done.
      */
@@ -233,8 +240,8 @@ public final class Heap implements AutoCloseable {
     // ---- durability ----
 
     /**
-     * Sleeps until no crash can lose what the thread has ended. {@link HeapException.InSection}: it has a section open. {@link HeapException.WriteFailed}: it
-     * isn't durable yet: call again. {@link HeapException.Stopped}: the heap has ended before that.
+     * Sleeps until no crash can lose what the thread has ended. {@link HeapException.InSection}: it has a section open. {@link
+     * HeapException.WriteFailed}: it isn't durable yet: call again. {@link HeapException.Stopped}: the heap has ended before that.
      */
     public void durable() { durableUntil(Library.NO_DEADLINE); }
 
@@ -249,8 +256,8 @@ public final class Heap implements AutoCloseable {
     }
 
     /**
-     * A future that is done once no crash can lose what the thread has ended. It fails as {@link #durable} does. One thread waits for the futures of all
-     * threads, and runs the stages that depend on them: keep these short, or name an executor. {@link HeapException.InSection}.
+     * A future that is done once no crash can lose what the thread has ended. It fails as {@link #durable} does. One thread waits for the futures
+     * of all threads, and runs the stages that depend on them: keep these short, or name an executor. {@link HeapException.InSection}.
      */
     public CompletableFuture<Boolean> durableAsync() {
         Map<Lane, Long> ended = ended();
@@ -438,8 +445,10 @@ public final class Heap implements AutoCloseable {
         return null;
     }
 
-    /** Writes a copy of the heap, with all that was durable when the call began, while threads go on. {@link HeapException.CopyFailed}: what was at the
-     * path stays. {@link HeapException.Stopped}. */
+    /**
+     * Writes a copy of the heap, with all that was durable when the call began, while threads go on. {@link HeapException.CopyFailed}: what was at
+     * the path stays. {@link HeapException.Stopped}.
+     */
     public void copyTo(Path copy) {
         try (Arena arena = Arena.ofConfined()) {
             int status = Library.copy(handle, arena.allocateFrom(copy.toString()));
@@ -461,7 +470,10 @@ public final class Heap implements AutoCloseable {
         if (status != Library.OK) throw failed(status, verb, what);
     }
 
-    /** The exception for a status of the calling thread's last call. The failure is fetched first: nothing comes between that might unmount the thread. */
+    /**
+     * The exception for a status of the calling thread's last call. The failure is fetched first: nothing comes between that might unmount the
+     * thread.
+     */
     HeapException failed(int status, String verb, Object what) {
         Failure failure = Library.failure(verb, what);
         return switch (status) {

@@ -7,13 +7,14 @@ import java.util.concurrent.locks.Condition;
 import java.util.concurrent.locks.Lock;
 
 /**
- * An object of a heap: a monitor with Java's rules (JLS 17.1, 17.2), and the fields that it guards. A subclass declares the fields: see {@link Schema}.
+ * An object of a heap: a monitor with Java's rules (JLS 17.1, 17.2), and the fields that it guards. A subclass declares the fields: see {@link
+ * Schema}.
  *
- * <p>{@link Heap#synchronizedOn} and {@link Heap#enter} lock monitors in one order, and take a section back that fails. As a {@link Lock} a monitor is
- * locked in whatever order the program chooses, and {@link #unlock} keeps what the section has stored; {@link Heap#revert} takes it back.
+ * <p>{@link Heap#synchronizedOn} and {@link Heap#enter} lock monitors in one order, and take a section back that fails. As a {@link Lock} a monitor
+ * is locked in whatever order the program chooses, and {@link #unlock} keeps what the section has stored; {@link Heap#revert} takes it back.
  *
- * <p>A call that locks throws {@link HeapException.NoLane}, {@link HeapException.TooMany} (16 monitors are held), {@link HeapException.SectionFull},
- * {@link HeapException.WriteFailed} or {@link HeapException.Stopped}: what was held stays held.
+ * <p>A call that locks throws {@link HeapException.NoLane}, {@link HeapException.TooMany} (16 monitors are held), {@link
+ * HeapException.SectionFull}, {@link HeapException.WriteFailed} or {@link HeapException.Stopped}: what was held stays held.
  */
 public class Monitor implements Lock {
     /** How long an interrupt may go unnoticed, in nanoseconds. */
@@ -106,12 +107,12 @@ public class Monitor implements Lock {
     // ---- wait and notify ----
 
     /**
-     * Does what {@link Object#wait()} does: frees the monitor with all its locks, sleeps until another thread signals, and locks it again as often. There
-     * are no spurious wake-ups, no deadline, and no interrupt: only a signal or the heap's end ends the sleep. If the thread holds no other monitor the
-     * section ends, and what it has stored stays.
+     * Does what {@link Object#wait()} does: frees the monitor with all its locks, sleeps until another thread signals, and locks it again as often.
+     * There are no spurious wake-ups, no deadline, and no interrupt: only a signal or the heap's end ends the sleep. If the thread holds no other
+     * monitor the section ends, and what it has stored stays.
      *
-     * <p>{@link HeapException.NotHeld}, {@link HeapException.SectionFull}, {@link HeapException.LimitReached}, {@link HeapException.WriteFailed}: the
-     * monitor is held as before. {@link HeapException.Stopped}: unlock it all the same.
+     * <p>{@link HeapException.NotHeld}, {@link HeapException.SectionFull}, {@link HeapException.LimitReached}, {@link HeapException.WriteFailed}:
+     * the monitor is held as before. {@link HeapException.Stopped}: unlock it all the same.
      */
     public final void await() { schema.open().lane(this).await(this); }
 
@@ -124,9 +125,9 @@ public class Monitor implements Lock {
     public final int signalAll() { return schema.open().lane(this).signal(this, true); }
 
     /**
-     * Returns a condition of this monitor. A monitor has one wait set. So if it has several conditions, a signal of one of them wakes all threads that
-     * wait, also those of the others: each must look again at what it waits for. {@link Condition#await()} notices only an interrupt that came before it
-     * sleeps, and the forms with a time throw UnsupportedOperationException.
+     * Returns a condition of this monitor. A monitor has one wait set. So if it has several conditions, a signal of one of them wakes all threads
+     * that wait, also those of the others: each must look again at what it waits for. {@link Condition#await()} notices only an interrupt that came
+     * before it sleeps, and the forms with a time throw UnsupportedOperationException.
      */
     @Override public Condition newCondition() {
         conditions.incrementAndGet();

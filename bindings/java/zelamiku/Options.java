@@ -11,7 +11,10 @@ public final class Options {
     OptionalLong fingerprint = OptionalLong.empty();
     System.Logger log = System.getLogger("zelamiku");
 
-    /** The defaults: 8 lanes, a linger of 5 ms, 30 seconds for a lane, reverts, a fingerprint of the names, and {@code System.getLogger("zelamiku")}. */
+    /**
+     * The defaults: 8 lanes, a linger of 5 ms, 30 seconds for a lane, reverts, a fingerprint of the names, and {@code
+     * System.getLogger("zelamiku")}.
+     */
     public Options() {}
 
     /** How many threads are in sections at once, 1 to 32; with 31 or fewer a round takes two syncs. There may be more threads. */
@@ -38,7 +41,9 @@ public final class Options {
     /** The number that a new heap keeps, and that each opening must have, in the place of one that is computed from the names; 0: none. */
     public Options fingerprint(long number) { fingerprint = OptionalLong.of(number); return this; }
 
-    /** Gets a line for each opening (DEBUG), failed write, end of trouble, circle of threads that wait for each other, and end. Any thread may call it, and
-     * it must not use the heap. null: there is no log. */
+    /**
+     * Gets a line for each opening (DEBUG), failed write, end of trouble, circle of threads that wait for each other, and end. Any thread may call
+     * it, and it must not use the heap. null: there is no log.
+     */
     public Options log(System.Logger logger) { log = logger; return this; }
 }

@@ -11,8 +11,8 @@ package zelamiku;
  * }
  * }
  *
- * {@code close()} can't know whether an exception leaves the block. So whatever leaves it before {@link #exit} takes the section back. Only the thread
- * that made a section may use it: WrongThreadException.
+ * {@code close()} can't know whether an exception leaves the block. So whatever leaves it before {@link #exit} takes the section back. Only the
+ * thread that made a section may use it: WrongThreadException.
  */
 public final class Section implements AutoCloseable {
     final Section outer;

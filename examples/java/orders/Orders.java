@@ -16,13 +16,12 @@ import zelamiku.Schema;
 /**
  * A shop over HTTP, which answers when no crash can lose the order. {@code Orders FILE [PORT]} prints the port.
  *
- * <pre>
- * POST /order/CUSTOMER/REQUEST/ITEM/COUNT   "ordered"; or "done before", if the customer's last request has this number; or 409 and the reason
- * GET  /customer/CUSTOMER                   the number of the last request that was done, the money left
- * GET  /totals                              all money, and all pieces of all items, wherever they are: these never change
- * </pre>
+ * <pre> POST /order/CUSTOMER/REQUEST/ITEM/COUNT   "ordered"; or "done before", if the customer's last request has this number; or 409 and the
+ * reason GET  /customer/CUSTOMER                   the number of the last request that was done, the money left GET  /totals
+ * all money, and all pieces of all items, wherever they are: these never change </pre>
  *
- * <p>Each request has a virtual thread. An order is one section: it takes pieces from the stock and money from the customer, and notes the request's number.
+ * <p>Each request has a virtual thread. An order is one section: it takes pieces from the stock and money from the customer, and notes the
+ * request's number.
  */
 public class Orders {
     static final int CUSTOMERS = 16, ITEMS = 4, PRICE = 3;
