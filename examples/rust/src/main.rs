@@ -1,12 +1,10 @@
-//! A counter service: four threads count, each in a counter of its own and in the total, in one section. Killed at any time and started
-//! again on the same file, the total is the sum of its parts, and no less than the total before and what was told as acknowledged since. A
-//! transient field counts since the start alone: whatever the run before had there, each start finds 0.
+//! A counter service: four threads count, each in a counter of its own and in the total, in one section. After a kill at any time the total is the
+//! sum of its parts, and no less than the total before and the counts that were acknowledged since. A transient field counts since the start alone.
 //!
 //!     counters FILE [SECONDS]
 //!
-//! prints the counters that it finds, and then, as it grows, how many counts no crash loses since then. It counts for so long (for ever
-//! without SECONDS), closes the heap, and prints the counters again. A file that isn't there, is empty or has only zeros gets a heap. One
-//! process may count at a time: another is told so, and ends.
+//! prints the counters that it finds, then the number of durable counts as it grows, and after so many seconds (never, without SECONDS) closes the
+//! heap and prints the counters again. If there is no file, or a free one, it makes a heap. One process may count at a time.
 use std::io::{self, Write};
 use std::process::ExitCode;
 use std::sync::atomic::{AtomicBool, Ordering};
@@ -70,8 +68,8 @@ fn look(session: &mut Session) -> Result<Counters, Error> {
 }
 
 impl Counters {
-    // Tells what the counters are. It fails where the total isn't the sum of its parts.
-    fn tell(&self) -> Result<(), Failure> {
+    // Prints the counters. It fails if the total isn't the sum of its parts.
+    fn print(&self) -> Result<(), Failure> {
         let parts: Vec<String> = self.workers.iter().map(u64::to_string).collect();
         let is_sum = self.workers.iter().sum::<u64>() == self.total;
         writeln!(io::stdout(), "total {} = {}{}", self.total, parts.join(" + "), if is_sum { "" } else { ": WRONG" })?;
@@ -82,7 +80,7 @@ impl Counters {
         }
     }
 
-    // Fails where the transient field doesn't have so many counts.
+    // Fails if the transient field has another number of counts.
     fn must_be_since(&self, counts: u64) -> Result<(), Failure> {
         if self.since == counts {
             Ok(())
@@ -92,7 +90,7 @@ impl Counters {
     }
 }
 
-// Until then, or for ever, or until a worker fails: tells how many sections are durable that the workers have ended.
+// Prints how many of the workers' sections are durable: until then, or for ever, or until a worker fails.
 fn watch(heap: &Heap, before: u64, until: Option<Instant>, workers: &[Worker<'_>]) -> Result<(), Failure> {
     let mut told = 0;
     while until.map_or(true, |until| Instant::now() < until) && !workers.iter().any(|worker| worker.is_finished()) {
@@ -131,16 +129,16 @@ fn run(path: &str, seconds: Option<Duration>) -> Result<(), Failure> {
     // Or it would count among those of the workers.
     session.durable()?;
     first.must_be_since(0)?;
-    first.tell()?;
+    first.print()?;
     count_until(&heap, seconds.and_then(|seconds| Instant::now().checked_add(seconds)))?;
     let last = look(&mut session)?;
     last.must_be_since(last.total - first.total)?;
     heap.close()?;
     // Durable now.
-    last.tell()
+    last.print()
 }
 
-// None where the word isn't a time in seconds.
+// None if the word isn't a time in seconds.
 fn time(word: &str) -> Option<Duration> {
     Duration::try_from_secs_f64(word.parse().ok()?).ok()
 }

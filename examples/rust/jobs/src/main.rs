@@ -1,13 +1,10 @@
-//! A durable work queue: producers put jobs, consumers take them, do them and say so. Killed at any time and started again on the same
-//! file, no job is lost, none is done twice, and each producer's are done in its order.
+//! A durable work queue: producers put jobs, consumers take them, do them and record it. After a kill at any time no job is lost, none is done twice,
+//! and each producer's are done in its order.
 //!
 //!     jobs FILE [JOBS]
 //!
-//! prints for each producer what it finds, then `put PRODUCER NUMBER` and `done PRODUCER NUMBER` once no crash loses it. With JOBS each
-//! producer puts jobs until it has put so many in all, and the program ends when all are done; without, it goes on for ever. A file
-//! that isn't there, is empty or has only zeros gets a queue.
-//!
-//! The queue is lists of slots that a pool gives out, linked through a heap's fields: `queue.rs`.
+//! prints for each producer what it finds, then `put PRODUCER NUMBER` and `done PRODUCER NUMBER` once no crash loses it. With JOBS each producer puts
+//! jobs until it has put so many in all, and the program ends when all are done; without, it goes on for ever.
 mod queue;
 
 use std::io::{self, Write};
@@ -25,8 +22,8 @@ fn payload(producer: u32, number: u64) -> u64 {
     number * 1_000 + u64::from(producer)
 }
 
-// Tells what the queue has, and fails where it isn't what the producers put and the consumers did, or a slot is lost.
-fn tell(found: &[queue::Found], has_each_slot: bool) -> Result<(), Failure> {
+// Prints what the queue has. It fails if that isn't what the producers put and the consumers did, or if a slot is lost.
+fn print(found: &[queue::Found], has_each_slot: bool) -> Result<(), Failure> {
     if !has_each_slot {
         return Err(format!("a slot is lost, or lies in two lists: {found:?}").into());
     }
@@ -65,8 +62,8 @@ fn consume(mut session: Session, mut last: u32, is_over: &AtomicBool) -> Result<
     Ok(())
 }
 
-// What a thread's work answers. One that has failed leaves others that would wait for it: they are told.
-fn tell_others(heap: &Heap, answer: Result<(), Failure>) -> Result<(), Failure> {
+// Returns what the thread's work did. After a failure it stops the heap, because other threads would wait for this one for ever.
+fn stop_if_failed(heap: &Heap, answer: Result<(), Failure>) -> Result<(), Failure> {
     if answer.is_err() {
         let _ = heap.stop(); // the answer says more
     }
@@ -85,13 +82,13 @@ fn work(heap: &Heap, own: &mut Session, found: &[queue::Found], most: u64) -> Re
             .zip(found)
             .zip(sessions.by_ref())
             .map(|((producer, found), session)| {
-                scope.spawn(move || tell_others(heap, produce(session, producer, found.put, most)))
+                scope.spawn(move || stop_if_failed(heap, produce(session, producer, found.put, most)))
             })
             .collect();
         let is_over = &is_over;
         let consumers: Vec<_> = (0..)
             .zip(sessions)
-            .map(|(consumer, session)| scope.spawn(move || tell_others(heap, consume(session, consumer, is_over))))
+            .map(|(consumer, session)| scope.spawn(move || stop_if_failed(heap, consume(session, consumer, is_over))))
             .collect();
         let produced: Vec<_> = producers
             .into_iter()
@@ -115,10 +112,10 @@ fn run(path: &str, jobs: Option<u64>) -> Result<(), Failure> {
     let heap = queue::options(queue::PRODUCERS + CONSUMERS + 1).open(path)?;
     let mut session = heap.session()?;
     let (found, has_each_slot) = queue::look(&mut session)?;
-    tell(&found, has_each_slot)?;
+    print(&found, has_each_slot)?;
     work(&heap, &mut session, &found, jobs.unwrap_or(u64::MAX))?;
     let (found, has_each_slot) = queue::look(&mut session)?;
-    tell(&found, has_each_slot)?;
+    print(&found, has_each_slot)?;
     Ok(heap.close()?)
 }
 

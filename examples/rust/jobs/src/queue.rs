@@ -1,8 +1,7 @@
 //! A durable blocking queue of jobs: a list of slots for each producer, linked through fields, and one pool of slots for all.
 //!
-//! A job is there from the section that put it to the section that says it is done, whatever happens in between: one that was taken
-//! when the process died is handed out again, since that a consumer has it is kept in a transient field. One job of a producer is in hand
-//! at a time, so that its jobs are done in its order.
+//! A job is there from the section that puts it to the section that finishes it. A transient field says that a consumer has it: so after a crash it is
+//! handed out again. One job of a producer is in hand at a time, which keeps its jobs in order.
 use zelamiku::{Error, Field, Heap, Held, Object, Options, Pool, Session};
 
 pub const PRODUCERS: u32 = 3;
@@ -111,7 +110,7 @@ fn link_to(slot: u32) -> u64 {
     u64::from(slot) + 1
 }
 
-/// Puts the producer's next job, and answers its number. It sleeps while no slot is free.
+/// Puts the producer's next job, and returns its number. It sleeps while no slot is free.
 pub fn put(session: &mut Session, producer: u32, payload: impl Fn(u64) -> u64) -> Result<u64, Error> {
     session.synchronized(QUEUE, |queue| {
         let slot = loop {
@@ -135,7 +134,7 @@ pub fn put(session: &mut Session, producer: u32, payload: impl Fn(u64) -> u64) -
     })
 }
 
-/// Takes a job, of the producers' in turn after `last`. It sleeps while there is none, and answers none once there will be no more.
+/// Takes a job, of the producers in turn after `last`. It sleeps while there is none, and returns `None` if there will be no more.
 pub fn take(session: &mut Session, last: u32, is_over: impl Fn() -> bool) -> Result<Option<Job>, Error> {
     session.synchronized(QUEUE, |queue| loop {
         let mut is_empty = true;
@@ -160,7 +159,7 @@ pub fn take(session: &mut Session, last: u32, is_over: impl Fn() -> bool) -> Res
     })
 }
 
-/// Says that a job is done, in the same section in which it does what it does to the heap: so that is done once. Its slot is free then.
+/// Does the job and records that, in one section: so it is done once. Its slot is free then.
 pub fn finish(session: &mut Session, job: Job) -> Result<(), Error> {
     session.synchronized(QUEUE, |queue| {
         let sum = queue.load(of(job.producer, Of::Sum))?;
