@@ -118,7 +118,7 @@ readme_python:
 	    assert found == [$$balances], found")
 	done
 
-# A program that is linked with the shared object, which shows no names but its own.
+# A program that is linked with the shared object, which shows the calls of zelamiku.h alone.
 shared:
 	needs cc
 	ln -sf $(LIBS)/$(SO) $$work/$(SO)
@@ -126,7 +126,8 @@ shared:
 	cc $$work/readme.c -I $(C) -L $$work -Wl,-rpath,$$work -l:$(SO) -o $$work/program
 	twelve_times $$work/program
 	[ "$$(cat $$work/told)" = "$$balances" ]
-	[ -z "$$(nm -D --defined-only $$work/$(SO) | awk '$$3 !~ /^zelamiku_/')" ]
+	nm -D --defined-only $$work/$(SO) | awk '{ print $$3 }' | sort >$$work/shown
+	sed -n 's/^ \*.*//; /static inline/d; /^typedef/d; s/^[A-Za-z_].*[ *]\(zelamiku_[a-z_]*\)(.*/\1/p' $(C)/zelamiku.h | sort | cmp - $$work/shown
 
 # A second copy of the library in a process, and forks: linked with the shared object, and with the archive.
 objects:
