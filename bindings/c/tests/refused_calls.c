@@ -208,7 +208,9 @@ static void add_one(zelamiku_heap heap, zelamiku_thread own) {
     bool is_again = !is_kept && told == ZELAMIKU_DEVICE; /* the write is made again */
     if (is_again) is_kept = passes(zelamiku_thread_await(own));
     if (is_kept) kept = tried;
-    if (is_again) UNTIL(stats_now(heap).two_sync_rounds == 1); /* counted once, after its sections */
+    if (!is_again) return;
+    UNTIL(stats_now(heap).rounds > stats_now(heap).troubles); /* a round is counted after its sections */
+    MUST(stats_now(heap).two_sync_rounds == 1);
 }
 
 /* The heap wasn't opened. Only the last step of a making, the folder's sync, leaves a heap where there was a free file. */
