@@ -91,7 +91,9 @@ def open(
 
 
 class Heap:
-    """A heap that is open, made by :func:`open`. Its objects are its attributes, by their names. Threads share it.
+    """A heap that is open, made by :func:`open`. Its objects are its attributes, by their names. Threads share it: each has a lane from its first
+    section until it ends. If a pool has more threads than the heap has lanes, they call :meth:`durable` and then :meth:`Session.end`. A signal's
+    handler may use the heap. Calls that may sleep release the interpreter's lock.
 
     As a context manager it is closed at the end of its ``with``. If it can't be closed there, because another thread's section is open or a write
     fails, it is stopped, and the ``with`` raises the exception of :meth:`close`.
@@ -184,7 +186,7 @@ class Heap:
         """Sleeps until no crash can lose what this thread has ended, or for so many seconds at most; whether that is so.
 
         It requests a round, and sleeps on while a section that one of them depends on is open. A timeout changes nothing: the sections become
-        durable as if nobody had waited, and may be waited for again.
+        durable as if nobody had waited, and may be waited for again. In the main thread signals are handled within 0.2 s.
 
         :class:`InSection`. :class:`WriteFailed`: they aren't durable yet, and may be waited for again. :class:`Stopped`: they may be lost.
         """
