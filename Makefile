@@ -260,7 +260,7 @@ referee_faults: jar
 	    if cmp $(C)/src/thread.c $$tree/bindings/c/src/thread.c; then echo "$$fault wasn't planted"; exit 1; fi
 	    $$tree/tools/c-library --join
 	    status=0
-	    timeout 300 java --enable-native-access=ALL-UNNAMED -Dzelamiku.library=$$tree/crates/zelamiku/out/host/libzelamiku.so.1 \
+	    timeout 300 java -Dpatience=5 --enable-native-access=ALL-UNNAMED -Dzelamiku.library=$$tree/crates/zelamiku/out/host/libzelamiku.so.1 \
 	        -cp $(JAR):$$work/classes Referee $$tree/in 1 1000000 >$$tree/told || status=$$?
 	    if [ $$status -ne 1 ] || ! grep '^DIFFERS' $$tree/told; then echo "$$fault wasn't seen: status $$status"; exit 1; fi
 	done <bindings/java/tests/faults

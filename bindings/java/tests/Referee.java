@@ -21,7 +21,8 @@ import zelamiku.*;
  */
 public class Referee {
     static final int THREADS = 5, MONITORS = 3, OBJECTS = 60;
-    static final long PATIENCE = 5_000_000_000L;
+    /** What takes longer hangs. */
+    static final long PATIENCE = Duration.ofSeconds(Long.getLong("patience", 120)).toNanos();
 
     enum Op { ENTER, EXIT, WAIT, SIGNAL, SIGNAL_ALL, LOAD, STORE }
 

@@ -220,14 +220,14 @@ public class Tests {
 
     static void many_threads_share_the_lanes(Path path) throws Exception {
         Bank bank = new Bank();
-        try (Heap heap = Heap.open(path, bank, new Options().lanes(3)); var pool = Executors.newVirtualThreadPerTaskExecutor()) {
+        try (Heap heap = Heap.open(path, bank, new Options().lanes(3).laneTimeout(Duration.ofMinutes(5))); var pool = Executors.newVirtualThreadPerTaskExecutor()) {
             List<Thread> threads = new ArrayList<>();
             for (int number = 0; number < 100; number++) threads.add(Thread.ofPlatform().start(() -> pay(heap, bank)));
             // Tests runs with one carrier: a sleep in a section, and the waits of others for its monitor, leave it to other threads.
             for (int number = 0; number < 300; number++) pool.submit(() -> pay(heap, bank));
             for (Thread thread : threads) thread.join();
             pool.shutdown();
-            equal(true, pool.awaitTermination(60, TimeUnit.SECONDS));
+            equal(true, pool.awaitTermination(300, TimeUnit.SECONDS));
             equal(List.of(-300L, 500L), heap.synchronizedOn(bank.both, () -> List.of(bank.alice.balance.get(), bank.bob.balance.get())));
         }
     }
@@ -282,7 +282,7 @@ public class Tests {
                 heap.synchronizedOn(List.of(bank.alice), () -> bank.alice.balance.add(1));
                 futures.add(heap.durableAsync());
             }
-            for (var future : futures) equal(true, future.get(20, TimeUnit.SECONDS));
+            for (var future : futures) equal(true, future.get(120, TimeUnit.SECONDS));
             // Futures that can't be kept fail.
             bank.bob.lock();
             bank.carol.lock();
@@ -391,7 +391,7 @@ public class Tests {
             Thread.sleep(turn);
             if (turn % 2 == 0) heap.stop();
             else heap.abandon("tried");
-            for (Thread thread : threads) equal(true, thread.join(Duration.ofSeconds(20)));
+            for (Thread thread : threads) equal(true, thread.join(Duration.ofSeconds(120)));
             for (Throwable error : wrong) throw new AssertionError(error);
         }
     }
@@ -504,7 +504,7 @@ public class Tests {
 
     static void until(BooleanSupplier is) throws InterruptedException {
         for (int turn = 0; !is.getAsBoolean(); turn++) {
-            if (turn == 2000) throw new AssertionError("not within 20 seconds");
+            if (turn == 12_000) throw new AssertionError("not within two minutes");
             Thread.sleep(10);
         }
     }
