@@ -31,11 +31,11 @@ FLAGS.asan := -O2 -g -fsanitize=address,undefined
 FLAGS.tsan := -O1 -g -fsanitize=thread
 FLAGS.cov := -O0 -g -w --coverage -fprofile-update=atomic -Wl,--wrap=_exit $(OUT)/exits.c
 # Tests that haven't the scheduler's C in them; and words that a program is given behind its folder.
-ALONE := wrong_calls places device
+ALONE := wrong_calls places device sizes
 WORDS.revert.tsan := threads
 WORDS.device.tsan := threads
 WORDS.places.tsan := 3
-COVERED := $(patsubst %,%.cov,$(sort $(basename $(TESTS))))
+COVERED := $(patsubst %,%.cov,$(sort $(basename $(TESTS))) sizes)
 STEPS := headers readme_c shared sizes objects names server classes readme_cpp readme_rust cargo unittest leases lanes lease_kills readme_python pip jar java_tests readme_java referee \
     referee_faults order_kills kills nbd \
     pages words library search power
