@@ -19,18 +19,20 @@
  * Statuses. Every call with a handle returns a status, whatever its arguments are; the comment above it names each status that it can return. These
  * hold for all calls and aren't repeated:
  *   BAD_ARGUMENT         a required pointer is NULL, or the size of a struct isn't set. Nothing was done
- *   NOTHING              the handle was never opened; or its heap has ended and another heap has taken that heap's place; or zelamiku_thread_end has
- *                        ended the handle
+ *   NOTHING              the handle was never opened; or its heap has ended, and the library has reused its slot for another heap; or
+ *                        zelamiku_thread_end has ended the handle
  *   FORKED               this process is a forked child, and the heap is its parent's. The parent goes on
- * "Ended" in a comment stands for these five. The heap has ended, every later call on it returns the same status, and what was durable stays:
+ * "Ended" in a comment stands for any of the five statuses below. They mean: the heap has ended, every later call on it returns the same status, and
+ * what was durable stays:
  *   CLOSED               it was closed or stopped
  *   ABANDONED            it was stopped with this reason (zelamiku_heap_stop)
  *   LOST                 a sync has failed, or the program has closed the heap's descriptor. What wasn't durable may be gone, though reading the
  *                        file still returns it. Close the heap and open it again; if that fails with EIO, mount the file system again first
  *   FAILED, WORN         the library has stopped: it had no memory, or a number has reached its limit. Close the heap, and open it again
- * If the heap ends during an enter or a wait, that call may still succeed and its section go on; the section's last exit returns the reason.
- * DEVICE doesn't end the heap: a write has failed, for example on a full disk. Nothing is lost. The next call that waits for a round retries the
- * write, and the helper retries it each second. After a stop nobody retries it, so zelamiku_heap_stop returns LOST. A call that fails records the
+ * If the heap ends during an enter or a wait, that call may still succeed, and its section may go on. Then the section's last exit returns the
+ * reason.
+ * DEVICE doesn't end the heap: a write has failed, for example on a full disk. Nothing is lost. The next call that waits for a round retries
+ * the write, and the helper retries it each second. After a stop nobody retries it, so zelamiku_heap_stop returns LOST. A call that fails records the
  * reason for its thread, with path, cause and cure: zelamiku_heap_failure returns the record.
  *
  * Structs. Each struct with a `size` can grow, up to 4,096 bytes. The program sets `size` to sizeof the struct before the call. The library reads
@@ -76,8 +78,8 @@ extern "C" {
 #define ZELAMIKU_MOST_RECORDS 1000   /* of a section: one for each monitor that is taken, each that is freed, and each store */
 #define ZELAMIKU_MOST_HELD 16        /* monitors, by one thread at once */
 #define ZELAMIKU_MOST_LOCKS 65536    /* of one monitor, by one thread at once */
-#define ZELAMIKU_MOST_THIN_LOCKS 256 /* of a monitor that isn't among those of ZELAMIKU_MOST_FAT */
-#define ZELAMIKU_MOST_FAT 1024       /* objects that were waited on, or locked more often than that, in one opening */
+#define ZELAMIKU_MOST_THIN_LOCKS 256 /* of one monitor at once, unless it is one of the ZELAMIKU_MOST_FAT */
+#define ZELAMIKU_MOST_FAT 1024       /* objects, in one opening, that were waited on or had more locks than that at once */
 #define ZELAMIKU_MOST_SLOTS 16383    /* of a pool */
 
 /* Defaults of a plan. */
@@ -199,9 +201,9 @@ const char *zelamiku_heap_failure(zelamiku_failure *failure);
  * device keeps", says which devices promise that. Each opening also rewrites three single bytes, at 8, 64 and 1,112, with the values that it has
  * read there: a crash during such a rewrite must not change a durable byte.
  *
- * A heap is made in place if the device is free: the bytes that the heap takes are zeros, or what an interrupted making has left, wherever it was
- * interrupted. Later bytes are never read. Nothing is locked: the program must see to it that one heap at a time is on a device, and that nobody
- * else writes there.
+ * A heap is made in place if the device is free, that is, if the bytes that the heap takes are zeros, or are what an interrupted making has left.
+ * Later bytes are never read. Nothing is locked: the program must see to it that one heap at a time is on a device, and that nobody else writes
+ * there.
  *
  * Errors. While a heap is opened, an error means no heap: zelamiku_heap_open returns DEVICE, with the cause. Later, DEVICE doesn't end the
  * heap: the failed call is retried, as the top of this header says; the remaining calls of the round follow in order. LOST ends it.
@@ -275,8 +277,8 @@ enum {
     ZELAMIKU_DAMAGED_LOG = 5      /* no threads can have left these records */
 };
 
-/* What an opening found. It leaves the helper's lane out: `lanes` counts the lanes of threads, and `dropped` counts only threads' sections. If
- * `dropped` is 0, so is `undone`; otherwise `undone` also counts fields whose old values were in the helper's lane. */
+/* What an opening found. It leaves the helper's lane out: `lanes` counts the lanes of threads, and `dropped` counts only threads' sections.
+ * Exception: if `dropped` isn't 0, `undone` also counts fields whose old values were in the helper's lane. If `dropped` is 0, `undone` is 0. */
 typedef struct {
     uint32_t size;         /* sizeof(zelamiku_report) */
     uint32_t is_made;      /* 1: the path had no heap, and this open made one */
@@ -309,10 +311,11 @@ typedef struct {
  * A new heap has a lane for each of the plan's threads, and one more for the helper; with it rounds take two syncs. With 32 threads it has 32
  * lanes, and none for the helper: rounds take four. An existing heap may have more lanes than the plan has threads: its last lane is then the
  * helper's, and all others are threads'. One with as many lanes as the plan has threads is opened too, without a lane for the helper: rounds
- * take four. The file doesn't record whether its last lane was the helper's. If the previous plan used the last lane differently, the report omits
- * the threads' sections in that lane, or lists the helper's as UNSETTLED. A heap made by a plan with a fingerprint has one field more, the last:
- * transient, of object 0, with the fingerprint as its first value. The report doesn't count it, and programs don't use it: a store there lasts until
- * the heap is closed, and changes no fingerprint. A heap with no fingerprint and as many fields as the plan is opened too.
+ * take four. The file doesn't record whether its last lane was the helper's. If the last lane was a thread's and is now the helper's, the report
+ * omits that thread's sections. If it was the helper's and is now a thread's, the report lists the helper's as UNSETTLED. A heap made by a plan with
+ * a fingerprint has one field more, the last: transient, of object 0, with the fingerprint as its first value. The report doesn't count it, and
+ * programs don't use it: a store there lasts until the heap is closed, and changes no fingerprint. A heap with no fingerprint and as many fields as
+ * the plan is opened too.
  *
  * Returns OK, or one of these:
  *   BAD_ARGUMENT    a number of the plan is out of its limits, or a field names an object that the plan doesn't have; the failure's cause says which
@@ -333,8 +336,8 @@ typedef struct {
  *   NO_MEMORY       no memory, or no thread could be started
  * All of these leave an existing file or device as it was, and no file where there was none. Exceptions: if a new heap's folder can't be synced
  * (DEVICE), a file that was free may hold the heap. After NO_MEMORY a new heap may be there, and a heap that was there may have been recovered.
- * After a DEVICE whose cause is a write or a sync that may be too, and a free device may hold a part of a new heap. Opening again goes on from
- * there. */
+ * After a DEVICE caused by a write or a sync the same holds as after NO_MEMORY, and a free device may also hold a part of a new heap. Opening again
+ * goes on from there. */
 ZELAMIKU_MUST_USE zelamiku_status zelamiku_heap_open(zelamiku_heap *heap, const char *path, const zelamiku_plan *plan,
                                                      zelamiku_report *report);
 
@@ -368,9 +371,9 @@ ZELAMIKU_MUST_USE zelamiku_status zelamiku_heap_dropped(zelamiku_heap heap, size
 ZELAMIKU_MUST_USE zelamiku_status zelamiku_heap_close(zelamiku_heap heap);
 
 /* Stops a heap whose threads may be in sections or wait: from now on their calls return `why`, even those that sleep now. First it makes all ended
- * sections durable that don't depend on an open one. The next open drops those that do and the open sections, as after a crash.
- * `why` is ZELAMIKU_CLOSED; or ZELAMIKU_ABANDONED, for a heap with a thread that has exited, or failed, inside its section. The memory of a lane
- * in a section is kept until its thread calls again.
+ * sections durable that don't depend on an open one. The next open drops the open sections, and the ended ones that depend on them,
+ * as after a crash. `why` is ZELAMIKU_CLOSED; or ZELAMIKU_ABANDONED, for a heap with a thread that has exited, or failed, inside its
+ * section. The memory of a lane in a section is kept until its thread calls again.
  * The heap has ended after each of these: OK, or
  *   LOST   the last write or sync has failed: the next open may drop sections that had ended, too. The failure has the system's error
  *   Ended  the heap had ended already, or its last round has failed for want of memory (FAILED) or of numbers (WORN)
@@ -425,7 +428,7 @@ ZELAMIKU_MUST_USE zelamiku_status zelamiku_heap_stats(zelamiku_heap heap, zelami
 typedef struct {
     uint32_t lane;      /* the thread's */
     uint32_t object;    /* whose monitor it wants */
-    uint32_t owner;     /* the lane that has it; ZELAMIKU_NOBODY: nobody now, or unknown: every lane is in a section and none sleeps */
+    uint32_t owner;     /* the lane that has it; ZELAMIKU_NOBODY: none now, or unknown, because all lanes are in sections and none sleeps */
     uint32_t in_circle; /* 1: it waits in a circle of threads, none of which can go on */
 } zelamiku_wait;
 
@@ -474,7 +477,7 @@ ZELAMIKU_MUST_USE zelamiku_status zelamiku_thread_store(zelamiku_thread thread, 
  * is taken or free as it was. The monitors stay held and the section goes on. It may store again; otherwise it ends as a section without stores.
  * After a crash no state in between shows, because all of it is one section. Threads that it has notified stay notified.
  *   - A section can be reverted while it holds every monitor under which it has stored. Once it has freed one of them, by an exit or a wait,
- *     and goes on with others, it can no longer be reverted: other threads may have seen those values. Stores that a revert has
+ *     and goes on with others, it can no longer be reverted: other threads may have seen those values. For this rule, stores that a revert has
  *     undone don't count.
  *   - A wait with no other monitor held ends the section: its stores stay. A later revert undoes the stores since the wait.
  *   - One record of the section's 1,000 is kept free for each persistent field that it has stored to, for the old value. So it can store to
@@ -524,7 +527,7 @@ ZELAMIKU_MUST_USE zelamiku_status zelamiku_thread_progress(zelamiku_thread threa
  * ZELAMIKU_ALL_SECTIONS, or a number above those ended, means all. It requests a round, and sleeps on while a section that one of them depends on is
  * open. `is_durable` gets whether they are. A deadline that has passed requests the round and doesn't sleep. A timeout changes nothing for the
  * sections. Any thread may call it. Returns OK, also at the deadline, or
- *   RUNNING  for ZELAMIKU_ALL_SECTIONS alone: the thread has a section open. Exit its monitors first
+ *   RUNNING  only for ZELAMIKU_ALL_SECTIONS itself: the thread has a section open. Exit its monitors first
  *   DEVICE   a write has failed: call again
  *   Ended    the sections did not become durable; or, for ZELAMIKU_ALL_SECTIONS alone, an open one was cut off */
 ZELAMIKU_MUST_USE zelamiku_status zelamiku_thread_await_until(zelamiku_thread thread, uint64_t sections, uint64_t deadline,
@@ -571,19 +574,19 @@ ZELAMIKU_MUST_USE zelamiku_status zelamiku_thread_give(zelamiku_thread thread, u
  *   - once the lane may have room again, after zelamiku_thread_enter_until with a deadline of 0 returned BEHIND,
  *   - once a write has failed while one of these is pending, and
  *   - once the heap has ended.
- * zelamiku_thread_ask makes it unreadable. Exception: the first ask after it has reported room leaves it readable until a section of the thread
- * has ended. So a loop that asks before it waits still wakes up and tries again.
- * The first call makes the descriptor. It belongs to the library: only wait for it, by level or by edge. zelamiku_thread_end closes it, also
- * after the heap has ended, and a fork closes it in the child: remove it from the loop first. If the program has closed it by mistake, the library
- * doesn't touch whatever file has that number by then, and the next call makes another one.
+ * zelamiku_thread_ask makes it unreadable. Exception: after the event has reported room, the first zelamiku_thread_ask leaves it readable until a
+ * section of the thread has ended. So a loop that asks before it waits still wakes up and tries again. The first call makes the descriptor. It
+ * belongs to the library: only wait for it, by level or by edge. zelamiku_thread_end closes it, also after the heap has ended, and a fork closes it
+ * in the child: remove it from the loop first. If the program has closed it by mistake, the library doesn't touch whatever file has that number by
+ * then, and the next call makes another one.
  * Returns OK, also after the heap has ended. NO_MEMORY: the system has no descriptor; the failure has its error. `descriptor` is -1 after each
  * failure. */
 ZELAMIKU_MUST_USE zelamiku_status zelamiku_thread_event(zelamiku_thread thread, int *descriptor);
 
-/* Returns how many of the thread's sections are durable, and requests a round if more have ended. It doesn't sleep, except for other threads'
- * short calls. Ask again after further sections have ended; a request stands until its sections are durable. Returns OK; DEVICE, once for each
- * write that fails meanwhile: it is made again each second, and nothing is lost. Ended: the others did not become durable, or an open section was
- * cut off. `durable` is set in each case. */
+/* Returns how many of the thread's sections are durable, and requests a round if more have ended. It doesn't wait for a round; it may sleep only
+ * briefly, while other threads are in short calls. Ask again after further sections have ended; a request stands until its sections are durable.
+ * Returns OK; DEVICE, once for each write that fails meanwhile: it is made again each second, and nothing is lost. Ended: the others did not become
+ * durable, or an open section was cut off. `durable` is set in each case. */
 ZELAMIKU_MUST_USE zelamiku_status zelamiku_thread_ask(zelamiku_thread thread, uint64_t *durable);
 
 /* The library was built for these sizes. */
