@@ -25,6 +25,7 @@
 static _Atomic unsigned long turn;  /* calls of the life that is lived */
 static _Atomic unsigned long refused_one; /* which of them; 0: none */
 static _Atomic int with;            /* errno */
+static _Atomic bool is_of_a_sync;   /* that call is a sync: one call must report it */
 
 static bool refuses(int error) {
     if (refused_one == 0 || ++turn != refused_one) return false;
@@ -74,11 +75,16 @@ static ssize_t refused_pread(int file, void *bytes, size_t size, off_t at) {
 static ssize_t refused_pwrite(int file, const void *bytes, size_t size, off_t at) {
     return refuses(ENOSPC) ? -1 : pwrite(file, bytes, size, at);
 }
+static bool refuses_sync(void) {
+    bool is_refused = refuses(EIO);
+    is_of_a_sync |= is_refused;
+    return is_refused;
+}
 static int refused_fdatasync(int file) {
-    return refuses(EIO) ? -1 : fdatasync(file);
+    return refuses_sync() ? -1 : fdatasync(file);
 }
 static int refused_fsync(int file) {
-    return refuses(EIO) ? -1 : fsync(file);
+    return refuses_sync() ? -1 : fsync(file);
 }
 static void fork_now(void);
 static bool forks; /* at the next rename */
@@ -363,9 +369,11 @@ int main(int argc, char **argv) {
             turn = 0;
             with = 0;
             told = ZELAMIKU_OK;
+            is_of_a_sync = false;
             refused_one = ++one;
             live(how);
             bool was_refused = with != 0;
+            MUST(!is_of_a_sync || told != ZELAMIKU_OK);
             look();
             if (!was_refused) break;
         } while (one < 5000);
