@@ -2,6 +2,7 @@
 ghost use Rattle.std.specs.Prelude.{false, IfErr, IfOk, None};
 ghost use Rattle.thread_files.specs.Files.{BeginsAt, HasNoDisk, HasNoImage, HasRunAt, IsMadeAt, LeavesAt, RefusesAt};
 ghost use Rattle.image_file.specs.Beside.{KeepsBeside, LeavesBeside};
+ghost use Rattle.image_file.specs.declared.devices.Beginning.{Beginning};
 ghost use Rattle.image_file.specs.declared.watched.Watched.{Watched as Seen};
 ghost use Rattle.disk_sector_file.specs.ImageDisks.{device_on};
 
@@ -40,9 +41,9 @@ where
     W: Work + Sync,
     R: Files<File = F> + Threads + Wait + Sync,
     // Threads on an image file go on with the heap that recovery gives of its bytes, or with one that was made for them.
-    ensures ok { IfOk result (HasRunAt (W.does work.now) (device_on {F = Seen F}) schema plan None None) }
+    ensures ok { IfOk result (HasRunAt (W.does work.now) (device_on {F = Seen (Beginning F)}) schema plan None None) }
     // Threads on an image file are refused only as on the device that it is, or for want of the file.
-    ensures refused { IfErr result (RefusesAt (W.does work.now) (device_on {F = Seen F}) schema plan None None) }
+    ensures refused { IfErr result (RefusesAt (W.does work.now) (device_on {F = Seen (Beginning F)}) schema plan None None) }
 {
     let trouble = Trouble::none();
     let mut images = FileImages::new(rt, &trouble);
