@@ -129,7 +129,7 @@ impl Disk for MemDisk {
         self.bytes.len() as u64
     }
 
-    /// Answers `Fault` just where this call was chosen to fail, and leaves `out` as it was then.
+    /// Returns `Fault` just where this call was chosen to fail, and leaves `out` as it was then.
     fn read_at(&mut self, at: u64, out: &mut [u8]) -> Result<(), DiskError>
         ensures in_range { OnOk result
             (at + length out.old ≤ length (device_of self.old).now.bytes) }
@@ -160,7 +160,7 @@ impl Disk for MemDisk {
         Ok(())
     }
 
-    /// Answers `Fault` where this call was chosen to fail, and where it lies within the disk and can't be kept. Nothing
+    /// Returns `Fault` where this call was chosen to fail, and where it lies within the disk and can't be kept. Nothing
     /// is stored then; if the call was chosen to fail and lies within the disk, it is a stop, or, right behind another one
     /// that failed, the call after it may be chosen.
     fn write_at(&mut self, at: u64, bytes: &[u8]) -> Result<(), DiskError>
@@ -204,7 +204,7 @@ impl Disk for MemDisk {
         Ok(())
     }
 
-    /// Answers `Fault` where this call was chosen to fail, and where it can't be kept; in the first case it is a stop, or,
+    /// Returns `Fault` where this call was chosen to fail, and where it can't be kept; in the first case it is a stop, or,
     /// right behind another one that failed, the call after it may be chosen.
     fn sync(&mut self) -> Result<(), DiskError>
         ensures ok { OnOk result (device_of self.new ≡ synced (device_of self.old)) }

@@ -29,7 +29,7 @@ pub fn candidates(
     cut
 }
 
-// Bars each lane whose cause is out. Answers whether the cut has changed.
+// Bars each lane whose cause is out. Returns whether the cut has changed.
 fn bar_all(lanes: u8, answered: &Cut, causes: &[Option<Dependence>; 32], cut: &mut Cut) -> bool
     requires lanes { lanes ≤ 32 }
     ensures { KeepsAbove causes.now (counts_of answered.now) (counts_of cut.old) (counts_of cut.new) }
@@ -41,7 +41,7 @@ fn bar_all(lanes: u8, answered: &Cut, causes: &[Option<Dependence>; 32], cut: &m
     is_changed
 }
 
-// Bars the lane if its cause is out: it has no more than was answered. Answers whether the cut has changed.
+// Bars the lane if its cause is out: it has no more than was answered. Returns whether the cut has changed.
 fn bar(lane: usize, answered: &Cut, causes: &[Option<Dependence>; 32], cut: &mut Cut) -> bool
     requires lane { lane < 32 }
     ensures { KeepsAbove causes.now (counts_of answered.now) (counts_of cut.old) (counts_of cut.new) }

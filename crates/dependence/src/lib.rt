@@ -1,9 +1,9 @@
 //! Which sections of a heap depend on which, and the stable cut.
 //!
-//! A `Graph` is told the lanes' records one by one. It answers the stable cut, the greatest set of whole
+//! A `Graph` takes the lanes' records one by one. It returns the stable cut, the greatest set of whole
 //! sections that depends on nothing outside it (Atlas, OOPSLA 2014), and for a whole section outside that
-//! cut the first of its dependences that is outside too. What the stable cut counts may be forgotten, and is kept up
-//! from answer to answer: a graph tells how many sections it took up for the last one.
+//! cut the first of its dependences that is outside too. What the stable cut counts may be forgotten; the cut is kept up
+//! from call to call, and a graph reports how many sections the last call examined.
 #![tactic(auto)]
 
 mod candidates;

@@ -81,7 +81,7 @@ impl HostCalls {
         self.left.front()
     }
 
-    /// The host has made the call that [`next_call`](HostCalls::next_call) gave. Answers whether there was one.
+    /// The host has made the call that [`next_call`](HostCalls::next_call) gave. Returns whether there was one.
     pub fn done(&mut self) -> bool
         ensures ring { SameConsumer self.old.ring self.new.ring }
         ensures none { self.old.left ≡ [] → (result ≡ false) × (self.new ≡ self.old) }

@@ -21,8 +21,8 @@ use std::marker::Model;
 /// file that gives other bytes later makes no wrong answer.
 ///
 /// What they may claim of a crash rests on the file: that `fdatasync` makes durable what was written before it, and that a write
-/// leaves the sectors alone that it isn't one of. Of what is found it rests on more: no write and no sync of another open has failed since the
-/// file system was mounted, after which the system may give what the device hasn't. Nothing is written back (DECISIONS.md).
+/// leaves the sectors alone that it isn't one of. What is found rests on more: no write and no sync of another open file has failed since the
+/// file system was mounted. After one, reads may return cached data that never reached the device. Nothing is written back (DECISIONS.md).
 #[derive(Drop)]
 pub struct FileSectors<F: BackingFile + Drop> {
     file: F,

@@ -3,7 +3,7 @@ use block_disk::Disk;
 use disk_deferred::{DeferredDisk, DeviceCall, HostCalls, SYNCS};
 use std::alloc::Global;
 
-// Makes the next call on this device. Answers whether there was one.
+// Makes the next call on this device. Returns whether there was one.
 fn make_one(calls: &mut HostCalls, device: &mut Vec<u8>, syncs: &mut u64) -> bool {
     calls.fetch();
     match calls.next_call() {

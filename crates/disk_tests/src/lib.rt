@@ -3,7 +3,7 @@
 //! Tests of disks, by public calls.
 //!
 //! They stand in a crate of their own, since a crate with tests is proved twice. A scenario is a table of steps, each with
-//! what is to come of it, or a function that answers plain words, which its test compares once.
+//! what is to come of it, or a function that returns plain words, which its test compares once.
 #![tactic(auto)]
 
 #[cfg(test)]

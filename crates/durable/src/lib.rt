@@ -3,7 +3,7 @@
 //!
 //! A running heap stands on the store of `store_rounds`. This one plays scripts, and makes the image of each heap.
 //!
-//! [`Store::format`] makes an image, [`Store::adopt`] takes it over. [`Store::apply`] is told the records of each lane,
+//! [`Store::format`] makes an image, [`Store::adopt`] takes it over. [`Store::apply`] takes the records of each lane,
 //! [`Store::log_step`] makes them durable, [`Store::home_step`] brings a logged value to its home cell, and
 //! [`Store::settle`] acknowledges the stable cut; [`Store::trim`] forgets what is acknowledged.
 //!

@@ -3,7 +3,7 @@
 //! What threads do to monitors and fields, what their logs keep of it, which records make a section,
 //! which sections depend on which, and which heap a cut of them keeps. The definitions are in `specs/`,
 //! to be read in the order that docs/PROOFS.md gives; what holds of them is proved in `law_cuts` and `law_histories`.
-//! A store is spoken of by its past (`specs/Past.antt`): what it was told, and what became of that.
+//! A store is described by its past (`specs/Past.antt`): the records applied to it, and what became of them.
 //! Nothing here knows a device, a word in memory or a place in a log.
 #![tactic(auto)]
 

@@ -32,7 +32,7 @@ impl Closed {
     ghost use Rattle.std.specs.Prelude.{◌≡◌};
     ghost use Rattle.host_heap.specs.Failing.{failed_call};
 
-    /// The host couldn't make the call that the calls gave. Answers which that was, as [`HostedHeap::call_failed`] does. A write may be
+    /// The host couldn't make the call that the calls gave. Returns which that was, as [`HostedHeap::call_failed`] does. A write may be
     /// made again. No call may follow a sync.
     pub fn call_failed(&self) -> Option<FailedCall>
         // A call that the host couldn't make is the first of those that are left, a write or a sync.

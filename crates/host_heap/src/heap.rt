@@ -126,7 +126,7 @@ impl HostedHeap {
         self.calls.next_call()
     }
 
-    /// The host has made the call that [`next_call`](HostedHeap::next_call) gave. Answers whether there was one.
+    /// The host has made the call that [`next_call`](HostedHeap::next_call) gave. Returns whether there was one.
     pub fn done(&mut self) -> bool
         ensures none { self.old.calls.left ≡ [] → (result ≡ false) × (self.new.calls ≡ self.old.calls) }
         ensures one { MakesFirst self.old.calls self.new.calls result }
@@ -135,7 +135,7 @@ impl HostedHeap {
         self.calls.done()
     }
 
-    /// The host couldn't make the call that [`next_call`](HostedHeap::next_call) gave. Answers which that was; `None` where it gave none.
+    /// The host couldn't make the call that [`next_call`](HostedHeap::next_call) gave. Returns which that was; `None` where it gave none.
     ///
     /// A write may be made again: nothing has changed. A sync may not, nor any later call, since what was written before it may be lost
     /// though a later sync succeeds. Each session learns that from now on

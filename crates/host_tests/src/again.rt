@@ -25,7 +25,7 @@ fn told_again(heap: &mut HostedHeap) -> Option<(u8, u64)> {
     }
 }
 
-// A session handed out again makes a section and ends. Answers whether it did.
+// A session handed out again makes a section and ends. Returns whether it did.
 fn comes_and_goes(heap: &mut HostedHeap) -> bool {
     match again(heap) {
         Some(mut session) => {
@@ -37,7 +37,7 @@ fn comes_and_goes(heap: &mut HostedHeap) -> bool {
     }
 }
 
-// So many sessions of one lane, one after the other. Answers how many of these made their section.
+// So many sessions of one lane, one after the other. Returns how many of these made their section.
 fn come_and_go(heap: &mut HostedHeap, times: u32) -> u32 {
     for number in 0..times {
         if !comes_and_goes(heap) {
@@ -83,7 +83,7 @@ fn two_lanes(alloc: Global) -> Option<Answered> {
     }
 }
 
-// Ends the session of a heap's one lane. Answers how many of five sessions later made their section, and what is told of the last.
+// Ends the session of a heap's one lane. Returns how many of five sessions later made their section, and what is told of the last.
 fn end_often(heap: &mut HostedHeap) -> Option<(u32, Option<(u8, u64)>)> {
     let session = heap.session()?;
     let _ = session.end();

@@ -33,7 +33,7 @@ impl Counts {
     }
 }
 
-// Makes the next call. Answers whether there was one.
+// Makes the next call. Returns whether there was one.
 fn make_one(heap: &mut HostedHeap, counts: &mut Counts) -> bool {
     heap.fetch();
     match heap.next_call() {
@@ -59,7 +59,7 @@ fn make_all(heap: &mut HostedHeap) -> Counts {
     counts
 }
 
-// A section of six records: two monitors, a store under each. Answers whether it was made.
+// A section of six records: two monitors, a store under each. Returns whether it was made.
 fn work(session: &mut HostedSession, number: u64) -> bool {
     let entered = session.try_enter(ObjectId(0)).is_ok() && session.try_enter(ObjectId(1)).is_ok();
     let stored = session.store(FieldId(0), number).is_ok()

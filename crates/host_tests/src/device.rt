@@ -25,7 +25,7 @@ impl Device {
         }
     }
 
-    /// Makes the call. Answers whether it could be made.
+    /// Makes the call. Returns whether it could be made.
     pub fn make(&mut self, alloc: Global, call: &DeviceCall) -> bool {
         match call {
             DeviceCall::Write { at, bytes } => write(&mut self.written, *at, bytes),

@@ -12,7 +12,7 @@ use thread_rings::RingRecords;
 // The most calls that are made.
 const MANY: u32 = 1_000;
 
-// Makes the next call. Answers whether it was a sync; `None` where there was none.
+// Makes the next call. Returns whether it was a sync; `None` where there was none.
 fn make_one(heap: &mut HostedHeap) -> Option<bool> {
     heap.fetch();
     let is_sync = match heap.next_call() {
@@ -24,7 +24,7 @@ fn make_one(heap: &mut HostedHeap) -> Option<bool> {
     Some(is_sync)
 }
 
-// Makes all calls that the heap has handed over. Answers how many of them are syncs.
+// Makes all calls that the heap has handed over. Returns how many of them are syncs.
 fn make_all(heap: &mut HostedHeap) -> u64 {
     let mut syncs = 0u64;
     for _ in 0..MANY {
@@ -59,7 +59,7 @@ fn has_session(heap: &mut HostedHeap) -> bool {
     }
 }
 
-// A section of each thread, and a round. Answers how many syncs its calls have.
+// A section of each thread, and a round. Returns how many syncs its calls have.
 fn round(
     heap: &mut HostedHeap,
     first: &mut HostedSession,

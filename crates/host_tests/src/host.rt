@@ -63,7 +63,7 @@ impl Host {
     }
 }
 
-// Makes the next call of the heap. Answers whether there was one.
+// Makes the next call of the heap. Returns whether there was one.
 fn make_one(alloc: Global, heap: &mut HostedHeap, host: &mut Host) -> bool {
     heap.fetch();
     match heap.next_call() {
@@ -82,7 +82,7 @@ pub fn make_all(alloc: Global, heap: &mut HostedHeap, host: &mut Host) {
     }
 }
 
-// Makes the next call that is left of a heap that was closed. Answers whether there was one.
+// Makes the next call that is left of a heap that was closed. Returns whether there was one.
 fn make_one_left(alloc: Global, calls: &mut HostCalls, host: &mut Host) -> bool {
     calls.fetch();
     match calls.next_call() {

@@ -40,7 +40,7 @@ fn work_often(session: &mut HostedSession, host: &mut Host, sections: u32) -> bo
     true
 }
 
-// Two sections and a round, three and a round, and one that no round is made for. Answers how many are acknowledged after each round,
+// Two sections and a round, three and a round, and one that no round is made for. Returns how many are acknowledged after each round,
 // and whether each call was Ok.
 type Served = (Option<u64>, Option<u64>, bool);
 

@@ -22,7 +22,7 @@ pub const ROWS: [GuardRow; 2] = [
     },
 ];
 
-/// A section that stores this value into the first field. Answers whether it was made.
+/// A section that stores this value into the first field. Returns whether it was made.
 pub fn work(session: &mut HostedSession, value: u64) -> bool {
     let entered = session.try_enter(ObjectId(0)).is_ok();
     let stored = session.store(FieldId(0), value).is_ok();

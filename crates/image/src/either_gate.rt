@@ -19,7 +19,7 @@ use image_parts::{
 };
 
 /// Makes all that was written durable, and then commits a control with these rows by turning one gate; both by two syncs.
-/// Answers the slot in which it stands, which is the one that isn't chosen, and its sequence.
+/// Returns the slot in which it stands, which is the one that isn't chosen, and its sequence.
 ///
 /// Where the other slot's gate reads closed, the control gets the next sequence, and that gate opens over it. Where it reads
 /// open, its sequence is the smaller one: the control gets that one, and the gate of the chosen slot closes, so that the other

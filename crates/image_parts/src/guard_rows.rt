@@ -90,7 +90,7 @@ fn check_guards<D: Disk>(disk: &mut D, layout: &Layout) -> Result<(), GuardsErro
     Ok(())
 }
 
-// Reads the next rows, from the field `first` on, and tests them. Answers how many.
+// Reads the next rows, from the field `first` on, and tests them. Returns how many.
 fn read_block<D: Disk>(
     disk: &mut D,
     layout: &Layout,

@@ -3,7 +3,7 @@
 //! Tests of what an image is made of, by public calls: schemas, the image itself, and the records of logs.
 //!
 //! They stand in one crate, since what each test crate takes of the ones below costs more than the tests. A scenario is a
-//! function that answers plain words, which its test compares once.
+//! function that returns plain words, which its test compares once.
 #![tactic(auto)]
 
 #[cfg(test)]

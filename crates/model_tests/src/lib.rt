@@ -2,7 +2,7 @@
 //!
 //! Tests of the words that every room speaks by, by public calls: what the definitions mean, how words are spelt, and the graph of sections.
 //!
-//! They stand in one crate, since a crate with tests is proved twice. A scenario is a function that answers plain words,
+//! They stand in one crate, since a crate with tests is proved twice. A scenario is a function that returns plain words,
 //! which its test compares once.
 #![tactic(auto)]
 

@@ -47,7 +47,7 @@ impl Shared {
         self.table.shared.load::<Reads>(&mut seat.seat, place)
     }
 
-    /// Stores a field whose guard the seat holds. Answers the value before. One swap.
+    /// Stores a field whose guard the seat holds. Returns the value before. One swap.
     pub fn write_field(&self, seat: &mut Seat, field: FieldId, value: u64) -> u64
         requires seat { IsSeatOf self.now seat.old }
         requires field { field.0 < fields self.now.plan }

@@ -78,7 +78,7 @@ impl Shared {
         LockWord::parse(found).unwrap()
     }
 
-    /// Takes the monitor if its lock word is still free with this release number. Answers the new word, by one lock, or
+    /// Takes the monitor if its lock word is still free with this release number. Returns the new word, by one lock, or
     /// the word found. One compare-exchange.
     pub fn try_take(
         &self,
@@ -111,7 +111,7 @@ impl Shared {
         }
     }
 
-    /// One lock more. `word` is the thin lock that the seat holds. Answers the new one. One store.
+    /// One lock more. `word` is the thin lock that the seat holds. Returns the new one. One store.
     pub fn nest(&self, seat: &mut Seat, object: ObjectId, word: LockWord) -> LockWord
         requires seat { IsSeatOf self.now seat.old }
         requires object { object.0 < objects self.now.plan }
@@ -131,7 +131,7 @@ impl Shared {
         next
     }
 
-    /// One lock less, which isn't the last. `word` is the thin lock that the seat holds. Answers the new one. One store.
+    /// One lock less, which isn't the last. `word` is the thin lock that the seat holds. Returns the new one. One store.
     pub fn unnest(&self, seat: &mut Seat, object: ObjectId, word: LockWord) -> LockWord
         requires seat { IsSeatOf self.now seat.old }
         requires object { object.0 < objects self.now.plan }

@@ -113,7 +113,7 @@ impl Shared {
     }
 
     /// Takes the monitor again, by `again + 1` locks as before the wait, if its word is still free with this number.
-    /// Answers the new word, or the word found. One compare-exchange.
+    /// Returns the new word, or the word found. One compare-exchange.
     pub fn try_resume(
         &self,
         seat: &mut Seat,

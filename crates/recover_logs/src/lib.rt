@@ -2,8 +2,8 @@
 //!
 //! [`check_logs`] replays the records from all monitors free, and tests that each lane is settled where it holds nothing
 //! and that no settled record takes what one that isn't settled freed. Nothing here knows a device or an image: the
-//! records, the fields' guards and the settled counts come from whoever read them. What a list of records leaves is told one by one: of the monitors by [`Monitors`], of a lane
-//! by [`LaneCount`].
+//! records, the fields' guards and the settled counts come from whoever read them. [`Monitors`] and [`LaneCount`] give
+//! what a list of records leaves of the monitors and of a lane.
 #![tactic(auto)]
 
 mod check;

@@ -2,7 +2,7 @@
 //! recovery is down.
 //!
 //! [`Machine::step`] plays a [`Command`](script_lines::Command) and gives an [`Answer`]. Behind plain monitors stands a
-//! store on a device in memory, which is told what the threads do. [`Machine::down`] makes a machine that an image has to be
+//! store on a device in memory, which takes the records of what the threads do. [`Machine::down`] makes a machine that an image has to be
 //! recovered on, and [`Machine::image`] gives the image that a crash has left. Nothing here knows of text.
 #![tactic(auto)]
 

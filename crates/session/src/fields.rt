@@ -93,7 +93,7 @@ impl Session {
         }
     }
 
-    // Writes a field whose guard is held, and pushes its record. Answers the value before.
+    // Writes a field whose guard is held, and pushes its record. Returns the value before.
     #[inline(always)]
     fn write(&mut self, shared: &Shared, field: FieldId, value: u64) -> u64
         requires seat { IsSessionOf shared.now self.old }
@@ -115,7 +115,7 @@ impl Session {
         before
     }
 
-    // Writes a transient field whose guard is held: it makes no record. Answers the value before.
+    // Writes a transient field whose guard is held: it makes no record. Returns the value before.
     #[inline(always)]
     fn write_alone(&mut self, shared: &Shared, field: FieldId, value: u64) -> u64
         requires seat { IsSessionOf shared.now self.old }

@@ -64,7 +64,7 @@ pub fn make_often(shared: &Shared, session: &mut Session, call: Call, times: u32
     Ok(())
 }
 
-/// Makes the calls of each row. Answers whether they go as the rows say.
+/// Makes the calls of each row. Returns whether they go as the rows say.
 pub fn follow(shared: &Shared, session: &mut Session, rows: &[Row]) -> bool
     requires seat { IsSessionOf shared.now session.old }
     ensures seat { IsSessionOf shared.now session.new }

@@ -29,7 +29,7 @@ fn await_flag<R: Wait>(rt: &R, flag: &AtomicBool) {
     }
 }
 
-// Keeps the object until the other one is about to enter it, and a while longer, so that it finds it held. Answers whether the
+// Keeps the object until the other one is about to enter it, and a while longer, so that it finds it held. Returns whether the
 // exit was Ok.
 fn leave_late<R: Wait>(rt: &R, shared: &Shared, session: Session, is_coming: &AtomicBool) -> bool
     requires seat { IsSessionOf shared.now session }
@@ -42,7 +42,7 @@ fn leave_late<R: Wait>(rt: &R, shared: &Shared, session: Session, is_coming: &At
     session.exit(shared, OBJECT).is_ok()
 }
 
-// Enters the object. Answers what its words say then.
+// Enters the object. Returns what its words say then.
 fn come<R: Wait>(rt: &R, shared: &Shared, session: Session, is_coming: &AtomicBool) -> Option<Words>
     requires seat { IsSessionOf shared.now session }
 {
@@ -54,7 +54,7 @@ fn come<R: Wait>(rt: &R, shared: &Shared, session: Session, is_coming: &AtomicBo
     }
 }
 
-// The first session takes the object before the second one comes. Answers whether it could, and could leave it, and what the
+// The first session takes the object before the second one comes. Returns whether it could, and could leave it, and what the
 // second one finds when it has it.
 fn contend<R: Threads + Wait + Sync>(
     rt: &R,

@@ -3,7 +3,7 @@
 //! Tests of sessions and of pools, by their public calls alone: the words that they leave, where each limit lies, what calls answer in
 //! sections, and threads that share a heap. Pools are tried in the fields of a heap and in a plain row of cells.
 //!
-//! A scenario is a function that answers plain words, which its test compares once.
+//! A scenario is a function that returns plain words, which its test compares once.
 #![tactic(auto)]
 
 #[cfg(test)]

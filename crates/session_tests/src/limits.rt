@@ -14,7 +14,7 @@ const OBJECT: ObjectId = ObjectId(0);
 
 const FIELD: FieldId = FieldId(0);
 
-// Makes these calls by the session. Answers whether they go so, and how many sections have ended then.
+// Makes these calls by the session. Returns whether they go so, and how many sections have ended then.
 fn follow_last(shared: &Shared, sessions: &mut Vec<Session>, rows: &[Row]) -> Option<(bool, u64)>
     requires seats { All (IsSessionOf shared.now) sessions.old.items }
 {
@@ -33,7 +33,7 @@ fn told_of(alloc: Global, objects: u32, last: u64, rows: &[Row]) -> Option<(bool
     told
 }
 
-/// Inflates so many objects, from the second one on. Answers whether all calls were made.
+/// Inflates so many objects, from the second one on. Returns whether all calls were made.
 pub fn inflate_many(shared: &Shared, session: &mut Session, objects: u32) -> bool
     requires seat { IsSessionOf shared.now session.old }
     ensures seat { IsSessionOf shared.now session.new }
@@ -47,7 +47,7 @@ pub fn inflate_many(shared: &Shared, session: &mut Session, objects: u32) -> boo
     are_so
 }
 
-// Makes these calls, begins to wait for the first object, and makes the others if that is refused. Answers whether the calls
+// Makes these calls, begins to wait for the first object, and makes the others if that is refused. Returns whether the calls
 // went so, and why the wait was refused, if it was.
 fn wait_behind(
     shared: &Shared,

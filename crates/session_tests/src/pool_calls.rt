@@ -47,7 +47,7 @@ fn give(pool: &Pool, cells: &mut InSection<'_>, slot: u32) -> Answer
     }
 }
 
-// Makes these calls. Answers whether all answer so.
+// Makes these calls. Returns whether all answer so.
 fn follow(pool: &Pool, cells: &mut InSection<'_>, rows: &[Row]) -> bool
     ensures home { home_of cells.new ≡ home_of cells.old }
 {
@@ -58,7 +58,7 @@ fn follow(pool: &Pool, cells: &mut InSection<'_>, rows: &[Row]) -> bool
     are_so
 }
 
-/// Makes these calls by the session. Answers whether all answer so.
+/// Makes these calls by the session. Returns whether all answer so.
 pub fn call_all(shared: &Shared, pool: &Pool, session: Session, rows: &[Row]) -> (Session, bool)
     requires seat { IsSessionOf shared.now session }
     ensures seat { IsSessionOf shared.now result.0 }

@@ -14,7 +14,7 @@ use std::alloc::Global;
 use thread_rings::Receiver;
 use thread_steps::Seen;
 
-// Stores the value in the head so many times. Answers whether all were Ok.
+// Stores the value in the head so many times. Returns whether all were Ok.
 fn fill(shared: &Shared, session: &mut Session, value: u64, times: u32) -> bool
     requires seat { IsSessionOf shared.now session.old }
     ensures seat { IsSessionOf shared.now session.new }

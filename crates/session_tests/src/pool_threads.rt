@@ -72,7 +72,7 @@ fn pass<R: Wait>(rt: &R, shared: &Shared, pool: &Pool, session: Session) -> (Ses
     (session, one && two)
 }
 
-// The same so many times. Answers how many sections there were, unless a call was refused.
+// The same so many times. Returns how many sections there were, unless a call was refused.
 fn pass_often<R: Wait>(
     rt: &R,
     shared: &Shared,

@@ -26,7 +26,7 @@ fn count_once<R: Wait>(rt: &R, shared: &Shared, session: &mut Session) -> Option
     session.exit(shared, OBJECT).ok()
 }
 
-// The same so many times. Answers how many sections there were.
+// The same so many times. Returns how many sections there were.
 fn count<R: Wait>(rt: &R, shared: &Shared, session: Session, rounds: u32) -> Option<u64>
     requires seat { IsSessionOf shared.now session }
 {
@@ -45,7 +45,7 @@ fn value_of<R: Wait>(rt: &R, shared: &Shared, session: &mut Session) -> Option<u
     session.load(shared, FIELD).ok()
 }
 
-// Two threads count side by side, each with a session of its own. Answers how many sections each had, and then what a third
+// Two threads count side by side, each with a session of its own. Returns how many sections each had, and then what a third
 // session finds in the field.
 fn race<R: Threads + Wait + Sync>(
     rt: &R,
@@ -79,7 +79,7 @@ fn two_sessions_race(rt: HostRuntime) {
     assert!(rt; told_of_race(&rt, rt.alloc()) == Some(counted));
 }
 
-// All sessions but the last count once, one after the other. Answers how many sections there were, and what the last one finds.
+// All sessions but the last count once, one after the other. Returns how many sections there were, and what the last one finds.
 fn count_in_turn<R: Wait>(
     rt: &R,
     shared: &Shared,

@@ -24,7 +24,7 @@ fn empty(ring: &mut Receiver) {
     }
 }
 
-// One turn: the field counts it, and the other session is notified. Answers whether each call was Ok.
+// One turn: the field counts it, and the other session is notified. Returns whether each call was Ok.
 fn take_turn(shared: &Shared, session: &mut Session, turn: u64) -> bool
     requires seat { IsSessionOf shared.now session.old }
     ensures seat { IsSessionOf shared.now session.new }
@@ -33,7 +33,7 @@ fn take_turn(shared: &Shared, session: &mut Session, turn: u64) -> bool
     stored && session.notify(shared, OBJECT).is_ok()
 }
 
-// Takes a turn if it is this session's: each second one is, from `first` on. Answers whether it was, or none where there are no
+// Takes a turn if it is this session's: each second one is, from `first` on. Returns whether it was, or none where there are no
 // more before `end`.
 fn try_turn(shared: &Shared, session: &mut Session, first: u64, end: u64) -> Option<bool>
     requires seat { IsSessionOf shared.now session.old }
@@ -54,7 +54,7 @@ fn try_turn(shared: &Shared, session: &mut Session, first: u64, end: u64) -> Opt
     }
 }
 
-// Waits in between its turns. Answers how many it took, and how often it waited.
+// Waits in between its turns. Returns how many it took, and how often it waited.
 fn play<R: Wait>(
     rt: &R,
     shared: &Shared,
@@ -94,7 +94,7 @@ fn take_rings(rings: &mut Vec<Receiver>) -> Option<(Receiver, Receiver)> {
     Some((a, b))
 }
 
-// Both play, from turn 10 on. Answers how many turns each took, and how often they waited in all.
+// Both play, from turn 10 on. Returns how many turns each took, and how often they waited in all.
 fn play_both<R: Threads + Wait + Sync>(
     rt: &R,
     shared: &Shared,

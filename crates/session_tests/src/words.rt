@@ -32,7 +32,7 @@ pub fn words_of(shared: &Shared, session: &mut Session) -> Words
     }
 }
 
-// The first session takes the object by 256 locks, then by one more, and gives all back. Answers what the second one finds
+// The first session takes the object by 256 locks, then by one more, and gives all back. Returns what the second one finds
 // each time, and the answers: to the locks, to the one more, to the second one's try in between, to the exits, and to the second
 // one's try at last.
 fn fill_count(shared: &Shared, a: &mut Session, b: &mut Session) -> ([Words; 3], [Answer; 5])
@@ -98,7 +98,7 @@ fn wake(shared: &Shared, session: &mut Session) -> Option<Lane>
     }
 }
 
-// Comes back from the wait and leaves. Answers how many sections it has then.
+// Comes back from the wait and leaves. Returns how many sections it has then.
 fn resume_and_leave(shared: &Shared, waiting: Waiting) -> Option<u64>
     requires seat { IsWaitingOf shared.now waiting }
 {
@@ -112,7 +112,7 @@ fn resume_and_leave(shared: &Shared, waiting: Waiting) -> Option<u64>
     }
 }
 
-// The first session waits, the second notifies it and leaves, and the first comes back and leaves (JLS 17.2). Answers what
+// The first session waits, the second notifies it and leaves, and the first comes back and leaves (JLS 17.2). Returns what
 // the second one finds of the wait and at last, whom it notified, and how many sections each has.
 fn wait_and_wake(
     shared: &Shared,
@@ -176,7 +176,7 @@ fn a_wait_is_notified(rt: HostRuntime) {
 }
 
 // The first session makes five other objects fat, and the second one takes the object and leaves it seven times. Then the third one
-// takes it by 256 locks, and by one more. Answers what the first one finds after either.
+// takes it by 256 locks, and by one more. Returns what the first one finds after either.
 fn fatten_sixth(
     shared: &Shared,
     a: &mut Session,

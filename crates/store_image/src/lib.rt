@@ -1,4 +1,4 @@
-//! The image of a store: the steps by which what a store was told reaches its device.
+//! The image of a store: the steps by which the records applied to a store reach its device.
 //!
 //! [`format`] makes an image. [`log_records`] makes new records durable, [`write_home`] brings a logged value to its home cell, [`settle`]
 //! acknowledges the stable cut, and [`trim`] frees the places of what is acknowledged. Each says

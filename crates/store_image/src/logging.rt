@@ -20,7 +20,7 @@ use block_disk::Disk;
 use heap_model::{Lane, NewRecords, StoreError};
 use image::{LaneRow, Layout};
 
-/// Makes the lanes' new records durable, and then the control that counts them. Answers how many there were. It takes a
+/// Makes the lanes' new records durable, and then the control that counts them. Returns how many there were. It takes a
 /// write for each record, a sync and the calls of a commit; with no record it takes no call.
 ///
 /// Refusals, in this order:

@@ -1,7 +1,7 @@
 //! What a store remembers, in memory alone.
 //!
-//! [`Applied`] is told the records of each lane. It knows who holds each monitor, each field's value, the open sections, the records that are
-//! not yet logged, and the fields that have to be written home. [`LoggedSections`] is told the logged ones: which sections may be acknowledged,
+//! [`Applied`] takes the records of each lane. It knows who holds each monitor, each field's value, the open sections, the records that are
+//! not yet logged, and the fields that have to be written home. [`LoggedSections`] takes the logged ones: which sections may be acknowledged,
 //! and where they end. Nothing here knows a device.
 #![tactic(auto)]
 

@@ -1,6 +1,6 @@
 //! A store that makes rounds of two syncs (Atlas, OOPSLA 2014; the helper's sections are this project's own).
 //!
-//! [`RoundStore::adopt`] takes a recovered device over. [`RoundStore::apply`] is told the records of each lane, in memory alone.
+//! [`RoundStore::adopt`] takes a recovered device over. [`RoundStore::apply`] takes the records of each lane, in memory alone.
 //! [`RoundStore::round`] makes durable what was applied and acknowledges its stable cut: by two syncs where the image has a lane for
 //! the helper, and the values that the round changes fit in it; else by four. At every moment a crash leaves an image that shows the
 //! acknowledged cut of what was applied, or the one that the round acknowledges. [`RoundStore::flush`] brings the kept values home.

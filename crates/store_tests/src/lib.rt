@@ -1,6 +1,6 @@
 //! Tests of: heap_model, store_image, store_memory, durable.
 //!
-//! What the parts of a store answer, by their public calls: a memory that is told records, an image that is made, and stores
+//! What the parts of a store answer, by their public calls: a memory that takes records, an image that is made, and stores
 //! whose answers, device calls and crash images are known.
 #![tactic(auto)]
 

@@ -2,8 +2,8 @@
 //!
 //! [`open`] makes of a recovered heap the words that threads share, one session for each of their lanes, and the helper. Each session may go
 //! to a thread of its own, and the helper to another. Where the image has one lane more than there are threads, it is the helper's own.
-//! [`end`] makes of a session what the helper meets, and [`close`] lets them meet. The device then has the heap of one legal history. In it
-//! each session's part is what its calls told.
+//! [`end`] turns a session into its final record; [`close`] hands these records to the helper. The device then has the heap of one legal
+//! history, in which each session's part is what its calls returned.
 #![tactic(auto)]
 
 mod closing;

@@ -51,7 +51,7 @@ fn take_turn(shared: &Shared, first: &mut Session, second: &mut Session, turn: u
     }
 }
 
-// So many turns with a round after each. Answers whether all were Ok.
+// So many turns with a round after each. Returns whether all were Ok.
 fn take_turns(
     shared: &Shared,
     first: &mut Session,

@@ -21,7 +21,7 @@ use std::thread::{Threads, join};
 use thread_heap::RunningHeap;
 use trim_helper::Helper;
 
-// Rounds until the workers have ended, and one more. Answers the disk.
+// Rounds until the workers have ended, and one more. Returns the disk.
 fn serve_until<R: Wait>(
     rt: &R,
     shared: &Shared,

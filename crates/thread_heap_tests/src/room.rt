@@ -13,7 +13,7 @@ use std::alloc::Global;
 use thread_heap::RunningHeap;
 use trim_helper::Helper;
 
-// Takes the monitor and gives it back, until a call is refused, at most so many times. Answers how often both were Ok, and whether
+// Takes the monitor and gives it back, until a call is refused, at most so many times. Returns how often both were Ok, and whether
 // the last one found the helper behind.
 fn pass(shared: &Shared, session: &mut Session, times: u32) -> (u32, bool)
     requires seat { IsSessionOf shared.now session.old }

@@ -15,7 +15,7 @@ use std::sync::Wait;
 use thread_heap::RunningHeap;
 use trim_helper::Helper;
 
-// So many sections of one store with a round after each, and then so many rounds with nothing new. Answers whether all were Ok.
+// So many sections of one store with a round after each, and then so many rounds with nothing new. Returns whether all were Ok.
 fn add_and_serve<R: Wait>(
     rt: &R,
     shared: &Shared,

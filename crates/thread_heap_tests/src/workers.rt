@@ -10,7 +10,7 @@ use session::Session;
 use std::sync::Wait;
 
 /// One section: it takes the next number, gives the field for all free, and then stores the number in the worker's own field.
-/// Meanwhile another section may take the number after it, and end first. Answers the number, or 0 where a call was refused.
+/// Meanwhile another section may take the number after it, and end first. Returns the number, or 0 where a call was refused.
 pub fn take_number<R: Wait>(rt: &R, shared: &Shared, session: &mut Session, own: u32) -> u64
     requires seat { IsSessionOf shared.now session.old }
     ensures seat { IsSessionOf shared.now session.new }

@@ -25,7 +25,7 @@ pub fn read_field(shared: &Shared, seat: &mut Seat, field: FieldId) -> u64
     shared.read_field(seat, field)
 }
 
-/// Stores a field whose guard the thread holds. Answers the value before. One swap.
+/// Stores a field whose guard the thread holds. Returns the value before. One swap.
 pub fn write_field(shared: &Shared, seat: &mut Seat, field: FieldId, value: u64) -> u64
     requires seat { IsSeatOf shared.now seat.old }
     requires field { field.0 < (plan shared.now).fields }

@@ -50,7 +50,7 @@ pub fn look(shared: &Shared, seat: &mut Seat, object: ObjectId) -> Sighted
 }
 
 /// Takes the monitor by one lock, if it is still free at this release number. `slot` is its fat slot, if the seat knows of
-/// one. Answers the grip, or the word that was found. One compare-exchange.
+/// one. Returns the grip, or the word that was found. One compare-exchange.
 #[inline(always)]
 pub fn try_take(
     shared: &Shared,
@@ -197,7 +197,7 @@ pub fn release(shared: &Shared, seat: &mut Seat, grip: Grip)
     }
 }
 
-/// Inflates a thin monitor, if a fat slot is left. Answers the grip in its slot, or `None` where no slot is left.
+/// Inflates a thin monitor, if a fat slot is left. Returns the grip in its slot, or `None` where no slot is left.
 pub fn inflate(shared: &Shared, seat: &mut Seat, grip: Grip) -> Option<Grip>
     requires seat { IsSeatOf shared.now seat.old }
     requires keeps { Keeps (view seat.old) grip }

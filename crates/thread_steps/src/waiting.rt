@@ -49,7 +49,7 @@ pub fn poll_wait(shared: &Shared, seat: &mut Seat, object: ObjectId) -> bool
 }
 
 /// After a wait: takes the monitor again by `count` locks, as before it, if it is still free at this release number.
-/// Answers the grip, or the fat word that was found. One compare-exchange.
+/// Returns the grip, or the fat word that was found. One compare-exchange.
 pub fn try_retake(
     shared: &Shared,
     seat: &mut Seat,

@@ -18,7 +18,7 @@ use thread_rings::{MOST_RING_RECORDS, Receiver};
 /// rings' fill of each lane.
 pub const LOOKS: usize = 16;
 
-/// Applies the lane's next record, if one is known and it is next. Answers whether it did.
+/// Applies the lane's next record, if one is known and it is next. Returns whether it did.
 pub fn apply_next<D: Disk>(
     store: &mut RoundStore<D>,
     rings: &mut [Receiver],
@@ -91,7 +91,7 @@ fn share_of(remaining: u64, lanes: usize) -> u64
 }
 
 /// Applies the lanes' records in turn, each as long as its next one can be, and at most `most` in all: each lane at most an equal part
-/// of what the lanes before it left. Answers how many it applied.
+/// of what the lanes before it left. Returns how many it applied.
 pub fn apply_lanes<D: Disk>(
     store: &mut RoundStore<D>,
     rings: &mut [Receiver],
@@ -153,7 +153,7 @@ pub fn drain_known<D: Disk>(
 }
 
 /// Looks at the rings and applies what is next in its lane, again and again until nothing was, it has looked [`LOOKS`] times, or
-/// `most` records were applied. Answers how many it applied.
+/// `most` records were applied. Returns how many it applied.
 pub fn drain_rings<D: Disk>(
     store: &mut RoundStore<D>,
     rings: &mut [Receiver],

@@ -146,8 +146,7 @@ impl<D: Disk> Helper<D> {
         // Settling with a bound applies at most so many records. It makes durable what was applied, acknowledges its
         // stable cut and trims that. If it applied fewer, and the store hadn't failed, no record could be applied then.
         ensures settles { (s : Setting) (p : Past) → IsServing D.device self.old s p → SettlesUpTo D.device most s p self.old self.new result }
-        // Settling that reaches its bound shares it equally among the lanes: of each at least the bound divided by their number was applied,
-        // or at some moment of the drain it couldn't go on.
+        // If `settle` reaches its bound, each lane got at least bound/lanes records, unless it had none that could be applied at some moment.
         ensures shares { SharesUpTo D.device most self.old self.new result }
         // After Ok, what is acknowledged may be published.
         ensures ready { OnOk result (MayBePublished D.device self.new) }

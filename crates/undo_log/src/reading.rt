@@ -107,7 +107,7 @@ fn check_records<D: Disk>(
     Ok(())
 }
 
-// Reads the records from `place` on, as far as one run goes, and tests them. Answers how many.
+// Reads the records from `place` on, as far as one run goes, and tests them. Returns how many.
 fn read_run<D: Disk>(
     disk: &mut D,
     layout: &Layout,

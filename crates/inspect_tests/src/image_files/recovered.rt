@@ -267,7 +267,7 @@ fn a_crashed_file_is_shown_and_recovered(rt: HostRuntime) {
     assert!(rt; first_untold(&rt, "crashed", CRASHED).is_none());
 }
 
-// Makes the file's controls those of version 1. Answers its bytes then.
+// Makes the file's controls those of version 1. Returns its bytes then.
 fn make_old(rt: &HostRuntime, image: &str) -> Option<Vec<u8>> {
     let mut bytes = fs::read(rt, image).ok()?;
     if write_old(rt, image, &mut bytes).is_none() {

@@ -111,7 +111,7 @@ fn push_all(told: &mut Told, records: &[(u8, Record)]) {
     }
 }
 
-// Tells the records, and asks where so many of them are told. Answers whether all answers are so.
+// Tells the records, and asks where so many of them are told. Returns whether all answers are so.
 fn follow(told: &mut Told, records: &[(u8, Record)], asks: &[(usize, Ask)]) -> bool {
     let mut place = 0;
     let mut are_so = true;
@@ -390,7 +390,7 @@ fn looks(told: &mut Told) -> Option<u64> {
 // Lane 0's section, which stays open.
 const OPEN: [(u8, Record); 3] = [acq!(0, 0, 0), acq!(0, 1, 0), rel!(0, 1, 0)];
 
-// Tells of an open section, and of so many of lane 1 that depend on it, with an answer after each group. Answers the numbers told
+// Tells of an open section, and of so many of lane 1 that depend on it, with an answer after each group. Returns the numbers told
 // until it ends, and of the answer then.
 fn looks_behind_open(told: &mut Told, sections: u64, group: u64) -> Option<[u64; 2]>
     requires { 0 < group }
