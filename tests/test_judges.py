@@ -2,15 +2,19 @@
 
 Histories (tools/power_cuts/history.py) are judged for each subset of the sections of a life. Two or three threads take monitors in an order that
 a seed chooses. A heap must pass exactly where its sections are a closed set: the first ones of each thread, and of each monitor those that took it
-first. The other judges are those of tools/power-cuts (trials.py), and of the examples that are killed (test_examples.py).
+first. The other judges are those of tools/power-cuts (trials.py), of the examples that are killed (test_examples.py), and of lives beside a model
+(test_machine.py).
 """
 import itertools
 import random
 import sys
 import unittest
+from unittest import mock
 
-from .harness import COUNTS, TOP
+from . import test_machine
+from .harness import COUNTS, TOP, Ran
 from .test_examples import Held, Jobs, Totals, Transfers
+from .test_machine import Life, Script
 
 sys.path.insert(0, f"{TOP}/tools/power_cuts")
 import history  # noqa: E402
@@ -173,6 +177,58 @@ class Judges(unittest.TestCase):
             with self.assertRaises(AssertionError):
                 Held().found(line, 1)
             self.refused("leases", True, "")
+
+    def test_machines(self):
+        script, printed = Script([0, 0, 0]), ["logged 3", "ok"]
+        script.add("log", r"logged \d+")
+        script.add("t1 enter o0", "ok")
+        self.assertIsNone(script.fault_of(printed))
+        for wrong in (["logged 3", "refused held"], ["logged", "ok"], printed[:1], [*printed, "ok"]):
+            self.refused("machines", script.fault_of(wrong), wrong)
+        life = Life.__new__(Life)
+        life.heap, life.kept = [5, 6, 7], [1, 2]
+        self.assertEqual(life.reported(Ran(0, "kept 1 2\nlane 0\nheap 5 6 7\nacknowledged 1 0\n", "")), ["acknowledged 1 0"])
+        for wrong in (
+            Ran(1, "kept 1 2\nheap 5 6 7\n", ""),
+            Ran(0, "kept 1 2\nheap 5 6 7\n", "a fault"),
+            Ran(0, "kept 1 1\nheap 5 6 7\n", ""),
+            Ran(0, "kept 1 2\nheap 5 6 8\n", ""),
+            Ran(0, "lane 0\nheap 5 6 7\n", ""),
+        ):
+            with self.assertRaises(AssertionError, msg=wrong):
+                life.reported(wrong)
+            self.refused("machines", True, wrong)
+
+    def test_machines_that_were_killed(self):
+        def looks_right(judge, heap, cut, *known):
+            life = Life.__new__(Life)
+            life.image, life.heap, life.kept = "image", [5, 0, 5], [0, 1]
+            shown = {"heap": heap, "cut": cut} if heap else None
+            with mock.patch.multiple(test_machine, run=mock.DEFAULT, lines_by_word=lambda _: shown):
+                try:
+                    judge(life, *known)
+                except AssertionError:
+                    return False
+            return True
+
+        # Of what may be there, and of two workers of which each was to count three more.
+        may, new = [([6, 1, 5], [1, 1])], [11, 3, 8]
+        for heap, cut, is_one, has_grown in (
+            ([6, 1, 5], [1, 1], True, False),
+            ([6, 1, 5], [1, 0], False, True),
+            ([7, 1, 5], [1, 0], False, False),
+            ([6, 1, 5], [0, 1], False, False),
+            ([5, 0, 5], [0, 1], False, True),
+            (new, [0, 0], False, True),
+            (new, [1, 0], False, False),
+            (None, None, False, False),
+        ):
+            for judge, is_right, known in ((Life.be_one_of, is_one, may), (Life.grown_by_workers, has_grown, new)):
+                found = looks_right(judge, heap, cut, known)
+                if is_right:
+                    self.assertTrue(found, (judge, heap, cut))
+                else:
+                    self.refused("machines", not found, (judge, heap, cut))
 
     def test_histories(self):
         passed = 0

@@ -8,7 +8,7 @@ import java.util.concurrent.atomic.AtomicLong;
 
 /**
  * Kills the server of examples/java/orders under load: {@code OrdersKilled KILLS FILE COMMAND..}. No order that was answered may be lost, and none
- * may be there by half.
+ * may be there by half. First the judge must refuse made-up states; without words nothing else is done.
  */
 public class OrdersKilled {
     static final int CUSTOMERS = 16;
@@ -21,7 +21,23 @@ public class OrdersKilled {
         return answer.body().strip();
     }
 
+    /** Why a started server can't have this: the last order of a customer, and the totals. Null: it can. {@code before}: the totals of the first start. */
+    static String wrong(long found, long answered, long sent, String totals, String before) {
+        if (found < answered) return "order " + found + " is the last one, and " + answered + " was answered";
+        if (found > sent) return "order " + found + " is the last one, and only " + sent + " were sent";
+        return before == null || totals.equals(before) ? null : "the totals are " + totals + ", and were " + before;
+    }
+
+    static void tryJudge() {
+        boolean passes = wrong(2, 2, 2, "1 2", null) == null && wrong(3, 2, 3, "1 2", "1 2") == null;
+        boolean refuses = wrong(1, 2, 3, "1 2", "1 2") != null && wrong(4, 2, 3, "1 2", "1 2") != null && wrong(2, 2, 3, "1 1", "1 2") != null;
+        if (!passes || !refuses) throw new AssertionError("the judge passes a made-up state that is wrong, or refuses one that is right");
+        System.out.println("the judge refuses 3 made-up states");
+    }
+
     public static void main(String[] words) throws IOException, InterruptedException {
+        tryJudge();
+        if (words.length == 0) return;
         int kills = Integer.parseInt(words[0]);
         List<String> command = new ArrayList<>(Arrays.asList(words).subList(2, words.length));
         command.add(Path.of(words[1]).toString());
@@ -33,13 +49,12 @@ public class OrdersKilled {
             Process server = new ProcessBuilder(command).redirectError(ProcessBuilder.Redirect.INHERIT).start();
             try (BufferedReader lines = server.inputReader()) {
                 int port = Integer.parseInt(lines.readLine());
-                for (int customer = 0; customer < CUSTOMERS; customer++) {
-                    long found = Long.parseLong(call(port, "GET", "/customer/" + customer).split(" ")[0]);
-                    if (found < answered[customer] || found > sent[customer])
-                        throw new AssertionError("customer " + customer + ": " + found + ", answered " + answered[customer] + ", sent " + sent[customer]);
-                }
                 String found = call(port, "GET", "/totals");
-                if (totals != null && !totals.equals(found)) throw new AssertionError("totals " + found + ", before " + totals);
+                for (int customer = 0; customer < CUSTOMERS; customer++) {
+                    long last = Long.parseLong(call(port, "GET", "/customer/" + customer).split(" ")[0]);
+                    String why = wrong(last, answered[customer], sent[customer], found, totals);
+                    if (why != null) throw new AssertionError("customer " + customer + ": " + why);
+                }
                 totals = found;
                 if (kill == kills) break;
                 List<Thread> clients = new ArrayList<>();
