@@ -227,7 +227,6 @@ readme_java: jar
 	mkdir $$work/beside
 	cp $(JAR) $(LIBS)/libzelamiku.so.1 $$work/beside
 	readme java >$$work/Transfer.java
-	cmp $$work/Transfer.java examples/java/Transfer.java
 	javac -cp $(JAR) -d $$work/classes $$work/Transfer.java
 	transfer() { java --enable-native-access=ALL-UNNAMED -cp "$$work/beside/zelamiku.jar:$$work/classes" Transfer; }
 	twelve_times transfer

@@ -29,7 +29,7 @@ heap 10 20
 SECTION = "t1 enter o0\nt1 store f0 5\nt1 exit o0\nlog\nhome\nsettle\n"
 DONE = "ok\nok\nok\nlogged 3\nwrote 1\nacknowledged 1 0\n"
 IN_MEMORY = "object o\nfield f o o 7\nformat 1 2000\nt1 enter o\nt1 load f\n"
-# The third script of docs/SCRIPTS.md, from behind its `format`.
+# The script of docs/SCRIPTS.md ("A script"), after its `format`.
 DRAGGED = """t1 enter o0
 t1 enter o1
 t1 store f0 1
