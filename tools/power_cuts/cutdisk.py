@@ -16,6 +16,7 @@ import io
 import json
 import math
 import mmap
+import operator
 import os
 import random
 import socket
@@ -108,6 +109,10 @@ class Disk:
         self.fault["failed"] += is_one
         return is_one
 
+    def turns_a_gate(self, at, count, content):
+        """Whether the write changes one byte alone of what the disk has, as the turn of a gate does, which has a sync of its own."""
+        return content is not None and count <= PAGE and sum(map(operator.ne, self.read(at, count), content)) == 1
+
     def answered(self, event, has_failed):
         """Answers a request after a while, by chance, so in any order."""
         if self.most_delay > 0:
@@ -136,7 +141,8 @@ class Disk:
         """Of one that fails the first half may be a write like any other."""
         with self.lock:
             self.hear()
-            has_failed, event = self.fails("write"), None
+            is_gate = self.fault["kind"] == "gate" and self.turns_a_gate(at, count, content)
+            has_failed, event = self.fails("gate" if is_gate else "write"), None
             if has_failed:
                 count = count // 2 // SECTOR * SECTOR if self.fault["mode"] == "half" else 0
             if count > 0:
@@ -293,9 +299,9 @@ class Disk:
         self.lies_from = event
 
     def fail(self, kind, skip=0, count=0, mode="kept"):
-        """Of the requests of this kind (write, flush, read) that come now, after the first ones, so many are answered by an error. Of a failed write
-        the disk has nothing (lost) or the first half (half); after a failed flush it has what it had (kept), or has lost its cache (lost). How many
-        had failed since this was asked before."""
+        """Of the requests of this kind (write, gate, flush, read) that come now, after the first ones, so many are answered by an error. A gate is a
+        write that changes one byte alone. Of a failed write the disk has nothing (lost) or the first half (half); after a failed flush it has what it
+        had (kept), or has lost its cache (lost). How many had failed since this was asked before."""
         failed, self.fault = self.fault["failed"], {"kind": kind, "skip": skip, "count": count, "mode": mode, "failed": 0}
         return failed
 

@@ -6,7 +6,7 @@ mount the heap is opened, and used. No cut in this loses what was told before, a
 import re
 import time
 
-from trials import Known, Trial, Verdict, tries_of
+from trials import Known, Trial, Verdict, is_over, tries_of
 
 STATES = 4  # while the heap is opened after a failure, and so many later
 PATIENCE = 40  # times 0.05 seconds, in which a program whose disk has failed ends
@@ -26,6 +26,8 @@ class FaultTrial(Trial):
             self.tear_the_image_alone()
         # A failure that was asked for may never come.
         for _ in range(2 * self.run.failures):
+            if is_over():
+                return
             self.disk.ask("state", base, "kept", 0, 0, 1, 0)
             self.disk.ask("deeper")
             self.try_failure()
@@ -71,7 +73,7 @@ class FaultTrial(Trial):
         self.counts["failures"] += self.disk.ask("fail", "none") > 0
 
     def modes(self, kind):
-        return {"write": ("lost", "half"), "flush": ("kept", "lost"), "read": ("lost",)}[kind]
+        return {"write": ("lost", "half"), "gate": ("lost",), "flush": ("kept", "lost"), "read": ("lost",)}[kind]
 
     def again(self):
         return self.work.again.format("unmended" if self.run.is_unmended else "")
@@ -94,9 +96,10 @@ class FaultTrial(Trial):
     def try_behind(self, promised):
         """Looks at states of cuts from the failure's end on, the first with what is durable alone."""
         floor, cuts = (), [self.opened]
-        for begin, end in ((self.opened, self.recovered), (self.recovered, self.end)):
+        # What an opening hasn't written back is mostly lost by a cut in it.
+        for begin, end, number in ((self.opened, self.recovered, STATES * (1 + self.run.is_unmended)), (self.recovered, self.end, STATES)):
             if begin < end:
-                cuts += [end, *self.moments(STATES - 1, begin, end, [it for it in self.disk.ask("flushes") if begin < it <= end])]
+                cuts += [end, *self.moments(number - 1, begin, end, [it for it in self.disk.ask("flushes") if begin < it <= end])]
         for i, cut in enumerate(cuts):
             policy = ("lost", 0, 0, 1, 0) if i == 0 else self.policy()
             self.counts["volatile"] += self.disk.ask("state", cut, *policy) > 0
