@@ -232,8 +232,8 @@ typedef struct {
 enum { ZELAMIKU_LOG_INFO = 0, ZELAMIKU_LOG_WARNING = 1, ZELAMIKU_LOG_ERROR = 2 };
 typedef void zelamiku_log(void *context, uint32_t level, const char *text);
 
-/* What a heap is made of, and how it works. All zeros but for size, objects, fields and count is a good plan. The library reads it, and what it
- * points to, during zelamiku_heap_open only.
+/* What a heap is made of, and how it works. A good plan sets size, objects, fields and count, and leaves the rest 0. The library reads it, and
+ * what it points to, during zelamiku_heap_open only.
  * Records of a section lie in its lane's ring until a round takes them, and in the lane's log until they are durable. A thread without room in
  * either sleeps until a round. A larger ring and log therefore give more sections a second if syncs are slow and few threads wait. A ring holds
  * no more than its log. */
@@ -370,7 +370,7 @@ ZELAMIKU_MUST_USE zelamiku_status zelamiku_heap_dropped(zelamiku_heap heap, size
  *   NO_MEMORY, FAILED, WORN: the heap has ended, and its last calls weren't all made. Nothing is lost: the next open recovers it */
 ZELAMIKU_MUST_USE zelamiku_status zelamiku_heap_close(zelamiku_heap heap);
 
-/* Stops a heap whose threads may be in sections or wait: from now on their calls return `why`, even those that sleep now. First it makes all ended
+/* Stops a heap whose threads may be in sections or wait: from now on their calls return `why`, even calls that sleep now. First it makes all ended
  * sections durable that don't depend on an open one. The next open drops the open sections, and the ended ones that depend on them,
  * as after a crash. `why` is ZELAMIKU_CLOSED; or ZELAMIKU_ABANDONED, for a heap with a thread that has exited, or failed, inside its
  * section. The memory of a lane in a section is kept until its thread calls again.
@@ -380,8 +380,8 @@ ZELAMIKU_MUST_USE zelamiku_status zelamiku_heap_close(zelamiku_heap heap);
  * BAD_ARGUMENT, for every other `why`: nothing was done. */
 ZELAMIKU_MUST_USE zelamiku_status zelamiku_heap_stop(zelamiku_heap heap, zelamiku_status why);
 
-/* Writes a copy of the heap, of a moment between two rounds, to the path, as zelamiku_heap_open makes a heap: beside the path, then synced and
- * renamed over the file there, which is locked until then. Threads go on meanwhile. The copy has all that was durable when the call began.
+/* Copies the heap, as it is between two rounds, to the path. The copy is written to a file beside the path, synced, and renamed over the file
+ * there, which is locked until then. Threads go on meanwhile. The copy has all that was durable when the call began.
  * Returns OK, or
  *   DEVICE     the copy can't be written, and the path is unchanged. But if the cause is that the folder can't be synced, the new copy is at the
  *              path, and a power failure may bring back the file before it
@@ -492,7 +492,7 @@ ZELAMIKU_MUST_USE zelamiku_status zelamiku_thread_revert(zelamiku_thread thread)
  * Returns OK; UNKNOWN_OBJECT, NOT_HELD, BEHIND, SECTION_FULL, NO_FAT, WORN, DEVICE: the monitor is held as before. Ended: it isn't held. */
 ZELAMIKU_MUST_USE zelamiku_status zelamiku_thread_wait(zelamiku_thread thread, uint32_t object);
 
-/* Notifies one thread that waits on the monitor, which the caller must hold, or with `all` every such thread. They go on once the monitor is free,
+/* Notifies one thread that waits on the monitor; with `all`, every one. The caller must hold the monitor. They go on once it is free,
  * in any order. `lanes` gets the bit 1 << lane for each, or 0 if none waits; it may be NULL. If several wait and one is notified, any of them may be
  * chosen, and one may be passed over for ever. Returns OK; UNKNOWN_OBJECT, NOT_HELD, Ended: nobody is notified. */
 ZELAMIKU_MUST_USE zelamiku_status zelamiku_thread_notify(zelamiku_thread thread, uint32_t object, bool all, uint64_t *lanes);
@@ -508,7 +508,7 @@ typedef struct {
  * a free monitor. */
 ZELAMIKU_MUST_USE zelamiku_status zelamiku_thread_look(zelamiku_thread thread, uint32_t object, zelamiku_sight *sight);
 
-/* How far a thread is. */
+/* A thread's progress. */
 typedef struct {
     uint32_t size;     /* sizeof(zelamiku_progress) */
     uint32_t lane;
@@ -547,7 +547,7 @@ ZELAMIKU_MUST_USE static inline zelamiku_status zelamiku_thread_await(zelamiku_t
  * the pool's fields. The image doesn't record where a heap has a pool: the program knows. */
 
 /* Fills in the fields of a pool of `count - 1` slots, all free: `fields` gets the head and then the slots, one after another, for the plan.
- * Returns OK. BAD_ARGUMENT: there are fewer than 2. TOO_MANY: there are more than ZELAMIKU_MOST_SLOTS + 1. After either error `fields` is unchanged
+ * Returns OK. BAD_ARGUMENT: `count` is below 2. TOO_MANY: it is above ZELAMIKU_MOST_SLOTS + 1. After either error `fields` is unchanged
  * and no failure is recorded. `fields` must not be NULL. */
 ZELAMIKU_MUST_USE zelamiku_status zelamiku_pool_fields(uint32_t object, zelamiku_field *fields, size_t count);
 
