@@ -43,8 +43,11 @@ class Kinds(unittest.TestCase):
         for make in (lambda: zelamiku.Field(-1), lambda: zelamiku.Signed(2**63), lambda: zelamiku.Ref(-1)):
             with self.assertRaisesRegex(ValueError, "first can't be"):
                 make()
-        with self.assertRaises(ValueError):
+        with self.assertRaisesRegex(ValueError, "1 field or more, and not 0"):
             zelamiku.Array(zelamiku.Field(), 0)
+        for kind in (zelamiku.Pool(3), zelamiku.Array(zelamiku.Field(), 2), zelamiku.Field):
+            with self.assertRaisesRegex(TypeError, "an array is of a kind of field"):
+                zelamiku.Array(kind, 2)
         for slots in (0, -1, 16_384):
             with self.assertRaisesRegex(ValueError, "1 to 16,383 slots"):
                 zelamiku.Pool(slots)
@@ -70,6 +73,14 @@ class Classes(unittest.TestCase):
         self.assertIsInstance(Thing.count, zelamiku.Field)
         with self.assertRaisesRegex(TypeError, r"zelamiku\.open\(PATH, NAME=Thing\)"):
             Thing()
+
+    def test_one_field_has_one_name(self):
+        """Else both names would be of the field that was declared last."""
+        both, make = zelamiku.Field(), type(zelamiku.Object)
+        for members in ({"left": both, "right": both}, {"other": both}):
+            with self.assertRaisesRegex(TypeError, r"Wrong\.(right|other): it is declared as left before"):
+                make("Wrong", (zelamiku.Object,), members)
+        self.assertEqual(list(make("Again", (zelamiku.Object,), {"left": both})._members), ["left"])
 
     def test_names_of_its_own_are_refused(self):
         for name in ("wait", "notify", "notify_all", "_own", "__init__"):

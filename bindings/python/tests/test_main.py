@@ -100,6 +100,7 @@ class Words(OnFile):
     def test_migrate_makes_more_lanes(self):
         with self.assertRaisesRegex(zelamiku.OtherHeap, "it has 4 lanes, and 12 are asked for; ask for 3.*python -m zelamiku migrate"):
             self.open(**self.declared["OBJECTS"], lanes=12)
+        self.refused("lanes is 0", "migrate", "a.heap", "bank", "--lanes", "0")
         self.assertEqual(self.run_with("migrate", "a.heap", "bank", "--lanes", "12")[0], 0)
         with self.open(**self.declared["OBJECTS"], lanes=12) as heap:
             self.assertEqual(heap.report.lanes, 12)

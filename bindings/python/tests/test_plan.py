@@ -1,4 +1,5 @@
 """How what is declared is numbered and fingerprinted, without the library."""
+import math
 import unittest
 
 import zelamiku
@@ -59,7 +60,7 @@ class Numbers(unittest.TestCase):
         for name in ("close", "objects", "synchronized", "_own", "__init__"):
             with self.assertRaisesRegex(ValueError, "a name of zelamiku.Heap's own"):
                 zelamiku.open("never.heap", **{name: Account})
-        wrong = {"lanes": (0, 33, -1), "capacity": (1_999, 2**40), "ring": (4_095, 65_537), "linger": (10**6, -1), "fingerprint": (0, 2**64)}
+        wrong = {"lanes": (0, 33, -1), "capacity": (1_999, 2**40), "ring": (4_095, 65_537), "linger": (10**6, -1, math.inf), "fingerprint": (0, 2**64)}
         for name, values in wrong.items():
             for value in values:
                 with self.subTest(name=name, value=value), self.assertRaisesRegex(zelamiku.BadPlan, name):

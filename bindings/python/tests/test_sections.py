@@ -3,6 +3,7 @@ import asyncio
 import concurrent.futures
 import contextlib
 import math
+import queue
 import random
 import signal
 import sys
@@ -518,6 +519,28 @@ class Sessions(OnFile):
                 for done in [pool.submit(pay, LONG) for _ in range(100)]:
                     done.result()
             self.assertEqual(self.values(heap), [200, 100])
+
+    def test_a_lane_that_is_freed_before_a_thread_sleeps_for_one_is_seen(self):
+        def begin_late(*words):
+            status = begin(*words)
+            if not freed.is_set():
+                refused.set()
+                freed.wait()
+            return status
+
+        begin, refused, freed = library().thread_begin, threading.Event(), threading.Event()
+        with self.open(lanes=1) as heap, mock.patch.object(heap._link, "_freed_lanes") as sleeps:
+            enter(heap.synchronized(heap.alice))
+            sleeps.get.side_effect = queue.Empty
+            self.assertIsInstance(in_thread(lambda: enter(heap.synchronized(heap.alice, timeout=0.2))), zelamiku.NoLaneFree)
+            for call in sleeps.get.mock_calls:
+                self.assertLessEqual(call.kwargs["timeout"], 0.2)
+            sleeps.reset_mock()
+            with mock.patch.object(library(), "thread_begin", begin_late), beside(lambda: enter(heap.synchronized(heap.alice, timeout=LONG))) as outcomes:
+                refused.wait()
+                heap.session.end()
+                freed.set()
+            self.assertEqual((outcomes, sleeps.get.mock_calls), ([None], []))
 
     def test_a_lane_is_not_given_up_in_a_section_and_its_sections_are_not_waited_for(self):
         with self.open(linger=3_600) as heap:

@@ -120,7 +120,7 @@ def migrate(path: str, objects: dict[str, Any], wanted: dict[str, Any], lanes: i
         if os.path.lexists(beside):
             os.remove(beside)
         # The values are the new heap's first ones, so it is made with all of them or not at all.
-        make(beside, new, lanes or heap.report.lanes, heap.report.capacity)
+        make(beside, new, heap.report.lanes if lanes is None else lanes, heap.report.capacity)
         os.link(path, kept)
         os.rename(beside, path)
         folder = os.open(os.path.dirname(path), os.O_RDONLY)

@@ -28,9 +28,6 @@ class Member:
     guard: str | None = None
     is_transient = False
 
-    def __set_name__(self, owner: type, name: str) -> None:
-        self.name = name
-
     def names(self, of: str) -> list[str]:
         """The names of its fields, for errors and the fingerprint; ``of`` is the object's."""
         raise NotImplementedError
@@ -182,10 +179,12 @@ class Ref(Value["int | None"]):
 class Array(Member, Generic[V]):
     """So many fields of one kind: ``Array(Signed(first=-1), 64)``. Its attribute is an :class:`Items`, with indexes as in a list.
 
-    ValueError: the count is below 1.
+    ValueError: the count is below 1. TypeError: the kind is none of one field.
     """
 
     def __init__(self, kind: Value[V], count: int) -> None:
+        if not isinstance(kind, Value):
+            raise TypeError(f"an array is of a kind of field, as Field(), and not of {kind!r}")
         if count < 1:
             raise ValueError(f"an array has 1 field or more, and not {count}")
         self.kind = kind
@@ -324,6 +323,9 @@ class ObjectType(type):
             if isinstance(value, Member):
                 if key in dir(Object):
                     raise TypeError(f"{name}.{key}: {key} is a name of zelamiku.Object's own: choose another")
+                if value.name not in ("", key):
+                    raise TypeError(f"{name}.{key}: it is declared as {value.name} before: declare each by a call of its own")
+                value.name = key
                 members[key] = value
         cls._members = members
         return cls

@@ -77,7 +77,7 @@ def open(
         capacity=0 if capacity is None else _within(text, "capacity", capacity, 2_000, 1_048_576),
         ring=_within(text, "ring", ring, 4_096, 65_536),
         # To the library 0 means 5,000.
-        linger=_within(text, "linger, in microseconds,", round(linger * 1e6), 0, 2**32 - 1) or 1,
+        linger=_within(text, "linger, in microseconds,", round(min(linger, 2**32) * 1e6), 0, 2**32 - 1) or 1,
         upgrades=upgrade,
         must_exist=not create,
         reverts=reverts,

@@ -27,15 +27,17 @@ class Link:
     def begin(self, place: Any, deadline: int) -> int:
         """Begins a thread's use of a lane. While none is free it sleeps, until the deadline at most."""
         status: int = self.calls.thread_begin(place, self.handle)
+        if status != NONE_LEFT or not deadline:
+            return status
         self._awaiting_lanes += 1
         try:
-            while status == NONE_LEFT and (left := deadline - time.monotonic_ns()) > 0:
+            # It asks again, because a lane may have been freed before this thread was counted.
+            while (status := self.calls.thread_begin(place, self.handle)) == NONE_LEFT and (left := deadline - time.monotonic_ns()) > 0:
                 try:
                     # After the heap has ended nobody may be left who frees a lane.
                     self._freed_lanes.get(timeout=min(left / 1e9, 1))
                 except queue.Empty:
                     pass
-                status = self.calls.thread_begin(place, self.handle)
         finally:
             self._awaiting_lanes -= 1
         return status
