@@ -9,9 +9,9 @@ Block devices, which end where the image does or later: each word prints what it
 the image; but for `run` and `set`, and `format` over what isn't zeros, which are refused, name the device, and leave every byte. On zeros
 `format` and `drive` make an image in place.
 
-Lost gates: an image in one place whose file reads a gate that its disk hasn't, as the system leaves one where a sync has failed: it is
-changed beneath an ext4 of blocks of 1,024 bytes. `recover`, `upgrade` and `drive` write it again, so that the image is whole once the file
-system was mounted again. They write no more than their gates, their fields and a control: a sparse file stays sparse.
+A lost gate: an image in one place whose file reads the header's gate that its disk hasn't, as the system leaves one where a sync has failed: it
+is changed beneath an ext4 of blocks of 1,024 bytes. `recover` and `upgrade` write it again, so that the image is whole once the file system was
+mounted again; a control without that write loses it. They write no more than their gates, their fields and a control: a sparse file stays sparse.
 
 Lost names: an image whose rename no sync has made durable, as a maker leaves it that was killed before it synced the folder. `recover`,
 `upgrade` and `drive` make the name durable: what they have told is at the path after a power cut, which leaves what the disk was given.
@@ -30,8 +30,8 @@ import tempfile
 import unittest
 from pathlib import Path
 
-from .harness import ALONE, CONTROL_SIZE, CONTROLS, InFolder, NO_MOUNTS, OVER, SCHEMA, WORDS, bytes_of, changed, clear, each, heap_of
-from .harness import made_old, mounted, needs_root, refusal, run, tries
+from .harness import ALONE, CONTROL_SIZE, CONTROLS, HEAPCTL, InFolder, NO_MOUNTS, OVER, SCHEMA, TOP, WORDS, bytes_of, changed, clear, each, heap_of
+from .harness import made_old, mounted, needs_cc, needs_root, refusal, run, tries
 
 OTHER = "object a\nfield x a a 7\n"
 # In bytes of address space, and in seconds: what a word may take that has to refuse a file.
@@ -218,16 +218,21 @@ class Passing(InFolder):
             self.fault(self.litter(), name=name)
 
 
-def loop_device(path):
-    """A block device that has the file's bytes; None where none can be had."""
+def losetup(*words):
+    """The block device that losetup finds; None where none can be had."""
     try:
-        ran = subprocess.run(["losetup", "--find", "--show", path], stdin=subprocess.DEVNULL, capture_output=True, text=True, check=False)
+        ran = subprocess.run(["losetup", "--find", *words], stdin=subprocess.DEVNULL, capture_output=True, text=True, check=False)
     except FileNotFoundError:
         return None
     return ran.stdout.strip() if ran.returncode == 0 else None
 
 
+needs_loops = unittest.skipUnless(losetup(), "no loop device, or no losetup")
+needs_ext4 = unittest.skipUnless(shutil.which("mkfs.ext4"), "no mkfs.ext4 (Debian: e2fsprogs)")
+
+
 @needs_root
+@needs_loops
 class Blocks(InFolder):
     def test_an_image_in_one_place(self):
         self.try_blocks("")
@@ -237,9 +242,7 @@ class Blocks(InFolder):
 
     def on_device(self, *texts):
         """What these words did on a block device of the image's bytes, as if on the image, and the bytes then."""
-        device = loop_device(self.image)
-        if device is None:
-            self.skipTest("no loop device")
+        device = losetup("--show", self.image)
         try:
             ran = [self.play(text.replace("{image}", device), OVER) for text in texts]
         finally:
@@ -284,24 +287,22 @@ class Blocks(InFolder):
                 self.fault(None if is_so else (ran, shown), text=text, room=room, byte=byte)
 
 
-FIBMAP, BLOCK, GATES = 1, 1024, (8, *CONTROLS)
+FIBMAP, BLOCK, GATE = 1, 1024, 8
 
 
+@needs_cc
 @needs_root
-@unittest.skipUnless(shutil.which("mkfs.ext4"), "no mkfs.ext4 (Debian: e2fsprogs)")
-@each({"recover": WORDS["recover"], "upgrade": WORDS["upgrade"], "drive": "drive --image {image} --rounds 3"})
+@needs_loops
+@needs_ext4
+@each({"recover": WORDS["recover"], "upgrade": WORDS["upgrade"]})
 class Stale(InFolder):
     def check(self, word, text):
-        if subprocess.run(["losetup", "--find"], capture_output=True, check=False).returncode != 0:
-            self.skipTest("no loop device")
-        if word == "drive":
-            self.play(text)
-        image = bytes_of(self.image) if word == "drive" else made_old(self.made()) if word == "upgrade" else self.made()
-        self.put(None)
-        disk, there = self.folder / "disk", self.folder / "there"
+        image = made_old(self.made()) if word == "upgrade" else self.made()
+        disk, there, unmended = self.folder / "disk", self.folder / "there", self.folder / "unmended"
+        subprocess.run(["cc", "-o", unmended, TOP / "tools/power_cuts/unmended.c"], check=True)
         there.mkdir()
         self.image = there / "image"
-        for gate in GATES * tries(1):
+        for is_control in (False, True) * tries(1):
             with open(disk, "wb") as file:
                 file.truncate(8 << 20)
             subprocess.run(["mkfs.ext4", "-q", "-F", "-b", f"{BLOCK}", disk], check=True)
@@ -309,19 +310,20 @@ class Stale(InFolder):
                 self.image.write_bytes(image)
                 os.sync()
                 bytes_of(self.image)
-                self.lose(disk, gate)
-                ran, told = self.play(text), heap_of(self.image)
+                self.lose(disk)
+                ran = run([HEAPCTL, *self.words(text)], program=unmended) if is_control else self.play(text)
+                told = heap_of(self.image)
             with mounted(there, "-o", "loop", disk):
                 found = heap_of(self.image)
-            self.count(disks_that_lost_gates=1)
-            is_so = ran.status == 0 and found is not None and found == told
-            self.fault(None if is_so else f"{ran}: the heap was {told}, and is {found} once it was mounted again", gate=gate)
+            self.count(disks_that_lost_a_gate=1)
+            is_so = ran.status == 0 and told is not None and found == (None if is_control else told)
+            self.fault(None if is_so else f"{ran}: the heap was {told}, and is {found} once it was mounted again", is_control=is_control)
 
-    def lose(self, disk, gate):
+    def lose(self, disk):
         """The gate, beneath the file system, so that its cache still has it."""
         with open(self.image, "rb") as file, open(disk, "r+b") as under:
-            (there,) = struct.unpack("i", fcntl.ioctl(file, FIBMAP, struct.pack("i", gate // BLOCK)))
-            under.seek(there * BLOCK + gate % BLOCK)
+            (there,) = struct.unpack("i", fcntl.ioctl(file, FIBMAP, struct.pack("i", GATE // BLOCK)))
+            under.seek(there * BLOCK + GATE % BLOCK)
             under.write(bytes(1))
 
 
@@ -341,12 +343,11 @@ class Sparse(InFolder):
 
 
 @needs_root
-@unittest.skipUnless(shutil.which("mkfs.ext4"), "no mkfs.ext4 (Debian: e2fsprogs)")
+@needs_loops
+@needs_ext4
 @each({"recover": WORDS["recover"], "upgrade": WORDS["upgrade"], "drive": "drive --image {image} --rounds 3", "set": WORDS["set"]})
 class Names(InFolder):
     def check(self, word, text):
-        if subprocess.run(["losetup", "--find"], capture_output=True, check=False).returncode != 0:
-            self.skipTest("no loop device")
         if word == "drive":
             self.play(text)
         image = bytes_of(self.image) if word == "drive" else made_old(self.made()) if word == "upgrade" else self.made()
