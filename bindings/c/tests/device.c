@@ -456,6 +456,7 @@ static void times(void) {
     enum { SLOW = 30000, LINGER = 300000 }; /* microseconds */
     zelamiku_plan plan = PLAN;
     zelamiku_stats first = {.size = sizeof first}, second = first;
+    uint64_t at_first = zelamiku_now();
     plan.linger = LINGER;
     empty();
     plant(NO_FAULT, 0);
@@ -470,7 +471,7 @@ static void times(void) {
     store(own, 2);
     OK(zelamiku_thread_await(own));
     OK(zelamiku_heap_stats(heap, &second));
-    MUST(first.longest_round >= SLOW * 1000 && second.longest_round >= first.longest_round);
+    MUST(first.longest_round >= SLOW * 1000 && second.longest_round >= first.longest_round && second.longest_round <= zelamiku_now() - at_first);
     MUST(first.calls_time >= SLOW * 1000 && second.calls_time > first.calls_time);
     MUST(second.records > first.records && second.two_sync_rounds == first.two_sync_rounds + 1 && second.syncs == first.syncs + 2);
     usleep(2 * LINGER); /* the helper has looked, and sleeps */

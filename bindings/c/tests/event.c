@@ -41,10 +41,14 @@ enum { LANES = 6, A_WHILE = 20, PATIENCE = 240000 }; /* milliseconds; what isn't
 static const zelamiku_field FIELDS[] = {{0, 0, 0, 0}, {1, 1, 0, 0}, {2, 2, 0, 0}, {3, 3, 0, 0}};
 static zelamiku_heap all;
 
-static void begin_heap(bool is_new) {
-    zelamiku_plan plan = {.size = sizeof(zelamiku_plan), .fields = FIELDS, .count = 4, .objects = 4, .lanes = LANES, .ring = 4096, .linger = 2000};
+static void begin_by(bool is_new, uint32_t linger) {
+    zelamiku_plan plan = {.size = sizeof(zelamiku_plan), .fields = FIELDS, .count = 4, .objects = 4, .lanes = LANES, .ring = 4096, .linger = linger};
     if (is_new) MUST(unlink("event.heap") == 0 || errno == ENOENT);
     MUST(zelamiku_heap_open(&all, "event.heap", &plan, NULL) == ZELAMIKU_OK);
+}
+
+static void begin_heap(bool is_new) {
+    begin_by(is_new, 2000);
 }
 
 static heap *its_heap(void) {
@@ -146,23 +150,36 @@ static void asks(void) {
     MUST(zelamiku_thread_event(a, &same) == ZELAMIKU_NOTHING && same == -1);
 }
 
+/* An ask brings a round at once, also where none comes by itself. */
+static void asks_without_linger(void) {
+    int event;
+    begin_by(true, UINT32_MAX);
+    zelamiku_thread a = begin_loop(&event);
+    add(a, 0);
+    await_event(a, event);
+    MUST(progress(a).durable == 1 && zelamiku_thread_end(a) == ZELAMIKU_OK);
+    close_heap_well();
+}
+
 /* A section that depends on an open one is told once that has ended, and nobody asks again; meanwhile no round comes for it. */
 static void depends(void) {
     int event;
     begin_heap(true);
     zelamiku_thread a = begin_thread(), b = begin_loop(&event);
+    add(b, 2); /* durable before it asks: no news later */
+    UNTIL(progress(b).durable == 1);
     MUST(zelamiku_thread_enter(a, 0) == ZELAMIKU_OK && zelamiku_thread_enter(a, 1) == ZELAMIKU_OK);
     MUST(zelamiku_thread_store(a, 1, 7) == ZELAMIKU_OK && zelamiku_thread_exit(a, 1) == ZELAMIKU_OK);
     add(b, 1);
-    MUST(ask_well(b) == 0);
+    MUST(ask_well(b) == 1);
     uint64_t rounds = rounds_at_rest();
-    MUST(!is_readable(event, 5 * A_WHILE) && progress(b).durable == 0 && stats().awaiting == 1 && stats().rounds == rounds);
-    MUST(zelamiku_thread_exit(a, 0) == ZELAMIKU_OK && is_readable(event, PATIENCE) && ask_well(b) == 1 && stats().awaiting == 0);
+    MUST(!is_readable(event, 5 * A_WHILE) && progress(b).durable == 1 && stats().awaiting == 1 && stats().rounds == rounds);
+    MUST(zelamiku_thread_exit(a, 0) == ZELAMIKU_OK && is_readable(event, PATIENCE) && ask_well(b) == 2 && stats().awaiting == 0);
     /* Who gives its lane back waits no more. */
     MUST(zelamiku_thread_enter(a, 0) == ZELAMIKU_OK && zelamiku_thread_enter(a, 1) == ZELAMIKU_OK);
     MUST(zelamiku_thread_store(a, 1, 8) == ZELAMIKU_OK && zelamiku_thread_exit(a, 1) == ZELAMIKU_OK);
     add(b, 1);
-    MUST(ask_well(b) == 1 && stats().awaiting == 1 && zelamiku_thread_end(b) == ZELAMIKU_OK && stats().awaiting == 0 && is_closed(event));
+    MUST(ask_well(b) == 2 && stats().awaiting == 1 && zelamiku_thread_end(b) == ZELAMIKU_OK && stats().awaiting == 0 && is_closed(event));
     MUST(zelamiku_thread_exit(a, 0) == ZELAMIKU_OK && zelamiku_thread_end(a) == ZELAMIKU_OK);
     close_heap_well();
 }
@@ -182,14 +199,23 @@ static void room(void) {
     __atomic_store_n(&syncs_hang, 1, __ATOMIC_SEQ_CST);
     fill(a, 0);
     __atomic_store_n(&syncs_hang, 0, __ATOMIC_SEQ_CST);
-    for (zelamiku_status status = ZELAMIKU_BEHIND; status != ZELAMIKU_OK;) {
-        MUST(is_readable(one, PATIENCE));
-        (void)ask_well(a);
-        status = zelamiku_thread_enter_until(a, 0, 0);
-        MUST(status == ZELAMIKU_OK || status == ZELAMIKU_BEHIND);
-    }
-    MUST(zelamiku_thread_exit(a, 0) == ZELAMIKU_OK);
+    MUST(is_readable(one, PATIENCE));
+    (void)rounds_at_rest();
+    /* It may ask once before it tries again, and waits for the event after that. */
+    (void)ask_well(a);
+    MUST(is_readable(one, 0));
+    (void)ask_well(a);
+    MUST(!is_readable(one, 0) && zelamiku_thread_enter_until(a, 0, 0) == ZELAMIKU_OK && zelamiku_thread_exit(a, 0) == ZELAMIKU_OK);
     await_event(a, one);
+    /* Who gives its lane back waits for no room any more, and the next thread with the lane has no news of it. */
+    __atomic_store_n(&syncs_hang, 1, __ATOMIC_SEQ_CST);
+    fill(a, 0);
+    MUST(stats().awaiting == 1 && zelamiku_thread_end(a) == ZELAMIKU_OK && stats().awaiting == 0);
+    a = begin_loop(&one);
+    MUST(progress(a).lane == 0 && !is_readable(one, 0));
+    __atomic_store_n(&syncs_hang, 0, __ATOMIC_SEQ_CST);
+    (void)rounds_at_rest();
+    MUST(!is_readable(one, 0));
     /* Its room depends on an open section: it is told of a few rounds, and then of one that follows that section's end. */
     MUST(zelamiku_thread_enter(a, 0) == ZELAMIKU_OK && zelamiku_thread_enter(a, 1) == ZELAMIKU_OK);
     MUST(zelamiku_thread_store(a, 1, 7) == ZELAMIKU_OK && zelamiku_thread_exit(a, 1) == ZELAMIKU_OK);
@@ -258,7 +284,10 @@ static void forks(void) {
     begin_heap(true);
     zelamiku_thread b = begin_loop(&two);
     add(b, 0);
+    /* Another thread may be in a call when it forks: no call of the child waits for that one. */
+    lock(&its_heap()->mutex);
     pid_t child = fork();
+    if (child > 0) unlock(&its_heap()->mutex);
     if (child == 0) {
         uint64_t durable = 1;
         bool is_well = zelamiku_thread_ask(b, &durable) == ZELAMIKU_FORKED && durable == 0 && is_closed(one) && is_closed(two);
@@ -398,22 +427,29 @@ static void stops(void) {
 
 /* A round waits for as many sections of a loop as the last one has told; what it knows of threads that sleep is as without loops. */
 static void gathers(void) {
-    int event;
+    int event, second;
     begin_heap(true);
-    zelamiku_thread a = begin_loop(&event), b = begin_thread();
+    zelamiku_thread a = begin_loop(&event), b = begin_thread(), c = begin_loop(&second);
     heap *of = its_heap();
     for (int i = 0; i < 50; i++) add(a, 0);
     MUST(sections_of_loops(of) <= 50);
     await_event(a, event);
+    add(a, 0);
+    await_event(a, event);
+    MUST(rounds_at_rest() > 0 && of->expected_sections == 1);
     add(b, 1);
     MUST(zelamiku_thread_await(b) == ZELAMIKU_OK && zelamiku_thread_end(b) == ZELAMIKU_OK);
     close_heap_well(); /* now its figures are nobody's */
     seat *own = seat_of(a);
-    MUST(own->begun == own->ended && own->ended == 50 && begin_for_loops(of) == 0 && sections_of_loops(of) == 0);
+    MUST(own->begun == own->ended && own->ended == 51 && begin_for_loops(of) == 0 && sections_of_loops(of) == 0);
     own->ended += 7;
-    MUST(sections_of_loops(of) == 7 && begin_for_loops(of) == 1 && sections_of_loops(of) == 0);
+    seat_of(b)->ended += 5; /* it has no event */
+    seat_of(c)->ended += 4;
+    MUST(sections_of_loops(of) == 11 && begin_for_loops(of) == 2 && sections_of_loops(of) == 0);
     own->ended -= 7;
-    MUST(of->expected <= 1 && zelamiku_thread_end(a) == ZELAMIKU_CLOSED);
+    seat_of(b)->ended -= 5;
+    seat_of(c)->ended -= 4;
+    MUST(of->expected <= 1 && zelamiku_thread_end(a) == ZELAMIKU_CLOSED && zelamiku_thread_end(c) == ZELAMIKU_CLOSED);
 }
 
 /* Every other loop waits by edge: each round's news is one, also where nobody has asked since the last. */
@@ -516,6 +552,7 @@ static void places(void) {
 int main(int argc, char **argv) {
     MUST(argc == 2 && chdir(argv[1]) == 0);
     asks();
+    asks_without_linger();
     depends();
     room();
     ends_and_begins();

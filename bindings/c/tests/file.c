@@ -127,6 +127,10 @@ static void be_slow(const char *path, int when) {
 }
 
 static int releasing_nanosleep(const struct timespec *time, struct timespec *left);
+static unsigned naps;               /* of the scheduler's threads */
+static long nap_length;             /* of the last one, in nanoseconds */
+static unsigned released_at;        /* at which nap `busy` is unlocked; 0: at none, and each nap lasts as it is asked */
+static int busy = -1;
 
 static mode_t mode_made; /* that of the last file which was made, before any umask */
 
@@ -143,8 +147,11 @@ static int flaky_open(const char *path, int flags, ...) {
     return file;
 }
 
+static void (*before_lock)(void); /* what another does before a file is locked */
+
 static int replacing_flock(int file, int how) {
     if (is_interrupted()) return -1;
+    if (before_lock != NULL && (how & LOCK_EX) != 0) before_lock();
     if (replaces && (how & LOCK_EX) != 0 && (rename("heap", "moved") != 0 || link("spare", "heap") != 0)) abort();
     return flock(file, how);
 }
@@ -310,6 +317,52 @@ static void others(void) {
     replaces = 0;
     MUST(rename("moved", "heap") == 0 && found() == 8);
     MUST(zelamiku_heap_open(&heap, "spare", &plan, NULL) == ZELAMIKU_OK && zelamiku_heap_close(heap) == ZELAMIKU_OK);
+}
+
+static unsigned removals; /* so many files beside are removed as soon as they are made */
+
+static void remove_beside(void) {
+    if (removals == 0) return;
+    removals--;
+    MUST(unlink(BESIDE_IT) == 0);
+}
+
+/* Another process has made a file of the path. */
+static void come_first(void) {
+    if (is_missing("heap")) make_file_of("heap", "another's", 9, 0600);
+}
+
+/* What others do to the path, and to the file beside it, while a heap is made. A making gives up after five files that were taken from it. */
+static void beside_others(void) {
+    zelamiku_heap heap;
+    remove_file();
+    before_lock = remove_beside;
+    removals = 10;
+    MUST(open_heap(&heap) == ZELAMIKU_BUSY && removals == 5 && is_missing("heap") && is_missing(BESIDE_IT));
+    removals = 4;
+    MUST(open_heap(&heap) == ZELAMIKU_OK && removals == 0 && zelamiku_heap_close(heap) == ZELAMIKU_OK);
+    remove_file();
+    before_lock = come_first;
+    MUST(open_heap(&heap) == ZELAMIKU_BUSY && strstr(zelamiku_heap_failure(NULL), "replaced or removed meanwhile") != NULL);
+    before_lock = NULL;
+    MUST(open_heap(&heap) == ZELAMIKU_NOT_FORMATTED && is_missing(BESIDE_IT));
+    remove_file();
+    MUST(mkdir(BESIDE_IT, 0700) == 0 && open_heap(&heap) == ZELAMIKU_DEVICE && last_failure().error == EISDIR && rmdir(BESIDE_IT) == 0);
+    MUST(strstr(zelamiku_heap_failure(NULL), "a file can't be made beside it") != NULL && is_missing("heap"));
+}
+
+/* A block device that udevd has locked is waited for, a second. */
+static void waits_for_a_volume(void) {
+    int file = open("spare", O_RDWR | O_CLOEXEC);
+    busy = open("spare", O_RDWR | O_CLOEXEC);
+    MUST(file >= 0 && busy >= 0 && flock(busy, LOCK_EX | LOCK_NB) == 0);
+    naps = 0;
+    released_at = 200;
+    MUST(lock_volume(file) == ZELAMIKU_BUSY && naps == 100 && nap_length == SECOND / 100);
+    naps = 0;
+    released_at = 5;
+    MUST(lock_volume(file) == ZELAMIKU_OK && naps == 5 && close(file) == 0 && close(busy) == 0);
+    released_at = 0;
 }
 
 /* Of a large file that has no image little is read at once, and of one that has, the image. */
@@ -668,7 +721,11 @@ static void *open_slowly(void *data) {
 
 /* Who forks waits: the open goes on, and its file is listed. */
 static int releasing_nanosleep(const struct timespec *time, struct timespec *left) {
-    if (slowness != RETURNS_LATE) return nanosleep(time, left);
+    naps++;
+    nap_length = time->tv_nsec;
+    if (naps == released_at) MUST(flock(busy, LOCK_UN) == 0);
+    if (released_at > 0) return 0;
+    if (slowness != RETURNS_LATE || naps < 10) return nanosleep(time, left);
     may_return = true;
     while (opens_underway > 0) (void)usleep(1000);
     return 0;
@@ -684,9 +741,14 @@ static bool child_has(const char *path) {
     if (child == 0) {
         for (int file = 0; file < 100; file++)
             if (fstat(file, &its) == 0 && its.st_ino == named.st_ino && its.st_dev == named.st_dev) _exit(1);
-        _exit(0);
+        /* Its own children wait for no open of its parent's. */
+        naps = 0;
+        slowness = AT_ONCE;
+        pid_t next = fork();
+        if (next == 0) _exit(0);
+        _exit(next > 0 && waitpid(next, &status, 0) == next && naps == 0 ? 0 : 2);
     }
-    MUST(waitpid(child, &status, 0) == child && WIFEXITED(status));
+    MUST(waitpid(child, &status, 0) == child && WIFEXITED(status) && WEXITSTATUS(status) < 2);
     return WEXITSTATUS(status) != 0;
 }
 
@@ -698,6 +760,7 @@ static void slow_opens(void) {
         pthread_t opener;
         is_slow = may_return = false;
         slowness = when;
+        naps = 0;
         MUST(pthread_create(&opener, NULL, open_slowly, NULL) == 0);
         UNTIL(is_slow);
         if (when == OPENS_LATE) life();
@@ -727,6 +790,11 @@ static void links(void) {
     }
     MUST(symlink("../circle", "real/circle") == 0 && symlink("real/circle", "circle") == 0);
     MUST(zelamiku_heap_open(&heap, "circle", &plan, NULL) == ZELAMIKU_DEVICE && last_failure().error == ELOOP);
+    /* Where a path leads is found whatever was in the memory for it before. */
+    static char real_one[2 * PATH_MAX];
+    memset(real_one, '/', sizeof real_one - 1);
+    MUST(find_real_path("real/new one", real_one) && strlen(real_one) < PATH_MAX && strcmp(real_one + strlen(real_one) - 13, "/real/new one") == 0);
+    MUST(real_one[strlen(real_one) - 14] != '/' && !find_real_path("spare/below", real_one) && errno == ENOTDIR);
 }
 
 /* ---- copies ---- */
@@ -801,6 +869,30 @@ static void copies(void) {
     MUST(zelamiku_heap_close(heap) == ZELAMIKU_OK && chmod("heap", 0600) == 0);
 }
 
+/* Each write, sync and rename of a copy fails in turn, and the path has what was there before; where the folder's sync fails, the new copy. The
+ * copy's bytes are synced before it is renamed. */
+static void failing_copies(void) {
+    zelamiku_heap heap;
+    for (int call = 1;; call++) {
+        life();
+        MUST(open_heap(&heap) == ZELAMIKU_OK && zelamiku_heap_copy(heap, "copy") == ZELAMIKU_OK && add(heap, 1) == 9);
+        step_count = 0;
+        records = 1;
+        fails_in = call;
+        zelamiku_status status = zelamiku_heap_copy(heap, "copy");
+        int left = fails_in, last = step_count - 1;
+        records = fails_in = 0;
+        bool is_new = status == ZELAMIKU_OK || strstr(zelamiku_heap_failure(NULL), "copy: copy: the new copy is at the path, but its folder") != NULL;
+        MUST(status == ZELAMIKU_OK || (status == ZELAMIKU_DEVICE && last_failure().error == ENOSPC));
+        MUST(is_missing("copy.heapctl-new") && zelamiku_heap_close(heap) == ZELAMIKU_OK && value_at("copy") == (is_new ? 9 : 8));
+        if (status == ZELAMIKU_OK) MUST(steps[last].kind == FOLDER_SYNCED && steps[last - 1].kind == RENAMED && steps[last - 2].kind == SYNCED);
+        while (step_count > 0) free(steps[--step_count].bytes);
+        MUST(unlink("copy") == 0);
+        if (left > 0) break;
+        MUST(status == ZELAMIKU_DEVICE);
+    }
+}
+
 /* ---- a file that goes ---- */
 
 static _Atomic unsigned warnings;
@@ -827,6 +919,8 @@ static void astray(void) {
     remove_file();
     MUST(zelamiku_heap_open(&heap, "heap", &told, NULL) == ZELAMIKU_OK && chdir("real") == 0);
     MUST(astray_after(heap) == 0 && warnings == 0);
+    uint64_t looked = heaps[heap.number >> 8 & 255].path_checked;
+    MUST(add(heap, 0) > 0 && (heaps[heap.number >> 8 & 255].path_checked == looked || zelamiku_now() - looked >= SECOND)); /* once a second */
     MUST(rename("../heap", "../moved") == 0 && astray_after(heap) == 1 && astray_after(heap) == 1 && warnings == 1);
     MUST(rename("../moved", "../heap") == 0 && astray_after(heap) == 0 && warnings == 1);
     make_file_of("../other", "", 0, 0600);
@@ -864,6 +958,19 @@ static void closed_by_the_program(int at, const char *reused_for) {
     if (reused_for != NULL && strcmp(reused_for, "notes") == 0) MUST(info.st_size == 0 && unlink("notes") == 0);
     uint64_t value = found();
     MUST(value == 8 || (at > 0 && value == 100));
+}
+
+/* The same before a close that has nothing to wait for: it writes nothing to the other file. */
+static void closed_before_the_close(void) {
+    zelamiku_heap heap;
+    struct stat info;
+    life();
+    MUST(open_heap(&heap) == ZELAMIKU_OK && add(heap, 1) == 9);
+    int file = heaps[heap.number >> 8 & (ZELAMIKU_MOST_HEAPS - 1)].file;
+    stolen_for = "notes";
+    steal(file);
+    MUST(zelamiku_heap_close(heap) == ZELAMIKU_OK && fstat(file, &info) == 0 && info.st_size == 0 && close(file) == 0 && unlink("notes") == 0);
+    MUST(found() == 9);
 }
 
 /* ---- block devices ---- */
@@ -924,6 +1031,8 @@ int main(int argc, char **argv) {
     life();
     old();
     others();
+    beside_others();
+    waits_for_a_volume();
     sizes();
     rings();
     lanes();
@@ -931,6 +1040,7 @@ int main(int argc, char **argv) {
     int makings = failing_makings(), crashes = cut_off_makings(), old_crashes = old_makings(), killed = killed_makings(makings);
     MUST(makings > 5 && killed >= 2);
     copies();
+    failing_copies();
     at_once();
     slow_opens();
     links();
@@ -941,6 +1051,7 @@ int main(int argc, char **argv) {
     closed_by_the_program(0, "heap");
     closed_by_the_program(2, "notes");
     closed_by_the_program(2, "heap");
+    closed_before_the_close();
     moves_one_byte = 1;
     remove_file();
     life();

@@ -7,6 +7,7 @@
 #include <errno.h>
 #include <fcntl.h>
 #include <libgen.h>
+#include <malloc.h>
 #include <pthread.h>
 #include <stdarg.h>
 #include <stdatomic.h>
@@ -113,8 +114,9 @@ static int refused_fchown(int file, uid_t user, gid_t group) {
 static int refused_eventfd(unsigned count, int how) {
     return refuses(EMFILE) ? -1 : eventfd(count, how);
 }
+static bool no_threads; /* each is refused */
 static int refused_thread(pthread_t *thread, const pthread_attr_t *how, void *(*body)(void *), void *data) {
-    return refuses(EAGAIN) ? EAGAIN : pthread_create(thread, how, body, data);
+    return no_threads || refuses(EAGAIN) ? EAGAIN : pthread_create(thread, how, body, data);
 }
 /* These calls were made, and return that they weren't: of syscall those that ask for slices. */
 static int refused_prctl(int answer) {
@@ -176,7 +178,7 @@ static zelamiku_status told; /* what the first call of this life that failed ret
 
 /* Whether the status and its cause are those of the call that was refused. */
 static bool is_of_refusal(zelamiku_status status) {
-    if (status == ZELAMIKU_NO_MEMORY && with == ENOMEM) return true;
+    if (status == ZELAMIKU_NO_MEMORY && with == ENOMEM) return last_failure().error == 0 || last_failure().error == ENOMEM;
     return (status == ZELAMIKU_NO_MEMORY || status == ZELAMIKU_DEVICE || status == ZELAMIKU_LOST) && last_failure().error == with;
 }
 
@@ -204,11 +206,11 @@ static void begin_life(beginning how) {
 /* One section more, and whether it is durable. */
 static void add_one(zelamiku_heap heap, zelamiku_thread own) {
     uint64_t durable = 0;
-    int event;
+    int event = -1;
     MUST(zelamiku_thread_enter(own, 0) == ZELAMIKU_OK && zelamiku_thread_store(own, 0, tried + 1) == ZELAMIKU_OK);
     MUST(zelamiku_thread_exit(own, 0) == ZELAMIKU_OK);
     tried++;
-    (void)passes(zelamiku_thread_event(own, &event));
+    MUST(passes(zelamiku_thread_event(own, &event)) ? event > STDERR_FILENO : event == -1);
     if (passes(zelamiku_thread_ask(own, &durable)) && durable > 0) kept = tried;
     bool is_kept = passes(zelamiku_thread_await(own));
     bool is_again = !is_kept && told == ZELAMIKU_DEVICE; /* the write is made again */
@@ -281,12 +283,31 @@ static void fork_now(void) {
         struct stat info;
         for (int file = 3; file < 100; file++)
             if (fstat(file, &info) == 0 && S_ISREG(info.st_mode)) _exit(1);
-        _exit(0);
+        /* What the child opens, by the numbers that they had, its own child keeps. */
+        int files[8];
+        for (int i = 0; i < 8; i++) files[i] = open("/dev/null", O_RDONLY);
+        pid_t next = fork();
+        for (int i = 0; i < 8 && next == 0; i++)
+            if (fstat(files[i], &info) != 0) _exit(2);
+        _exit(next == 0 || (next > 0 && waitpid(next, &status, 0) == next && status == 0) ? 0 : 3);
     }
     MUST(child > 0 && waitpid(child, &status, 0) == child && status == 0);
 }
 
 /* ---- more than usual ---- */
+
+/* A heap whose thread can't be started is closed again, and keeps no memory. */
+static void no_helper(void) {
+    zelamiku_heap heap;
+    size_t before = 0;
+    no_threads = true;
+    for (int i = 0; i < 20; i++) {
+        MUST(zelamiku_heap_open(&heap, "heap", &PLAN, NULL) == ZELAMIKU_NO_MEMORY && last_failure().error == EAGAIN && heap.number == 0);
+        if (i == 1) before = mallinfo2().uordblks;
+    }
+    MUST(mallinfo2().uordblks < before + 20000);
+    no_threads = false;
+}
 
 /* So many sections depend on one that never ends that recovery has to be asked twice for all that it dropped. */
 static void many_dropped(void) {
@@ -381,6 +402,7 @@ int main(int argc, char **argv) {
         all += one - 1;
     }
     MUST(all > 100);
+    no_helper();
     many_dropped();
     copies();
     paths();

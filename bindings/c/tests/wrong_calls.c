@@ -87,12 +87,13 @@ static void bad_paths(void) {
     char longest[5000];
     memset(longest, 'x', sizeof longest - 1);
     longest[sizeof longest - 1] = 0;
-    IS(zelamiku_heap_open(&heap, "", &plan, NULL), DEVICE, "No such file");
+    IS(zelamiku_heap_open(&heap, "", &plan, NULL), DEVICE, "open: it can't be opened: No such file");
     IS(zelamiku_heap_open(&heap, "no such folder/heap", &plan, NULL), DEVICE, "no such folder/heap: open: it can't be opened: No such file");
     IS(zelamiku_heap_open(&heap, ".", &plan, NULL), DEVICE, "Is a directory");
     IS(zelamiku_heap_open(&heap, "/dev/null", &plan, NULL), DEVICE, "it is neither a regular file nor a block device");
     IS(zelamiku_heap_open(&heap, "/dev/full", &plan, NULL), DEVICE, "it is neither a regular file nor a block device");
     IS(zelamiku_heap_open(&heap, longest, &plan, NULL), DEVICE, "File name too long");
+    MUST(strlen(last_failure().path) == 500 && strspn(last_failure().path, "x") == 500); /* its end */
     MUST(mkfifo("fifo", 0600) == 0 && symlink("circle", "circle") == 0 && symlink("nowhere/at all", "dangling") == 0);
     IS(zelamiku_heap_open(&heap, "fifo", &plan, NULL), DEVICE, "it is neither a regular file nor a block device");
     IS(zelamiku_heap_open(&heap, "circle", &plan, NULL), DEVICE, "Too many levels");
@@ -251,7 +252,7 @@ static void fingerprints(void) {
     MUST(most != NULL);
     more.fields = most, more.count = 16384, more.fingerprint = 1;
     IS(zelamiku_heap_open(&heap, "most", &more, NULL), BAD_ARGUMENT, "count of fields is 16384 in the plan; it may be 1 to 16383");
-    more.count = 16383;
+    more.count = 16383, more.objects = ZELAMIKU_MOST_OBJECTS;
     for (unsigned i = 0; i < 2; i++) IS(zelamiku_heap_open(&heap, "most", &more, NULL), OK, ""), IS(zelamiku_heap_close(heap), OK, "");
     free(most);
 }
@@ -340,7 +341,7 @@ static void by_no_heap(zelamiku_heap heap, zelamiku_status status, const char *t
     ANSWERS(zelamiku_heap_close(heap));
     ANSWERS(zelamiku_heap_stop(heap, ZELAMIKU_CLOSED));
     ANSWERS(zelamiku_heap_stop(heap, ZELAMIKU_ABANDONED));
-    MUST(thread.number == 0);
+    MUST(thread.number == 0 && told == 0 && (status != ZELAMIKU_NOTHING || rounds == 0));
 }
 
 static void handles(void) {
@@ -388,13 +389,23 @@ static void handles(void) {
 
 /* ---- a thread's calls ---- */
 
+static unsigned lines; /* that the heap has logged */
+
+static void count_line(void *of, uint32_t level, const char *text) {
+    (void)of, (void)level, (void)text;
+    lines++;
+}
+
 static void sections(void) {
     zelamiku_heap heap;
     zelamiku_thread own, other;
     uint64_t value = 5, lanes = 5;
     uint32_t slot = 0;
     bool is = true;
-    MUST(zelamiku_heap_open(&heap, "sections", &plan, NULL) == ZELAMIKU_OK);
+    zelamiku_plan logged = plan;
+    logged.log = count_line;
+    MUST(zelamiku_heap_open(&heap, "sections", &logged, NULL) == ZELAMIKU_OK);
+    unsigned before = lines;
     MUST(zelamiku_thread_begin(&own, heap) == ZELAMIKU_OK && zelamiku_thread_begin(&other, heap) == ZELAMIKU_OK);
     IS(zelamiku_thread_load(own, 0, NULL), BAD_ARGUMENT, "NULL");
     IS(zelamiku_thread_progress(own, NULL), BAD_ARGUMENT, "NULL");
@@ -426,6 +437,7 @@ static void sections(void) {
     IS(zelamiku_thread_end(own), RUNNING, "sections: end: the thread holds a monitor; exit it before");
     IS(zelamiku_heap_close(heap), RUNNING, "sections: close: a section is open or a thread waits");
     IS(zelamiku_thread_enter_until(other, 2, 0), HELD, "");
+    MUST(last_failure().status == ZELAMIKU_RUNNING); /* it is an answer, and no failure */
     IS(zelamiku_thread_enter_until(other, 2, zelamiku_now() + 1000000), HELD, "");
     IS(zelamiku_thread_exit(own, 2), OK, "");
     IS(zelamiku_thread_enter_until(other, 2, 1), OK, "");
@@ -433,6 +445,7 @@ static void sections(void) {
     IS(zelamiku_thread_await_until(own, ZELAMIKU_ALL_SECTIONS, 0, &is), OK, "");
     zelamiku_sight sight;
     IS(zelamiku_thread_look(own, OBJECTS, &sight), UNKNOWN_OBJECT, "look at object 20");
+    MUST(lines == before); /* no wrong call is logged */
     IS(zelamiku_heap_close(heap), OK, "");
 }
 
@@ -518,7 +531,7 @@ static void abandoned(void) {
     by_nobody(dead, ZELAMIKU_ABANDONED, "the heap was abandoned");
     by_no_heap(heap, ZELAMIKU_ABANDONED, "abandoned");
     IS(zelamiku_heap_open(&heap, "abandoned", &plan, &report), OK, "");
-    MUST(report.dropped == 2 && zelamiku_thread_begin(&own, heap) == ZELAMIKU_OK);
+    MUST(report.dropped == 2 && report.undone > 0 && zelamiku_thread_begin(&own, heap) == ZELAMIKU_OK);
     MUST(dropped_section(heap, 0).why == ZELAMIKU_NOT_ENDED && dropped_section(heap, 1).why == ZELAMIKU_NOT_ENDED);
     MUST(dropped_section(heap, 2).why == ZELAMIKU_NOT_DROPPED && dropped_section(heap, 2).lane == ZELAMIKU_NOBODY);
     MUST(zelamiku_thread_enter(own, 0) == ZELAMIKU_OK && zelamiku_thread_load(own, 0, &value) == ZELAMIKU_OK && value == 0);
@@ -530,9 +543,10 @@ static void abandoned(void) {
 /* In a child: its own files stay open in a child of its own, also one that has the number which the parent's heap had. */
 static void fork_again(void) {
     int file = open("/dev/null", O_RDONLY), status = 1;
+    bool has_input = fcntl(STDIN_FILENO, F_GETFD) >= 0;
     pid_t child = fork();
     MUST(file >= 0 && child >= 0);
-    if (child == 0) _exit(fcntl(file, F_GETFD) >= 0 ? 0 : 1);
+    if (child == 0) _exit(fcntl(file, F_GETFD) >= 0 && (fcntl(STDIN_FILENO, F_GETFD) >= 0) == has_input ? 0 : 1);
     MUST(waitpid(child, &status, 0) == child && status == 0 && close(file) == 0);
 }
 
