@@ -498,6 +498,18 @@ static void room_between(void) {
     close_all();
 }
 
+/* A lane's records are counted, for when a round is due: each store to a persistent field, and each value that is put back. */
+static void records(void) {
+    open_anew();
+    zelamiku_thread own = begin_thread();
+    MUST(zelamiku_thread_enter(own, 0) == ZELAMIKU_OK);
+    uint32_t before = seat_of(own)->records;
+    for (uint32_t i = 0; i < 3; i++) MUST(zelamiku_thread_store(own, persistent(0, i / 2), i + 1000) == ZELAMIKU_OK);
+    MUST(seat_of(own)->records == before + 3 && zelamiku_thread_revert(own) == ZELAMIKU_OK && seat_of(own)->records == before + 5);
+    MUST(zelamiku_thread_exit(own, 0) == ZELAMIKU_OK && zelamiku_thread_end(own) == ZELAMIKU_OK);
+    close_all();
+}
+
 /* ---- refusals ---- */
 
 static void refusals(void) {
@@ -936,6 +948,7 @@ int main(int argc, char **argv) {
     full_sections();
     room_for_monitors();
     room_between();
+    records();
     refusals();
     other_devices();
     scarce_memory();

@@ -8,8 +8,11 @@
 #include <errno.h>
 #include <fcntl.h>
 #include <pthread.h>
+#include <dirent.h>
 #include <sched.h>
+#include <signal.h>
 #include <stdbool.h>
+#include <string.h>
 #include <sys/prctl.h>
 #include <sys/resource.h>
 #include <sys/syscall.h>
@@ -78,6 +81,13 @@ static zelamiku_status lasting_round(zelamiku_handle *heap, uint64_t most, uint6
     return status;
 }
 
+static void (*in_copy)(void); /* what others do while a copy takes the heap's bytes */
+
+static zelamiku_status lasting_copy(zelamiku_handle *heap, uint64_t at, uint8_t *bytes, size_t size, uint64_t *copied) {
+    if (in_copy != NULL) in_copy();
+    return zelamiku_copy(heap, at, bytes, size, copied);
+}
+
 static int failures_last;   /* once the library was told that a sync has failed, who leads goes on when this is 0 */
 static unsigned failures;
 
@@ -88,8 +98,10 @@ static zelamiku_status lasting_failure(zelamiku_handle *handle) {
     return status;
 }
 
-/* How often a thread that slept on a word has gone on. */
-static unsigned gone_on;
+/* How often a thread that slept on a word has gone on; and of those words that lie in this memory. */
+static unsigned gone_on, watched_gone_on;
+static const void *watched;
+static size_t watched_size;
 
 /* Threads that sleep: on which word, what they have seen there, and whether until a time. One that is here has looked for the last time before. */
 enum { MOST_SLEEPERS = 64 };
@@ -113,6 +125,7 @@ static unsigned note_sleeper(const uint32_t *word, uint32_t seen, bool has_due) 
 
 static void forget_sleeper(unsigned place) {
     pthread_mutex_lock(&sleepers_mutex);
+    watched_gone_on += (uintptr_t)sleepers[place].word - (uintptr_t)watched < watched_size;
     sleepers[place].word = NULL;
     pthread_mutex_unlock(&sleepers_mutex);
     __atomic_add_fetch(&gone_on, 1, __ATOMIC_SEQ_CST);
@@ -161,15 +174,22 @@ static uint64_t *runtime_in(void *of) {
     return (uint64_t *)of + 3;
 }
 
+/* An older system has a smaller struct, and leaves what is past it as it is. 1: children's are reset; 2 is something else. */
+static uint64_t *flags_in(void *of) {
+    return (uint64_t *)of + 1;
+}
+
 static long own_SYS_sched_getattr(int process, void *of, size_t size, unsigned flags) {
     MUST(process == 0 && flags == 0 && size == 48);
+    MUST(*runtime_in(of) == 0 && *flags_in(of) == 0);
     if (own_slice == 0) own_slice = inherited_slice;
+    *flags_in(of) = 3;
     *runtime_in(of) = own_slice != 0 ? own_slice : usual_slice;
     return 0;
 }
 
 static long own_SYS_sched_setattr(int process, void *of, unsigned flags) {
-    MUST(process == 0 && flags == 0 && *(uint32_t *)of == 48);
+    MUST(process == 0 && flags == 0 && *(uint32_t *)of == 48 && *flags_in(of) == 1);
     __atomic_add_fetch(&slices_asked, 1, __ATOMIC_SEQ_CST);
     own_slice = *runtime_in(of);
     inherited_slice = 0;
@@ -198,10 +218,12 @@ static int own_PR_SET_TIMERSLACK(unsigned long nanoseconds, unsigned long b, uns
 #define fdatasync flaky_fdatasync
 #define syscall(number, ...) own_##number(__VA_ARGS__)
 #define zelamiku_round lasting_round
+#define zelamiku_copy lasting_copy
 #define zelamiku_call_failed lasting_failure
 #include "../zelamiku_threads.c"
 #undef zelamiku_call_failed
 #undef zelamiku_round
+#undef zelamiku_copy
 #undef syscall
 #undef prctl
 
@@ -411,9 +433,39 @@ static void room_that_is_not_waited_for(void) {
     while ((status = zelamiku_thread_enter_until(own, TOTAL, zelamiku_now() + 20000000)) == ZELAMIKU_OK)
         MUST(zelamiku_thread_store(own, 0, 7) == ZELAMIKU_OK && zelamiku_thread_exit(own, TOTAL) == ZELAMIKU_OK);
     MUST(status == ZELAMIKU_BEHIND && zelamiku_thread_enter_until(own, TOTAL, 0) == ZELAMIKU_BEHIND);
+    MUST(stats().awaiting == 0 && seat_of(own)->is_behind == 0); /* nobody waits */
     __atomic_store_n(&syncs_hang, 0, __ATOMIC_SEQ_CST);
     UNTIL((status = zelamiku_thread_enter_until(own, TOTAL, 0)) != ZELAMIKU_BEHIND);
     MUST(status == ZELAMIKU_OK && zelamiku_thread_exit(own, TOTAL) == ZELAMIKU_OK && zelamiku_heap_close(all) == ZELAMIKU_OK);
+}
+
+/* A heap of which no round comes by itself. */
+static void begin_without_linger(uint32_t capacity, uint32_t ring) {
+    MUST(unlink("threads.heap") == 0 || errno == ENOENT);
+    MUST(begin_by(capacity, ring, UINT32_MAX).is_made == 1);
+}
+
+static heap *its_heap(void) {
+    return &heaps[all.number >> 8 & (ZELAMIKU_MOST_HEAPS - 1)];
+}
+
+/* Each try without room asks for a round, also once a section has ended on which the room depends. */
+static void each_try_asks_for_room(void) {
+    begin_without_linger(4000, 4096);
+    zelamiku_thread own = begin_thread(), other = begin_thread();
+    zelamiku_status status = ZELAMIKU_OK;
+    MUST(zelamiku_thread_enter(other, TOTAL) == ZELAMIKU_OK && zelamiku_thread_enter(other, LIST) == ZELAMIKU_OK);
+    MUST(zelamiku_thread_store(other, COUNT, 7) == ZELAMIKU_OK && zelamiku_thread_exit(other, LIST) == ZELAMIKU_OK);
+    for (unsigned in_vain = 0; in_vain < 3; in_vain = status == ZELAMIKU_OK ? 0 : in_vain + 1) {
+        status = zelamiku_thread_enter_until(own, LIST, 0);
+        if (status == ZELAMIKU_OK)
+            MUST(zelamiku_thread_store(own, COUNT, 8) == ZELAMIKU_OK && zelamiku_thread_exit(own, LIST) == ZELAMIKU_OK);
+        else
+            MUST(status == ZELAMIKU_BEHIND && usleep(20000) == 0);
+    }
+    MUST(zelamiku_thread_exit(other, TOTAL) == ZELAMIKU_OK);
+    UNTIL((status = zelamiku_thread_enter_until(own, LIST, 0)) != ZELAMIKU_BEHIND);
+    MUST(status == ZELAMIKU_OK && zelamiku_thread_exit(own, LIST) == ZELAMIKU_OK && zelamiku_heap_close(all) == ZELAMIKU_OK);
 }
 
 /* ---- rings, and bounds ---- */
@@ -571,6 +623,66 @@ static void bounds(void) {
     of->room = of->affordable = of->last_calls = 0;
 }
 
+/* A round for one thread that waits beside another lane with sections takes no more than both have sent at least. */
+static void first_bound(void) {
+    begin_without_linger(65536, 16384);
+    zelamiku_thread own = begin_thread(), other = begin_thread();
+    add(other, LIST, COUNT, 1);
+    add(own, TOTAL, 0, 1);
+    MUST(zelamiku_thread_await(own) == ZELAMIKU_OK && last_bound == 2 * FEWEST && zelamiku_heap_close(all) == ZELAMIKU_OK);
+}
+
+/* Parts of the scheduler over a heap that isn't there, of three lanes: which thread leaves a round to the helper, how a thread without room polls
+ * and a leader waits for it, and how a circle is told. */
+static void parts(void) {
+    heap *of = &heaps[0];
+    uint64_t now = zelamiku_now(), records = 0, time = 0;
+    const uint32_t owners[] = {ZELAMIKU_NOBODY, 2, 1};
+    unsigned demands = 0;
+    bool is_late = true;
+    char text[80];
+    of->lanes = 3;
+    MUST(after(2 * now) >= 3 * now && after(2 * now) < ZELAMIKU_NO_DEADLINE - 1 && after(UINT64_MAX) == ZELAMIKU_NO_DEADLINE - 1);
+    seats[1].ended = GROUP;
+    MUST(!is_one_of_groups(of, &seats[1]));
+    seats[2].ended = 1;
+    MUST(is_one_of_groups(of, &seats[1]) && !is_one_of_groups(of, &seats[2]));
+    seats[1].ended = seats[2].ended = 0;
+    /* While a round takes records a thread looks again, and many of them nap in between. */
+    of->steps = 1;
+    of->poll_until = UINT64_MAX;
+    of->processors = 2;
+    MUST(await_room(of, &seats[1], 1, &demands, ZELAMIKU_NO_DEADLINE, &is_late) == ZELAMIKU_OK && !is_late && of->awaiting == 0 && demands == 0);
+    of->awaiting = 1000;
+    now = zelamiku_now();
+    MUST(await_room(of, &seats[1], 1, &demands, ZELAMIKU_NO_DEADLINE, &is_late) == ZELAMIKU_OK && zelamiku_now() - now >= 1001 * NAP);
+    of->steps = of->poll_until = of->processors = 0;
+    of->awaiting = 0;
+    /* If calls take long a leader gives those without room time to wake. */
+    of->last_calls = (uint64_t)8 * MOST_PART;
+    of->is_led = true;
+    seats[2].is_behind = 1;
+    now = zelamiku_now();
+    MUST(take(of, 1000, &records, &time) == ZELAMIKU_NOTHING && zelamiku_now() - now >= MOST_PART / 4);
+    of->last_calls = of->steps = of->poll_until = 0;
+    of->is_led = false;
+    seats[2].is_behind = seats[2].bell = of->has_more = 0;
+    lock(&of->mutex);
+    seats[1].wanted = 1;
+    seats[2].wanted = 2;
+    memset(text, 'x', sizeof text);
+    spell_circle(of, owners, 1, text, 40);
+    MUST(text[39] == 0 && text[40] == 'x' && strstr(text, "lane 1 for object 0 of lane 2, lane 2 f") == text);
+    spell_circle(of, owners, 2, text, sizeof text);
+    MUST(strcmp(text, "lane 2 for object 1 of lane 1, lane 1 for object 0 of lane 2") == 0);
+    MUST(is_untold(of, 6) && !seats[0].is_logged && seats[1].is_logged && seats[2].is_logged && !is_untold(of, 6));
+    seats[2].is_logged = false;
+    MUST(is_untold(of, 6));
+    seats[1].wanted = seats[2].wanted = of->lanes = 0;
+    seats[1].is_logged = seats[2].is_logged = false;
+    unlock(&of->mutex);
+}
+
 /* ---- waits, and refusals ---- */
 
 static void *wait_once(void *data) {
@@ -608,6 +720,7 @@ static void refusals(void) {
     /* The waiter's: the second one that was lent. */
     MUST(notify_one(own, TOTAL, &woken) == ZELAMIKU_OK && progress(own).lane == 0 && woken == 1);
     MUST(notify_one(own, TOTAL, &woken) == ZELAMIKU_OK && woken == ZELAMIKU_NOBODY);
+    MUST(zelamiku_thread_notify(own, TOTAL, true, NULL) == ZELAMIKU_OK);
     MUST(zelamiku_thread_end(own) == ZELAMIKU_RUNNING && zelamiku_thread_exit(own, TOTAL) == ZELAMIKU_OK);
     MUST(pthread_join(waiter, NULL) == 0);
     for (unsigned i = 0; i < LANES - 1; i++) others[i] = begin_thread();
@@ -668,6 +781,7 @@ static void asks_for_others(void) {
 static void *hold_for_a_moment(void *data) {
     zelamiku_thread own = *(zelamiku_thread *)data;
     usleep(20000);
+    MUST(zelamiku_thread_exit(own, TOTAL) == ZELAMIKU_OK && zelamiku_heap_close(all) == ZELAMIKU_RUNNING); /* it has one lock more */
     MUST(zelamiku_thread_exit(own, TOTAL) == ZELAMIKU_OK);
     return NULL;
 }
@@ -677,11 +791,13 @@ static void enters_with_deadlines(void) {
     begin_anew();
     zelamiku_thread own = begin_thread(), other = begin_thread();
     pthread_t thread;
-    MUST(zelamiku_thread_enter(other, TOTAL) == ZELAMIKU_OK && zelamiku_thread_enter_until(own, TOTAL, 0) == ZELAMIKU_HELD);
+    MUST(zelamiku_thread_enter(other, TOTAL) == ZELAMIKU_OK && zelamiku_thread_enter(other, TOTAL) == ZELAMIKU_OK);
+    MUST(zelamiku_thread_enter_until(own, TOTAL, 0) == ZELAMIKU_HELD);
     MUST(zelamiku_thread_enter_until(own, TOTAL, zelamiku_now() + 5000000) == ZELAMIKU_HELD && stats().entering == 0);
     MUST(pthread_create(&thread, NULL, hold_for_a_moment, &other) == 0);
     MUST(zelamiku_thread_enter_until(own, TOTAL, zelamiku_now() + 600000000000) == ZELAMIKU_OK);
     MUST(pthread_join(thread, NULL) == 0 && zelamiku_thread_exit(own, TOTAL) == ZELAMIKU_OK);
+    MUST(its_heap()->waiting[TOTAL] == 0); /* nobody waits, so that an exit is quick */
     /* What was given up isn't busy. */
     MUST(zelamiku_heap_close(all) == ZELAMIKU_OK);
 }
@@ -695,6 +811,12 @@ static void tells_earlier_sections(void) {
     zelamiku_thread second = begin_thread();
     MUST(progress(first).earlier == 0 && progress(second).lane == 0 && progress(second).earlier == 3);
     add(second, TOTAL, 0, 1);
+    MUST(zelamiku_thread_await(second) == ZELAMIKU_OK && rounds_at_rest() > 0);
+    /* A round may take a section before its last exit has counted it. */
+    seat_of(second)->acknowledged++;
+    MUST(progress(second).sections == 2 && progress(second).durable == 2);
+    seat_of(second)->acknowledged--;
+    MUST(progress(second).sections == 1 && progress(second).durable == 1);
     MUST(zelamiku_thread_enter(second, TOTAL) == ZELAMIKU_OK && zelamiku_thread_store(second, 0, 9) == ZELAMIKU_OK);
     MUST(zelamiku_heap_stop(all, ZELAMIKU_ABANDONED) == ZELAMIKU_OK && progress(second).earlier == 3);
     MUST(zelamiku_thread_exit(second, TOTAL) == ZELAMIKU_ABANDONED);
@@ -805,8 +927,10 @@ static void cut_off(void) {
         add(own, TOTAL, 0, 6);
         MUST(zelamiku_thread_await(own) == ZELAMIKU_OK);
         MUST(zelamiku_thread_enter(own, TOTAL) == ZELAMIKU_OK && zelamiku_thread_store(own, 0, 7) == ZELAMIKU_OK);
+        MUST(progress(own).is_open == 1 && progress(other).is_open == 0);
         zelamiku_status why = end_by(how % 3, other);
-        if (how < 3) MUST(zelamiku_thread_exit(own, TOTAL) == why);
+        MUST(progress(own).is_open == 1 && progress(other).is_open == 0);
+        if (how < 3) MUST(zelamiku_thread_exit(own, TOTAL) == why && progress(own).is_open == 1);
         MUST(zelamiku_thread_await_until(own, ZELAMIKU_ALL_SECTIONS, ZELAMIKU_NO_DEADLINE, &is) == why && !is);
         MUST(zelamiku_thread_await(own) == why && strstr(zelamiku_heap_failure(NULL), "threads.heap: await: ") == zelamiku_heap_failure(NULL));
         MUST(last_failure().error == (why == ZELAMIKU_LOST ? EIO : 0));
@@ -911,6 +1035,7 @@ static void looks_make_no_rounds(void) {
     UNTIL(progress(own).durable >= 56);
     look_often(own, 5, 5000);
     MUST(zelamiku_heap_await_round(all, rounds_at_rest(), ZELAMIKU_NO_DEADLINE, &rounds) == ZELAMIKU_OK && progress(own).durable == 61);
+    MUST(its_heap()->expected <= 1); /* so many may come for the next one */
     /* They go with the round of a section that has stored, before or after them. */
     zelamiku_thread other = begin_thread();
     look_often(own, 5, 5000);
@@ -988,6 +1113,20 @@ static void waits_end_what_is_stored(void) {
     MUST(pthread_join(waiter, NULL) == 0 && zelamiku_heap_close(all) == ZELAMIKU_OK);
 }
 
+/* A wait that ends a section asks for no round. */
+static void waits_ask_for_no_round(void) {
+    pthread_t waiter;
+    uint32_t woken = 0;
+    begin_without_linger(65536, 4096);
+    zelamiku_thread own = begin_thread();
+    holder = begin_thread();
+    MUST(pthread_create(&waiter, NULL, wait_by_holder, NULL) == 0);
+    await_waiter(own);
+    usleep(20000);
+    MUST(stats().rounds == 0 && zelamiku_thread_enter(own, TOTAL) == ZELAMIKU_OK && notify_one(own, TOTAL, &woken) == ZELAMIKU_OK);
+    MUST(zelamiku_thread_exit(own, TOTAL) == ZELAMIKU_OK && pthread_join(waiter, NULL) == 0 && zelamiku_heap_close(all) == ZELAMIKU_OK);
+}
+
 /* Whether the thread ends within four minutes: one that doesn't hangs. */
 static bool ends(pthread_t thread, void **answer) {
     struct timespec due;
@@ -1044,6 +1183,20 @@ static void *await_what_depends(void *data) {
     return (void *)(uintptr_t)zelamiku_thread_await(own);
 }
 
+/* A section that depends on an open one is durable once that has ended, by a round that the thread which awaits it needn't ask for. */
+static void awaits_what_has_ended(void) {
+    pthread_t awaits;
+    void *answer = NULL;
+    begin_without_linger(4000, 4096);
+    holder = begin_thread();
+    MUST(zelamiku_thread_enter(holder, LIST) == ZELAMIKU_OK && zelamiku_thread_enter(holder, TOTAL) == ZELAMIKU_OK);
+    MUST(zelamiku_thread_store(holder, 0, 5) == ZELAMIKU_OK && zelamiku_thread_exit(holder, TOTAL) == ZELAMIKU_OK);
+    MUST(pthread_create(&awaits, NULL, await_what_depends, NULL) == 0);
+    UNTIL(stats().awaiting == 1 && count_sleepers(&its_heap()->round_bell, sizeof its_heap()->round_bell, true) == 1);
+    MUST(zelamiku_thread_exit(holder, LIST) == ZELAMIKU_OK && ends(awaits, &answer) && (uintptr_t)answer == ZELAMIKU_OK);
+    MUST(zelamiku_heap_close(all) == ZELAMIKU_OK);
+}
+
 /* A stop while threads hold, want, wait and await: each returns. What had ended is kept, what hadn't is dropped, with what depends on it. */
 static void stops(zelamiku_status why) {
     begin_anew();
@@ -1066,6 +1219,7 @@ static void stops(zelamiku_status why) {
     MUST(ends(waits, &answer[0]) && ends(wants, &answer[1]) && ends(awaits, &answer[2]));
     for (int i = 0; i < 3; i++) MUST((zelamiku_status)(uintptr_t)answer[i] == why);
     MUST(zelamiku_thread_exit(holder, TOTAL) == why && zelamiku_thread_end(holder) == why && zelamiku_thread_end(own) == why);
+    MUST(begin_wait(its_heap(), seat_of(own), TOTAL) == why); /* of a thread that was late to learn of the end */
     zelamiku_report report = begin_again(4000);
 #ifndef MOCKED
     zelamiku_dropped first = dropped_section(all, 0), second = dropped_section(all, 1);
@@ -1207,12 +1361,18 @@ static void lost_lanes(void) {
     __atomic_store_n(&syncs_fail, 0, __ATOMIC_SEQ_CST);
 }
 
-/* Opens heaps and closes them, more than there are places. */
+/* Opens heaps and stops them, with a thread in a section, more than there are places. Nothing of a place's heap before is there. */
 static void use_all_places(void) {
     zelamiku_plan plan = {.size = sizeof(zelamiku_plan), .fields = FIELDS, .count = 3, .objects = 2, .lanes = 1, .capacity = 2000, .ring = 4096};
     zelamiku_heap other;
-    for (int i = 0; i < ZELAMIKU_MOST_HEAPS + 10; i++)
-        MUST(zelamiku_heap_open(&other, "other.heap", &plan, NULL) == ZELAMIKU_OK && zelamiku_heap_close(other) == ZELAMIKU_OK);
+    zelamiku_thread own;
+    for (int i = 0; i < ZELAMIKU_MOST_HEAPS + 10; i++) {
+        uint64_t rounds = 1;
+        MUST(zelamiku_heap_open(&other, "other.heap", &plan, NULL) == ZELAMIKU_OK && stats_now(other).troubles == 0);
+        MUST(zelamiku_heap_await_round(other, 0, 1, &rounds) == ZELAMIKU_OK && rounds == 0);
+        MUST(zelamiku_thread_begin(&own, other) == ZELAMIKU_OK && zelamiku_thread_enter(own, TOTAL) == ZELAMIKU_OK);
+        MUST(zelamiku_heap_stop(other, ZELAMIKU_ABANDONED) == ZELAMIKU_OK && zelamiku_thread_end(own) == ZELAMIKU_ABANDONED);
+    }
     MUST(unlink("other.heap") == 0);
 }
 
@@ -1239,6 +1399,9 @@ static void calls_keep_their_place(void) {
     begin_anew();
     pthread_t thread = hold_back(await_a_round);
     MUST(zelamiku_heap_close(all) == ZELAMIKU_OK);
+    lock(&registry);
+    MUST(!is_vacated(its_heap()) && its_heap()->number == all.number);
+    unlock(&registry);
     use_all_places();
     MUST(let_go_on(thread) == ZELAMIKU_CLOSED);
     begin_anew();
@@ -1334,6 +1497,19 @@ static void circles(unsigned size) {
     for (unsigned i = 0; i < size; i++) MUST(zelamiku_thread_end(in_circle[i]) == ZELAMIKU_ABANDONED);
 }
 
+/* All lanes are used, and only the one that sleeps can tell who has the monitor. */
+static void told_by_a_sleeper(void) {
+    zelamiku_plan plan = {.size = sizeof(zelamiku_plan), .fields = FIELDS, .count = 3, .objects = 2, .lanes = 2};
+    zelamiku_wait waits[ZELAMIKU_MOST_LANES];
+    pthread_t wants;
+    MUST(unlink("threads.heap") == 0 && zelamiku_heap_open(&all, "threads.heap", &plan, NULL) == ZELAMIKU_OK);
+    zelamiku_thread own = begin_thread();
+    MUST(zelamiku_thread_enter(own, TOTAL) == ZELAMIKU_OK && pthread_create(&wants, NULL, want_monitor, NULL) == 0);
+    await_waits(1, waits);
+    MUST(waits[0].lane == 1 && waits[0].owner == 0 && waits[0].object == TOTAL && waits[0].in_circle == 0);
+    MUST(zelamiku_heap_stop(all, ZELAMIKU_ABANDONED) == ZELAMIKU_OK && ends(wants, NULL));
+}
+
 /* Threads that sleep for one that goes on are no circle. One that was notified wants the monitor again, and one that wasn't wants none. */
 static void waits_are_listed(void) {
     begin_anew();
@@ -1392,6 +1568,25 @@ static void waits_in_full_run(void) {
 static void *copy_again(void *data) {
     for (int i = 0; i < 20; i++) MUST(zelamiku_heap_copy(all, data == NULL ? "copy" : "other copy") == ZELAMIKU_OK);
     return NULL;
+}
+
+static zelamiku_thread asks_in_copy;
+
+static void ask_for_a_round(void) {
+    bool is = true;
+    in_copy = NULL;
+    add(asks_in_copy, TOTAL, 0, 1);
+    MUST(zelamiku_thread_await_until(asks_in_copy, ZELAMIKU_ALL_SECTIONS, 0, &is) == ZELAMIKU_OK && !is);
+}
+
+/* A round that a thread asks for while a copy is made comes after it. */
+static void copies_and_rounds(void) {
+    begin_without_linger(4000, 4096);
+    asks_in_copy = begin_thread();
+    in_copy = ask_for_a_round;
+    MUST(zelamiku_heap_copy(all, "copy") == ZELAMIKU_OK && in_copy == NULL && unlink("copy") == 0);
+    UNTIL(progress(asks_in_copy).durable == 1);
+    MUST(zelamiku_heap_close(all) == ZELAMIKU_OK);
 }
 
 /* A copy of a running heap has all that was durable before, and its parts fit together. */
@@ -1537,6 +1732,84 @@ static void turns(unsigned takes_between) {
     MUST(zelamiku_thread_end(own) == ZELAMIKU_OK && zelamiku_heap_close(all) == ZELAMIKU_OK);
 }
 
+static _Atomic bool keeps;
+static _Atomic unsigned have_taken;
+
+static void *take_and_keep(void *data) {
+    zelamiku_thread own = begin_thread();
+    MUST(zelamiku_thread_enter(own, TOTAL) == ZELAMIKU_OK);
+    have_taken++;
+    while (keeps) usleep(1000);
+    MUST(zelamiku_thread_exit(own, TOTAL) == ZELAMIKU_OK && zelamiku_thread_end(own) == ZELAMIKU_OK);
+    return data;
+}
+
+/* Who gives a monitor back wakes one thread, and who takes it none. */
+static void one_is_woken(void) {
+    pthread_t threads[2];
+    begin_anew();
+    zelamiku_thread own = begin_thread();
+    MUST(zelamiku_thread_enter(own, TOTAL) == ZELAMIKU_OK);
+    keeps = true;
+    for (int i = 0; i < 2; i++) MUST(pthread_create(&threads[i], NULL, take_and_keep, NULL) == 0);
+    await_sleepers(2);
+    pthread_mutex_lock(&sleepers_mutex);
+    watched = seats;
+    watched_size = sizeof seats;
+    watched_gone_on = 0;
+    pthread_mutex_unlock(&sleepers_mutex);
+    MUST(zelamiku_thread_exit(own, TOTAL) == ZELAMIKU_OK);
+    UNTIL(have_taken == 1);
+    usleep(20000);
+    pthread_mutex_lock(&sleepers_mutex);
+    MUST(watched_gone_on == 1);
+    watched_size = 0;
+    pthread_mutex_unlock(&sleepers_mutex);
+    keeps = false;
+    for (int i = 0; i < 2; i++) MUST(pthread_join(threads[i], NULL) == 0);
+    MUST(its_heap()->waiting[TOTAL] == 0 && zelamiku_heap_close(all) == ZELAMIKU_OK);
+}
+
+static _Atomic unsigned signals;
+
+static void count_signals(int number) {
+    (void)number;
+    signals++;
+}
+
+/* Whether a thread of this process has that name. */
+static bool has_thread(const char *name) {
+    bool has = false;
+    DIR *tasks = opendir("/proc/self/task");
+    MUST(tasks != NULL);
+    for (struct dirent *it; (it = readdir(tasks)) != NULL;) {
+        char path[300], found[20] = "";
+        (void)snprintf(path, sizeof path, "/proc/self/task/%s/comm", it->d_name);
+        FILE *file = fopen(path, "r");
+        if (file == NULL) continue;
+        has |= fgets(found, sizeof found, file) != NULL && strncmp(found, name, strlen(name)) == 0 && found[strlen(name)] == '\n';
+        MUST(fclose(file) == 0);
+    }
+    MUST(closedir(tasks) == 0);
+    return has;
+}
+
+/* The helper takes no signal of the program's, whose own mask stays as it was; and it has a name. */
+static void helper_of_its_own(void) {
+    sigset_t before, after, one;
+    begin_anew();
+    MUST(zelamiku_heap_close(all) == ZELAMIKU_OK && pthread_sigmask(SIG_SETMASK, NULL, &before) == 0);
+    begin_anew();
+    MUST(pthread_sigmask(SIG_SETMASK, NULL, &after) == 0);
+    for (int i = 1; i < 32; i++) MUST(sigismember(&before, i) == sigismember(&after, i));
+    MUST(signal(SIGUSR1, count_signals) != SIG_ERR && sigemptyset(&one) == 0 && sigaddset(&one, SIGUSR1) == 0);
+    MUST(pthread_sigmask(SIG_BLOCK, &one, NULL) == 0 && kill(getpid(), SIGUSR1) == 0);
+    usleep(20000);
+    MUST(signals == 0 && pthread_sigmask(SIG_SETMASK, &before, NULL) == 0);
+    UNTIL(signals == 1 && has_thread("zelamiku"));
+    MUST(signal(SIGUSR1, SIG_DFL) != SIG_ERR && zelamiku_heap_close(all) == ZELAMIKU_OK);
+}
+
 static double processor_time(void) {
     struct rusage usage;
     MUST(getrusage(RUSAGE_SELF, &usage) == 0);
@@ -1569,11 +1842,14 @@ int main(int argc, char **argv) {
     room_while_a_round_takes();
     room_after_a_round();
     room_that_is_not_waited_for();
+    each_try_asks_for_room();
     rings();
     asks_in_time();
     waits_for_bounded_rounds();
     bounded_rounds();
     bounds();
+    first_bound();
+    parts();
     refusals();
     asks_for_others();
     enters_with_deadlines();
@@ -1589,6 +1865,8 @@ int main(int argc, char **argv) {
     still_sections(1);
     looks_depend_on_stores();
     waits_end_what_is_stored();
+    waits_ask_for_no_round();
+    awaits_what_has_ended();
     ends_beside_failing_syncs();
     stops(ZELAMIKU_CLOSED);
     stops(ZELAMIKU_ABANDONED);
@@ -1600,13 +1878,17 @@ int main(int argc, char **argv) {
     places_with_fewer_lanes();
     circles(2);
     circles(3);
+    told_by_a_sleeper();
     waits_are_listed();
     waits_in_full_run();
+    copies_and_rounds();
     copies();
     stale_marks();
     slices();
     turns(0);
     for (int i = 0; i < 5; i++) turns(20);
+    one_is_woken();
+    helper_of_its_own();
     rest_for(argc > 2 ? (unsigned)strtoul(argv[2], NULL, 10) : 200);
     printf("threads: lives of %d threads, room, rings, bounds, refusals, deadlines, failing writes and syncs, looks, stops, calls underway,"
            " circles, copies, turns, rest\n",
