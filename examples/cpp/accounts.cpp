@@ -1,3 +1,4 @@
+// Moves 10 from one account to another, each time that it runs.
 #include <iostream>
 #include "zelamiku.hpp"
 
