@@ -76,7 +76,7 @@ static void fills_in(const zelamiku_plan *plan) {
     MUST(stats.is.lent == 1 && stats.is.size == sizeof(zelamiku_stats));
     MUST(zelamiku_thread_load(own, 0, &value) == ZELAMIKU_NOT_HELD);
     GUARD(zelamiku_failure, failure);
-    MUST(strcmp(zelamiku_heap_failure(&failure.is), "sizes: load field 0: the thread doesn't hold the monitor; enter the object, or the field's guard, before") == 0);
+    MUST(strcmp(zelamiku_heap_failure(&failure.is), "sizes: load field 0: the thread doesn't hold the monitor; enter the object, or the field's guard, first") == 0);
     IS_WHOLE(failure);
     LATER_IS_ZERO(failure);
     MUST(failure.is.status == ZELAMIKU_NOT_HELD && failure.is.error == 0 && failure.is.field == 0 && failure.is.object == ZELAMIKU_NO_NUMBER);

@@ -60,7 +60,7 @@ refusals! {
     38 Damaged "a field of the pool names no slot"
     39 Closed "the heap was closed or stopped"
     40 OldVersion "the heap has version 1, from before there were transient fields"
-    41 Forked "the heap is that of the process that has forked this one"
+    41 Forked "the heap belongs to the parent process"
     42 Abandoned "the heap was abandoned"
     43 OtherHeap "the file's heap isn't that of the plan"
     45 NoHeap "there is no heap"

@@ -116,7 +116,7 @@ fn an_error_says_what_was_called_and_the_cure() {
     says(session.enter(Object(7)).unwrap_err(), "enter object 7: there is no such object; objects are numbered from 0");
     says(
         session.synchronized(Object(0), |s| s.load(Field(1))).unwrap_err(),
-        "load field 1: the thread doesn't hold the monitor; enter the object, or the field's guard, before",
+        "load field 1: the thread doesn't hold the monitor; enter the object, or the field's guard, first",
     );
     let error = accounts().open(&scratch).unwrap_err();
     assert_eq!(error.kind(), ErrorKind::Busy);
