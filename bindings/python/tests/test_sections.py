@@ -421,11 +421,11 @@ class Waits(OnFile):
             self.assertIsInstance(outcomes[0], ValueError)
 
         heap = self.open(alice=Pair, bob=Pair)
-        # Under another monitor, which it holds: all is put back.
-        raises(heap, heap.bob, heap.alice, heap.bob, heap.alice)
-        with heap.synchronized(heap.alice):
-            self.assertEqual(heap.alice.left, 100)
         for stores_after in (True, False):
+            # Under another monitor, which it holds: all is put back.
+            raises(heap, heap.bob, heap.alice, heap.bob, heap.alice, stores_after=stores_after)
+            with heap.synchronized(heap.alice):
+                self.assertEqual(heap.alice.left, 100)
             raises(heap, heap.alice, heap.alice, heap.alice, stores_after=stores_after)
             with heap.synchronized(heap.alice):
                 self.assertEqual((heap.alice.left, heap.alice.right), (1, 100))

@@ -130,6 +130,20 @@ fn an_error_says_what_was_called_and_the_cure() {
     );
 }
 
+#[test]
+fn what_debug_prints_says_which_one_it_is() {
+    let scratch = Scratch::new("debug");
+    let options = Heap::options().lanes(1).objects(1).transient(Field(0), Object(0), 7);
+    let fields = "[Field { owner: 0, guard: 0, first: 7, is_transient: 1 }]";
+    assert_eq!(format!("{options:?}"), format!("Options {{ lanes: 1, objects: 1, fields: {fields}, .. }}"));
+    let heap = options.open(&scratch).unwrap();
+    assert_eq!(format!("{heap:?}"), format!("Heap {{ path: {:?}, lanes: 1, .. }}", scratch.as_ref()));
+    let mut session = heap.session().unwrap();
+    assert_eq!(format!("{:?}", session.enter(Object(0)).unwrap()), "Held { object: Object(0), .. }");
+    assert_eq!(format!("{session:?}"), "Session { lane: 0, sections: 1, .. }");
+    assert_eq!(format!("{:?}", session.durable_async()), "Durable { lane: 0, sections: 1, .. }");
+}
+
 // Where the two controls begin in an image, by their gates, and the last byte of their version behind each.
 const CONTROLS: [usize; 2] = [64, 1112];
 const VERSION_BYTE: usize = 19;
