@@ -52,7 +52,7 @@ def _record(files: dict[str, bytes], own: str) -> bytes:
 
 
 def build_wheel(wheel_directory: str, config_settings: object = None, metadata_directory: str | None = None) -> str:
-    """Writes the wheel, and answers its name."""
+    """Writes the wheel, and returns its name."""
     project = tomllib.loads(Path(__file__).with_name("pyproject.toml").read_text(encoding="utf-8"))["project"]
     library = _library()
     tag = f"py3-none-{_platform(library)}"

@@ -365,6 +365,14 @@ class Endings(OnFile):
             cause = dropped[zelamiku.Why.NOT_ENDED]
             self.assertEqual((dropped[zelamiku.Why.DEPENDED].depended, cause.depended), ((cause.lane, cause.section), None))
 
+    def test_what_only_a_newer_library_knows_fails_no_call(self):
+        heap = self.open()
+        with contextlib.suppress(zelamiku.Abandoned), heap.synchronized(heap.alice):
+            heap.abandon()
+        with mock.patch.object(library(), "heap_dropped", lambda heap, index, row: setattr(row._obj, "why", 9) or 0):
+            with self.open() as heap, mock.patch.object(library(), "heap_stats", lambda heap, row: setattr(row._obj, "last_cause", 99) or 0):
+                self.assertEqual((heap.report.dropped, heap.stats().last_cause), ((), zelamiku.Cause.NONE))
+
     def test_the_end_of_a_with_closes_it_and_hides_no_exception(self):
         with self.assertRaises(KeyError), self.open() as heap:
             raise KeyError("its own")

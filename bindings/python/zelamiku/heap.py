@@ -375,8 +375,8 @@ def _report(calls: Library, handle: int, row: ReportRow) -> Report:
 def _dropped(calls: Library, handle: int, count: int) -> Iterator[Dropped]:
     for index in range(count):
         row = DroppedRow()
-        # A heap that has ended by now reports no more.
-        if calls.heap_dropped(handle, index, byref(row)) != OK or not row.why:
+        # A heap that has ended by now reports no more. A newer library may have another reason.
+        if calls.heap_dropped(handle, index, byref(row)) != OK or row.why not in [each.value for each in Why]:
             return
         why = Why(row.why)
         yield Dropped(row.lane, row.section, why, (row.other_lane, row.other_section) if why is Why.DEPENDED else None)

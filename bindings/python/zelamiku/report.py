@@ -72,7 +72,7 @@ class Cause(enum.Enum):
     """Why a round came."""
 
     NONE = 0
-    """No round has come yet."""
+    """No round has come yet, or its cause is one that this package doesn't know."""
     AWAITED = 2
     """A thread waits until its sections are durable."""
     ROOM = 3
@@ -87,6 +87,11 @@ class Cause(enum.Enum):
     """The heap was being closed."""
     LEFT = 8
     """The last one has reached its bound and left records."""
+
+    @classmethod
+    def _missing_(cls, value: object) -> Cause:
+        # A newer library's.
+        return cls.NONE
 
 
 @dataclass(frozen=True)
