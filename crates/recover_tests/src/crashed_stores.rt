@@ -4,6 +4,7 @@ mod crashes;
 mod faults;
 mod larger;
 mod runs;
+mod stale_openings;
 mod upgrades;
 
 ghost use Rattle.std.specs.Prelude.{◌≤◌};
