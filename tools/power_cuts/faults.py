@@ -43,7 +43,9 @@ class FaultTrial(Trial):
         if self.work.tells:
             self.await_told()
         time.sleep(self.chance.uniform(0.05, 0.4))
-        self.fail_once()
+        if not self.fail_once() and self.run.leaves_out():
+            self.unmount()
+            return
         self.opened = self.disk.ask("count")
         promised, printed = self.open_again()
         self.recovered = self.disk.ask("count")
@@ -54,15 +56,18 @@ class FaultTrial(Trial):
         self.end = self.disk.ask("count")
         self.lines = []
         self.take_lines()
-        if self.guest.run("umount /mnt")[0] != 0:
-            self.cut()
-        self.disk.ask("delay", 0)
+        self.unmount()
         if not promised:
             self.note_refused("; ".join(printed))
         self.try_behind(promised)
 
+    def unmount(self):
+        if self.guest.run("umount /mnt")[0] != 0:
+            self.cut()
+        self.disk.ask("delay", 0)
+
     def fail_once(self):
-        """Some requests of one kind fail, under the work or under the opening after it."""
+        """Some requests of one kind fail, under the work or under the opening after it. Whether one has come."""
         kind = self.chance.choice(self.run.fails)
         is_later = kind == "read" or self.chance.random() < 0.25
         if is_later:
@@ -70,7 +75,9 @@ class FaultTrial(Trial):
             self.guest.run(f"end_programs; umount /mnt; {self.mount()}")
         self.disk.ask("fail", kind, *(self.chance.choice(it) for it in ((0, 0, 1, 2, 3, 5, 8, 13), (1, 1, 1, 2, 5, 999), self.modes(kind))))
         self.guest.run(self.again() if is_later else f"{WAIT}; end_programs")
-        self.counts["failures"] += self.disk.ask("fail", "none") > 0
+        has_failed = self.disk.ask("fail", "none") > 0
+        self.counts["failures"] += has_failed
+        return has_failed
 
     def modes(self, kind):
         return {"write": ("lost", "half"), "gate": ("lost",), "flush": ("kept", "lost"), "read": ("lost",)}[kind]
