@@ -648,6 +648,14 @@ static void parts(void) {
     seats[2].ended = 1;
     MUST(is_one_of_groups(of, &seats[1]) && !is_one_of_groups(of, &seats[2]));
     seats[1].ended = seats[2].ended = 0;
+    /* A thread without room asks for a round, but for one that takes records already. */
+    of->steps = 1;
+    MUST(sleep_for_step(of, &seats[1], 1, &demands, ZELAMIKU_NO_DEADLINE, &is_late) == ZELAMIKU_OK && demands == 0 && of->urgent == 0);
+    of->steps = 4;
+    MUST(sleep_for_step(of, &seats[1], 4, &demands, ZELAMIKU_NO_DEADLINE, &is_late) == ZELAMIKU_OK && demands == 1);
+    MUST(of->urgent == ZELAMIKU_ROUND_ROOM && of->awaiting == 0 && seats[1].is_behind == 0);
+    of->urgent = of->helper_bell = 0;
+    demands = 0;
     /* While a round takes records a thread looks again, and many of them nap in between. */
     of->steps = 1;
     of->poll_until = UINT64_MAX;
