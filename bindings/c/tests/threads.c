@@ -903,7 +903,7 @@ static void failing_syncs(void) {
     unsigned before = __atomic_load_n(&syncs, __ATOMIC_SEQ_CST);
     MUST(pthread_join(waiter, &answer) == 0 && (uintptr_t)answer == ZELAMIKU_LOST);
     MUST(zelamiku_thread_enter(own, TOTAL) == ZELAMIKU_LOST && last_failure().error == EIO);
-    MUST(strstr(zelamiku_heap_failure(NULL), "Input/output error; close the heap and open it again; if that fails with EIO, mount the file system") != NULL);
+    MUST(strstr(zelamiku_heap_failure(NULL), "Input/output error; close the heap and open it again: after ENOSPC make room first, after EIO mount the file system") != NULL);
     MUST(zelamiku_thread_begin(&other, all) == ZELAMIKU_LOST && last_failure().error == EIO);
     MUST(zelamiku_heap_close(all) == ZELAMIKU_LOST && last_failure().error == EIO);
     MUST(__atomic_load_n(&syncs, __ATOMIC_SEQ_CST) == before && logged[ZELAMIKU_LOG_ERROR] == 1);

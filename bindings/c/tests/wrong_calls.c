@@ -563,7 +563,7 @@ static void forks(void) {
         wrong = 0;
         by_nobody(own, ZELAMIKU_FORKED, "forks: ");
         by_nobody(busy, ZELAMIKU_FORKED, "forks: ");
-        by_no_heap(heap, ZELAMIKU_FORKED, "has forked this one");
+        by_no_heap(heap, ZELAMIKU_FORKED, "the heap belongs to the parent process");
         IS(zelamiku_thread_await(own), FORKED, "forks: await");
         IS(zelamiku_heap_open(&other, "forks", &plan, NULL), BUSY, "another process has the heap");
         IS(zelamiku_heap_open(&other, "child", &plan, NULL), OK, "");
