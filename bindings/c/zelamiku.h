@@ -16,8 +16,8 @@
  * Threads use the heap as they use mutexes and condition variables. The helper, a thread of the library, makes their sections durable, in rounds
  * of two syncs each. Link with -lzelamiku and -pthread. docs/EMBEDDING.md is the manual.
  *
- * Statuses. Every call with a handle returns a status, whatever its arguments are; the comment above it names each status that it can return. These
- * hold for all calls and aren't repeated:
+ * Statuses. Every call with a handle returns a status, whatever its arguments. The comment above a call names each status that it can return,
+ * except for these, which hold for all calls:
  *   BAD_ARGUMENT         a required pointer is NULL, or the size of a struct isn't set. Nothing was done
  *   NOTHING              the handle was never opened; or its heap has ended, and the library has reused its slot for another heap; or
  *                        zelamiku_thread_end has ended the handle
@@ -28,12 +28,12 @@
  *   ABANDONED            it was stopped with this reason (zelamiku_heap_stop)
  *   LOST                 a sync has failed, or the program has closed the heap's descriptor. What wasn't durable may be gone, though reading the
  *                        file still returns it. Close the heap and open it again; if that fails with EIO, mount the file system again first
- *   FAILED, WORN         the library has stopped: it had no memory, or a number has reached its limit. Close the heap, and open it again
+ *   FAILED, WORN         the heap has stopped: there was no memory, or a number has reached its limit. Close the heap, and open it again
  * If the heap ends during an enter or a wait, that call may still succeed, and its section may go on. Then the section's last exit returns the
  * reason.
  * DEVICE doesn't end the heap: a write has failed, for example on a full disk. Nothing is lost. The next call that waits for a round retries
- * the write, and the helper retries it each second. After a stop nobody retries it, so zelamiku_heap_stop returns LOST. A call that fails records the
- * reason for its thread, with path, cause and cure: zelamiku_heap_failure returns the record.
+ * the write, and the helper retries it each second. After a stop nobody would, so there a failed write is LOST. Each call that fails also records
+ * the path, the cause and the cure, for its thread: zelamiku_heap_failure returns them.
  *
  * Structs. Each struct with a `size` can grow, up to 4,096 bytes. The program sets `size` to sizeof the struct before the call. The library reads
  * and writes no byte beyond that size, so a program that was built with an older header works with a newer library. A member that the program
@@ -43,7 +43,7 @@
  * Rules. Use a thread's handle in one call at a time, except in calls whose comment says "any thread may". Make no call from a signal handler,
  * and cancel no thread inside a call. Handles are numbers: they may be copied, kept, and handed to other threads. If a process has several
  * copies of the library, a handle belongs to the one that made it. A thread that opens, closes or stops a heap needs 512 kB of stack, one that
- * copies it 64 kB, and any other one 32 kB.
+ * copies it 64 kB, any other 32 kB.
  *
  * This is unproved C over the proved library; docs/TESTED.md says how it is tested. */
 #ifndef ZELAMIKU_H
@@ -78,8 +78,8 @@ extern "C" {
 #define ZELAMIKU_MOST_RECORDS 1000   /* of a section: one for each monitor that is taken, each that is freed, and each store */
 #define ZELAMIKU_MOST_HELD 16        /* monitors, by one thread at once */
 #define ZELAMIKU_MOST_LOCKS 65536    /* of one monitor, by one thread at once */
-#define ZELAMIKU_MOST_THIN_LOCKS 256 /* of one monitor at once, unless it is one of the ZELAMIKU_MOST_FAT */
-#define ZELAMIKU_MOST_FAT 1024       /* objects, in one opening, that were waited on or had more locks than that at once */
+#define ZELAMIKU_MOST_THIN_LOCKS 256 /* of one monitor at once; one more makes it fat, and so does a wait on it */
+#define ZELAMIKU_MOST_FAT 1024       /* monitors that can become fat in one opening */
 #define ZELAMIKU_MOST_SLOTS 16383    /* of a pool */
 
 /* Defaults of a plan. */
@@ -104,7 +104,7 @@ typedef enum {
     ZELAMIKU_OK = 0,
     ZELAMIKU_NOTHING = 1,         /* the handle was never opened, or isn't open any more */
     ZELAMIKU_NO_MEMORY = 4,       /* there was no memory, no thread, or no descriptor */
-    ZELAMIKU_NONE_LEFT = 6,       /* all lanes are in use; or of an opening: 255 heaps are open */
+    ZELAMIKU_NONE_LEFT = 6,       /* all lanes are in use; or, from zelamiku_heap_open, 255 heaps are open */
     ZELAMIKU_RUNNING = 9,         /* a section is open, or a thread waits */
     ZELAMIKU_UNKNOWN_OBJECT = 10, /* there is no such object */
     ZELAMIKU_UNKNOWN_FIELD = 11,  /* there is no such field */
@@ -118,7 +118,7 @@ typedef enum {
     ZELAMIKU_HELD = 19,           /* another thread has the monitor, or had it when this one tried */
     ZELAMIKU_FAILED = 22,         /* the heap has stopped, in this call or an earlier one: there was no memory for the calls of the device */
     ZELAMIKU_BAD_ARGUMENT = 24,   /* a pointer is NULL, a struct has a wrong size, or a number is out of its limits */
-    ZELAMIKU_NOT_FORMATTED = 25,  /* the file or the device has other bytes than a heap's, and isn't free */
+    ZELAMIKU_NOT_FORMATTED = 25,  /* the file or the device holds something other than a heap, and isn't free */
     ZELAMIKU_TOO_SMALL = 27,      /* the device has fewer bytes than the heap takes */
     ZELAMIKU_DEVICE = 32,         /* a call of the file or the device has failed; the heap goes on */
     ZELAMIKU_LOST = 33,           /* a sync or a stop's last write has failed, the connection has ended or the file was closed: the heap has ended */
@@ -131,7 +131,7 @@ typedef enum {
     ZELAMIKU_FORKED = 41,         /* the heap belongs to the parent process */
     ZELAMIKU_ABANDONED = 42,      /* the heap was stopped with this reason */
     ZELAMIKU_OTHER_HEAP = 43,     /* the file's heap isn't that of the plan */
-    ZELAMIKU_NO_HEAP = 45,        /* the path has no heap, and the plan says must_exist: no file, or a free one */
+    ZELAMIKU_NO_HEAP = 45,        /* the plan says must_exist, and the path has no file, or a free one */
     ZELAMIKU_DAMAGED_FILE = 46,   /* the file's heap can't be read: `damage` of the report says which part */
     ZELAMIKU_NOT_REVERTED = 47    /* the section can't be reverted: see zelamiku_thread_revert */
 } zelamiku_status;
@@ -167,7 +167,7 @@ uint64_t zelamiku_now(void);
 typedef struct {
     uint32_t size;     /* sizeof(zelamiku_failure) */
     uint32_t status;   /* what the call returned; OK: no call of this thread has failed */
-    int32_t error;     /* the errno of it, such as ENOSPC; 0: there was none */
+    int32_t error;     /* its errno, such as ENOSPC; 0: there was none */
     uint32_t object;   /* the object that the call named; or ZELAMIKU_NO_NUMBER */
     uint32_t field;    /* the field that the call named (for a pool, its head); or ZELAMIKU_NO_NUMBER */
     uint32_t reserved; /* 0 */
@@ -178,8 +178,8 @@ typedef struct {
 } zelamiku_failure;
 
 /* Describes the calling thread's last failed call: fills in `failure`, unless it is NULL, and returns all of it as one line:
- * "PATH: CALL: CAUSE: the text of errno; CURE". "": no call has failed. HELD, BEHIND and POOL_EMPTY are no failures, and change nothing.
- * NULL: `failure` has a wrong size, and is as it was. */
+ * "PATH: CALL: CAUSE: the text of errno; CURE". "": no call has failed. HELD, BEHIND and POOL_EMPTY aren't failures: they
+ * leave the record as it was. NULL: `failure` has a wrong size, and is unchanged. */
 const char *zelamiku_heap_failure(zelamiku_failure *failure);
 
 /* ---- a device of your own ----
@@ -189,31 +189,31 @@ const char *zelamiku_heap_failure(zelamiku_failure *failure);
  *   OK      it is done
  *   DEVICE  it failed, and may be tried again. The device keeps what it had; any of this write's bytes may have reached it, or none
  *   LOST    it failed, and no later call may follow: the connection is gone, or what was written since the last sync may be gone. Every
- *           other value counts as this one
+ *           other value counts as LOST
  * and sets errno to the cause (without one the library reports EIO). What each does:
  *   read    fills all of `bytes` with what was last written at that place, synced or not
  *   write   takes all of the bytes. They needn't be durable before the next sync. No write is longer than 65,536 bytes, and few are aligned
  *   sync    returns OK once all earlier writes are durable: no crash and no loss of power loses them. Return DEVICE only if everything written since
  *           the last successful sync is kept: the library syncs again, and doesn't repeat the writes. The system's fdatasync doesn't
  *           guarantee that, so return LOST if it fails
- *   length  returns how many bytes there are, from 0 on. The number doesn't fall while the heap is open
+ *   length  sets `length` to how many bytes the device has. The number must not fall while the heap is open
  * After a crash each range that was written since the last sync may hold any bytes; every other byte keeps its value. docs/FORMAT.md, "What the
  * device keeps", says which devices promise that. Each opening also rewrites three single bytes, at 8, 64 and 1,112, with the values that it has
  * read there: a crash during such a rewrite must not change a durable byte.
  *
  * A heap is made in place if the device is free, that is, if the bytes that the heap takes are zeros, or are what an interrupted making has left.
- * Later bytes are never read. Nothing is locked: the program must see to it that one heap at a time is on a device, and that nobody else writes
- * there.
+ * Bytes beyond these are never read. Nothing is locked: the program must see to it that one heap at a time is on a device, and that nobody else
+ * writes there.
  *
- * Errors. While a heap is opened, an error means no heap: zelamiku_heap_open returns DEVICE, with the cause. Later, DEVICE doesn't end the
- * heap: the failed call is retried, as the top of this header says; the remaining calls of the round follow in order. LOST ends it.
+ * Errors. If a function fails while a heap is opened, zelamiku_heap_open returns DEVICE, with the cause. Later, DEVICE doesn't end the heap: the
+ * failed call is retried, as the top of this header says; the remaining calls of the round follow in order. LOST ends it.
  *
  * Threads. `read` and `length` are called by the thread that opens the heap; `write` and `sync` by that thread, and later by any thread that
  * waits for a round, closes or stops the heap, or by the helper. Two calls never overlap. None comes after the heap's close or stop has returned,
- * or in a forked child. The caller holds no mutex of the library. A function must not call anything of its heap.
+ * or in a forked child. The caller holds no mutex of the library. A function must not make a call on its heap.
  *
- * A call may take long, or hang. Threads go on until they have no room for a section. A stop wakes at once all threads that sleep for monitors
- * or for room; the stop itself, and threads that await sections, return only after the call has returned. Nothing cancels a call. */
+ * A function may take long, or hang. Threads go on until they have no room for a section. A stop wakes at once all threads that sleep for monitors
+ * or for room; the stop itself, and threads that await sections, return only after the function has. Nothing cancels it. */
 typedef struct {
     uint32_t size; /* sizeof(zelamiku_device) */
     zelamiku_status (*read)(void *context, uint64_t at, void *bytes, size_t size);
@@ -227,7 +227,7 @@ typedef struct {
 
 /* The log hook: `level` is one of these, `text` one line without a newline. The caller is the helper's thread, a thread that opens, closes,
  * or copies a heap or waits for a round, or one that has waited a second for a monitor. The calling thread holds no mutex of the library. The hook
- * must not call anything of this heap. The heap's close or stop, and an open that fails, wait for a running hook; after they have returned it isn't
+ * must not make a call on this heap. The heap's close or stop, and an open that fails, wait for a running hook; after they have returned it isn't
  * called any more. */
 enum { ZELAMIKU_LOG_INFO = 0, ZELAMIKU_LOG_WARNING = 1, ZELAMIKU_LOG_ERROR = 2 };
 typedef void zelamiku_log(void *context, uint32_t level, const char *text);
@@ -277,7 +277,8 @@ enum {
     ZELAMIKU_DAMAGED_LOG = 5      /* no threads can have left these records */
 };
 
-/* What an opening found. It leaves the helper's lane out: `lanes` counts the lanes of threads, and `dropped` counts only threads' sections.
+/* What an opening found. It leaves the helper's lane out: `lanes` counts the lanes of threads, and `dropped` counts only threads' sections, and of
+ * these only what the log has: a section that no round had logged is lost without being counted.
  * Exception: if `dropped` isn't 0, `undone` also counts fields whose old values were in the helper's lane. If `dropped` is 0, `undone` is 0. */
 typedef struct {
     uint32_t size;         /* sizeof(zelamiku_report) */
@@ -293,14 +294,14 @@ typedef struct {
     uint64_t has, planned; /* what the file has there, and what the plan says */
     uint64_t bad_place;    /* the bad record's place in its lane */
     uint64_t bytes;        /* of the image */
-    uint64_t dropped;      /* the sections that recovery dropped; none of them was acknowledged. zelamiku_heap_dropped has each */
+    uint64_t dropped;      /* the sections that recovery dropped; none was acknowledged. zelamiku_heap_dropped has each */
     uint64_t undone;       /* the fields that recovery has set back to an old value */
     uint64_t kept[ZELAMIKU_MOST_LANES]; /* how many sections of each lane were kept, since the previous opening */
 } zelamiku_report;
 
-/* Opens the heap of the file at this path, and starts its helper. Recovers the heap at the path. If there is no file, or a free one (empty, only
- * zeros, or left by an interrupted making), makes a heap. The file stays locked while the heap is open. `report` may be NULL; it is filled in even
- * if the call fails. After a failure `heap` is no handle.
+/* Opens the heap in the file at this path: recovers it, or makes it if there is no file, or a free one (empty, only zeros, or left by an
+ * interrupted making). Starts its helper. The file stays locked while the heap is open. `report` may be NULL; it is filled in even if the call
+ * fails. After a failure `heap` isn't a valid handle.
  * A heap is made in a new file beside the path (PATH.heapctl-new, after following the path's symbolic links). That file is locked, synced and
  * renamed to the path, and the folder is synced. If the process dies meanwhile, the path stays as it was, and the next making or copy there
  * replaces the file beside it.
@@ -312,10 +313,10 @@ typedef struct {
  * lanes, and none for the helper: rounds take four. An existing heap may have more lanes than the plan has threads: its last lane is then the
  * helper's, and all others are threads'. One with as many lanes as the plan has threads is opened too, without a lane for the helper: rounds
  * take four. The file doesn't record whether its last lane was the helper's. If the last lane was a thread's and is now the helper's, the report
- * omits that thread's sections. If it was the helper's and is now a thread's, the report lists the helper's as UNSETTLED. A heap made by a plan with
- * a fingerprint has one field more, the last: transient, of object 0, with the fingerprint as its first value. The report doesn't count it, and
- * programs don't use it: a store there lasts until the heap is closed, and changes no fingerprint. A heap with no fingerprint and as many fields as
- * the plan is opened too.
+ * omits that thread's sections. If it was the helper's and is now a thread's, the report lists the helper's as UNSETTLED.
+ * A heap made by a plan with a fingerprint has one field more, the last: transient, of object 0, with the fingerprint as its first value. The
+ * report doesn't count it, and programs don't use it: a store there lasts until the heap is closed, and changes no fingerprint. A heap with no
+ * fingerprint and as many fields as the plan is opened too.
  *
  * Returns OK, or one of these:
  *   BAD_ARGUMENT    a number of the plan is out of its limits, or a field names an object that the plan doesn't have; the failure's cause says which
@@ -334,10 +335,9 @@ typedef struct {
  *   DEVICE          the file can't be opened, made, locked, read or written, or its folder can't be synced: the failure has the system's error
  *   NONE_LEFT       255 heaps are open
  *   NO_MEMORY       no memory, or no thread could be started
- * All of these leave an existing file or device as it was, and no file where there was none. Exceptions: if a new heap's folder can't be synced
- * (DEVICE), a file that was free may hold the heap. After NO_MEMORY a new heap may be there, and a heap that was there may have been recovered.
- * After a DEVICE caused by a write or a sync the same holds as after NO_MEMORY, and a free device may also hold a part of a new heap. Opening again
- * goes on from there. */
+ * None of these changes an existing file or device, or leaves a file where there was none. Exceptions: if a new heap's folder can't be synced
+ * (DEVICE), a file that was free may hold the heap. After NO_MEMORY, or a DEVICE caused by a write or a sync, a new heap may be there, and a heap
+ * that was there may have been recovered. After such a DEVICE a free device may also hold a part of a new heap. Opening again goes on from there. */
 ZELAMIKU_MUST_USE zelamiku_status zelamiku_heap_open(zelamiku_heap *heap, const char *path, const zelamiku_plan *plan,
                                                      zelamiku_report *report);
 
@@ -359,24 +359,24 @@ typedef struct {
     uint64_t other_section; /* and that section's number */
 } zelamiku_dropped;
 
-/* The sections that recovery dropped, one a call: number `index`, from 0 to the report's `dropped` - 1, by lane and then by number. Past the last
- * one `why` is ZELAMIKU_NOT_DROPPED. After the heap has ended there are none. Returns OK. */
+/* Fills in one of the sections that recovery dropped: `index` is from 0 to the report's `dropped` - 1, by lane and then by number. Past the last
+ * one, and after the heap has ended, `why` is ZELAMIKU_NOT_DROPPED. Returns OK. */
 ZELAMIKU_MUST_USE zelamiku_status zelamiku_heap_dropped(zelamiku_heap heap, size_t index, zelamiku_dropped *dropped);
 
-/* Closes the heap once all its sections are durable; all must have ended. Threads that still have lanes get CLOSED. Returns OK, or
+/* Makes all sections durable, and closes the heap. No section may be open. Threads that still have lanes get CLOSED. Returns OK, or
  *   RUNNING   a section is open, or a thread waits. The heap stays open
  *   DEVICE    a write has failed. The heap stays open
  *   Ended     the heap had ended already, and is released now. If another thread is closing or stopping it, this call waits until it has ended
- *   NO_MEMORY, FAILED, WORN: the heap has ended, and its last calls weren't all made. Nothing is lost: the next open recovers it */
+ *   NO_MEMORY, FAILED, WORN: the heap has ended before its last writes and syncs were all made. Nothing is lost: the next open recovers it */
 ZELAMIKU_MUST_USE zelamiku_status zelamiku_heap_close(zelamiku_heap heap);
 
-/* Stops a heap whose threads may be in sections or wait: from now on their calls return `why`, even calls that sleep now. First it makes all ended
- * sections durable that don't depend on an open one. The next open drops the open sections, and the ended ones that depend on them,
- * as after a crash. `why` is ZELAMIKU_CLOSED; or ZELAMIKU_ABANDONED, for a heap with a thread that has exited, or failed, inside its
- * section. The memory of a lane in a section is kept until its thread calls again.
+/* Stops a heap whose threads may be in sections or wait: from now on their calls return `why`, even calls that sleep now. Before the stop returns,
+ * it makes all ended sections durable, except those that depend on an open one. The next open drops these and the open ones, as after a crash.
+ * `why` is ZELAMIKU_CLOSED; or ZELAMIKU_ABANDONED, for a heap with a thread that has exited, or failed, inside its section. The memory of a lane
+ * in a section is kept until its thread calls again.
  * The heap has ended after each of these: OK, or
  *   LOST   the last write or sync has failed: the next open may drop sections that had ended, too. The failure has the system's error
- *   Ended  the heap had ended already, or its last round has failed for want of memory (FAILED) or of numbers (WORN)
+ *   Ended  the heap had ended already; or its last round has failed: no memory (FAILED), or a number at its limit (WORN)
  * BAD_ARGUMENT, for every other `why`: nothing was done. */
 ZELAMIKU_MUST_USE zelamiku_status zelamiku_heap_stop(zelamiku_heap heap, zelamiku_status why);
 
@@ -399,23 +399,23 @@ enum {
     ZELAMIKU_ROUND_LINGER = 5,  /* the linger has passed */
     ZELAMIKU_ROUND_AGAIN = 6,   /* a second after a write has failed */
     ZELAMIKU_ROUND_CLOSING = 7,
-    ZELAMIKU_ROUND_LEFT = 8     /* the last round has reached its bound and left records */
+    ZELAMIKU_ROUND_LEFT = 8     /* the round before reached its bound and left records */
 };
 
 /* Counts since the open. Each is exact; they are read one after another, at moments close to each other. Times are nanoseconds. */
 typedef struct {
     uint32_t size;          /* sizeof(zelamiku_stats) */
     uint32_t lent;          /* lanes in use */
-    uint32_t awaiting;      /* threads that wait, asleep or by an event loop, until their sections are durable or there is room */
+    uint32_t awaiting;      /* threads that wait, asleep or in an event loop, until their sections are durable or there is room */
     uint32_t entering;      /* threads that sleep for a monitor */
     uint32_t last_cause;    /* ZELAMIKU_ROUND_.. */
     uint32_t is_astray;     /* 1: at the last check the path led to another file or to none; rounds check it each second */
-    uint64_t rounds;        /* that have ended, also those with a failed call */
+    uint64_t rounds;        /* that have ended, including those with a failed call */
     uint64_t sections;      /* that are durable */
     uint64_t records;       /* that rounds took */
     uint64_t calls, syncs;  /* made on the device; syncs are among the calls */
     uint64_t troubles;      /* rounds with a failed write */
-    uint64_t calls_time;    /* in the calls of all rounds */
+    uint64_t calls_time;    /* spent in the calls of all rounds */
     uint64_t longest_round; /* from its first record to its last call */
     uint64_t two_sync_rounds;  /* rounds with two syncs, all their calls made */
     uint64_t four_sync_rounds; /* with four: the heap has no lane for the helper, or that lane has no room for what the round changed */
@@ -432,20 +432,20 @@ typedef struct {
     uint32_t in_circle; /* 1: it waits in a circle of threads, none of which can go on */
 } zelamiku_wait;
 
-/* Which threads sleep for monitors now, and which lanes hold these, by lane. `written` gets how many were put into `waits`; there are
+/* Lists, by lane, which threads sleep for monitors now, and who has each monitor. `written` gets how many were put into `waits`; there are
  * ZELAMIKU_MOST_LANES at most. Threads that wait for a notification aren't listed. The library doesn't break a circle: a thread in it gives up
  * at its deadline, or the heap is stopped. The log hook reports each circle once, after one of its threads has slept for a second.
  * Returns OK; Ended: `written` is 0. */
 ZELAMIKU_MUST_USE zelamiku_status zelamiku_heap_waits(zelamiku_heap heap, zelamiku_wait *waits, size_t count, size_t *written);
 
 /* Sleeps until more than `seen` rounds have ended, or until the deadline (zelamiku_now); ZELAMIKU_NO_DEADLINE means none. `rounds` gets how many have
- * ended. It requests a round if a section has ended that no round has taken. Any thread may call it, without a lane: one thread can wait for the
- * sections of many (zelamiku_thread_progress). Returns OK, also at the deadline; DEVICE: the write of a round has failed; Ended. */
+ * ended. If some ended section hasn't been taken by a round, the call requests one. Any thread may call it, without a lane: one thread can wait for
+ * the sections of many (zelamiku_thread_progress). Returns OK, also at the deadline; DEVICE: the write of a round has failed; Ended. */
 ZELAMIKU_MUST_USE zelamiku_status zelamiku_heap_await_round(zelamiku_heap heap, uint64_t seen, uint64_t deadline, uint64_t *rounds);
 
 /* ---- a thread's use of it ---- */
 
-/* Hands out a lane that is free. Returns OK; NONE_LEFT: all are in use; Ended. After a failure `thread` is no handle. */
+/* Hands out a lane that is free. Returns OK; NONE_LEFT: all are in use; Ended. After a failure `thread` isn't a valid handle. */
 ZELAMIKU_MUST_USE zelamiku_status zelamiku_thread_begin(zelamiku_thread *thread, zelamiku_heap heap);
 
 /* Releases the lane. Returns OK; RUNNING: the thread holds a monitor, and nothing was done; Ended: the lane is released too. */
@@ -455,7 +455,7 @@ ZELAMIKU_MUST_USE zelamiku_status zelamiku_thread_end(zelamiku_thread thread);
  * sleep for one monitor get it in the order in which they came; but a thread that calls while the monitor is free may get it first. Take monitors in
  * one order everywhere: two threads that wait for each other's monitors wait for ever.
  * Returns OK; UNKNOWN_OBJECT, SECTION_FULL, TOO_MANY, TOO_DEEP, NO_FAT, WORN (of this monitor or lane: the heap goes on); DEVICE, if it waited for
- * a round that can't write: what is held stays as it was. Ended. */
+ * a round that can't write: the thread holds what it held before. Ended. */
 ZELAMIKU_MUST_USE zelamiku_status zelamiku_thread_enter(zelamiku_thread thread, uint32_t object);
 
 /* The same, sleeping until the deadline at most (zelamiku_now). With a deadline of 0 it never sleeps. It also returns
@@ -492,7 +492,7 @@ ZELAMIKU_MUST_USE zelamiku_status zelamiku_thread_revert(zelamiku_thread thread)
  * Returns OK; UNKNOWN_OBJECT, NOT_HELD, BEHIND, SECTION_FULL, NO_FAT, WORN, DEVICE: the monitor is held as before. Ended: it isn't held. */
 ZELAMIKU_MUST_USE zelamiku_status zelamiku_thread_wait(zelamiku_thread thread, uint32_t object);
 
-/* Notifies one thread that waits on the monitor; with `all`, every one. The caller must hold the monitor. They go on once it is free,
+/* Notifies one thread that waits on the monitor; with `all`, every one. The caller must hold the monitor. Notified threads go on once it is free,
  * in any order. `lanes` gets the bit 1 << lane for each, or 0 if none waits; it may be NULL. If several wait and one is notified, any of them may be
  * chosen, and one may be passed over for ever. Returns OK; UNKNOWN_OBJECT, NOT_HELD, Ended: nobody is notified. */
 ZELAMIKU_MUST_USE zelamiku_status zelamiku_thread_notify(zelamiku_thread thread, uint32_t object, bool all, uint64_t *lanes);
@@ -504,7 +504,7 @@ typedef struct {
     uint64_t number; /* how often it has become free */
 } zelamiku_sight;
 
-/* Looks at a monitor, which needn't be held: the lane of its owner, and how many locks it has. Returns OK; UNKNOWN_OBJECT, Ended: `sight` describes
+/* Looks at a monitor, which needn't be held: its owner's lane, and how many locks the owner has. Returns OK; UNKNOWN_OBJECT, Ended: `sight` describes
  * a free monitor. */
 ZELAMIKU_MUST_USE zelamiku_status zelamiku_thread_look(zelamiku_thread thread, uint32_t object, zelamiku_sight *sight);
 
@@ -520,7 +520,8 @@ typedef struct {
                           opening's report (zelamiku_dropped, and `kept`) is this thread's section n - earlier */
 } zelamiku_progress;
 
-/* Any thread may ask. Returns OK, also after the heap has ended. After a failure `lane` is ZELAMIKU_NOBODY, and all else is 0. */
+/* Fills in the thread's progress. Any thread may call it. Returns OK, also after the heap has ended. After a failure `lane` is ZELAMIKU_NOBODY,
+ * and all else is 0. */
 ZELAMIKU_MUST_USE zelamiku_status zelamiku_thread_progress(zelamiku_thread thread, zelamiku_progress *progress);
 
 /* Sleeps until the thread's first `sections` sections are durable, at most until the deadline (zelamiku_now, or ZELAMIKU_NO_DEADLINE).
@@ -543,19 +544,19 @@ ZELAMIKU_MUST_USE static inline zelamiku_status zelamiku_thread_await(zelamiku_t
  *
  * A pool has slots, numbered from 0. It lies in persistent fields of one object, which guards them: the head, and after it a field for each
  * slot. The program keeps a slot's contents in fields of its own, as field BASE + slot. They may hold the numbers of other slots, which makes
- * lists and trees. If a crash drops a section, what it took and released is undone; if the section is kept, that is kept too. Nothing else stores to
- * the pool's fields. The image doesn't record where a heap has a pool: the program knows. */
+ * lists and trees. If a crash drops a section, what it took and released is undone; if the section is kept, so is that. The program
+ * must not store to the pool's fields by other calls. The image doesn't record where a pool lies: the program must know. */
 
 /* Fills in the fields of a pool of `count - 1` slots, all free: `fields` gets the head and then the slots, one after another, for the plan.
  * Returns OK. BAD_ARGUMENT: `count` is below 2. TOO_MANY: it is above ZELAMIKU_MOST_SLOTS + 1. After either error `fields` is unchanged
  * and no failure is recorded. `fields` must not be NULL. */
 ZELAMIKU_MUST_USE zelamiku_status zelamiku_pool_fields(uint32_t object, zelamiku_field *fields, size_t count);
 
-/* Takes a free slot of the pool with this head and this number of slots. The thread must hold its object's monitor; the call makes two records.
- * Returns OK; POOL_EMPTY, DAMAGED, UNKNOWN_FIELD, NOT_HELD, SECTION_FULL, Ended: nothing was stored, and `slot` is ZELAMIKU_NO_NUMBER. */
+/* Takes a free slot of the pool with this head and this number of slots. The thread must hold the monitor of the pool's object; the call makes two
+ * records. Returns OK; POOL_EMPTY, DAMAGED, UNKNOWN_FIELD, NOT_HELD, SECTION_FULL, Ended: nothing was stored, and `slot` is ZELAMIKU_NO_NUMBER. */
 ZELAMIKU_MUST_USE zelamiku_status zelamiku_thread_take(zelamiku_thread thread, uint32_t head, uint32_t slots, uint32_t *slot);
 
-/* Releases a slot that was taken: it is the next one to be taken. The thread must hold its object's monitor; the call makes two records.
+/* Releases a slot that was taken: it is the next one to be taken. The thread must hold the monitor of the pool's object; the call makes two records.
  * Returns OK; NOT_TAKEN, DAMAGED, UNKNOWN_FIELD, NOT_HELD, SECTION_FULL, Ended: nothing was stored. */
 ZELAMIKU_MUST_USE zelamiku_status zelamiku_thread_give(zelamiku_thread thread, uint32_t head, uint32_t slots, uint32_t slot);
 
@@ -585,8 +586,8 @@ ZELAMIKU_MUST_USE zelamiku_status zelamiku_thread_event(zelamiku_thread thread, 
 
 /* Returns how many of the thread's sections are durable, and requests a round if more have ended. It doesn't wait for a round; it may sleep only
  * briefly, while other threads are in short calls. Ask again after further sections have ended; a request stands until its sections are durable.
- * Returns OK; DEVICE, once for each write that fails meanwhile: it is made again each second, and nothing is lost. Ended: the others did not become
- * durable, or an open section was cut off. `durable` is set in each case. */
+ * Returns OK; DEVICE, once for each write that fails meanwhile: the write is retried each second, and nothing is lost. Ended: the others did not
+ * become durable, or an open section was cut off. `durable` is set in each case. */
 ZELAMIKU_MUST_USE zelamiku_status zelamiku_thread_ask(zelamiku_thread thread, uint64_t *durable);
 
 /* The library was built for these sizes. */
