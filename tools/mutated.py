@@ -31,6 +31,7 @@ EQUIVALENT = []
 
 # ---- Python: by the tree of its syntax ----
 
+LIBS = os.environ.get("ZELAMIKU_LIBS", f"{ROOT}/crates/zelamiku/out/host")
 SWAPS = {ast.Lt: ast.LtE, ast.LtE: ast.Lt, ast.Gt: ast.GtE, ast.GtE: ast.Gt, ast.Eq: ast.NotEq, ast.NotEq: ast.Eq, ast.Is: ast.IsNot, ast.IsNot: ast.Is, ast.In: ast.NotIn,
          ast.NotIn: ast.In, ast.Add: ast.Sub, ast.Sub: ast.Add, ast.Mult: ast.FloorDiv, ast.Div: ast.Mult, ast.BitAnd: ast.BitOr, ast.RShift: ast.LShift, ast.BitXor: ast.BitOr,
          ast.And: ast.Or, ast.Or: ast.And}  # fmt: skip
@@ -152,7 +153,7 @@ def run_python(at, tests, environment):
     for descriptor in (1, 2):
         os.dup2(os.open(f"{os.path.dirname(at)}/{os.getpid()}", os.O_WRONLY | os.O_CREAT | os.O_APPEND), descriptor)
     os.chdir(at)
-    os.environ.update(environment, PYTHONPATH=at, ZELAMIKU_LIBS=f"{ROOT}/crates/zelamiku/out/host")
+    os.environ.update(environment, PYTHONPATH=at, ZELAMIKU_LIBS=LIBS)
     sys.path.insert(0, at)
     sys.dont_write_bytecode = False
     sys.warnoptions.append("error::ResourceWarning")
@@ -252,7 +253,7 @@ def rust(folder):
     # (a test compares numbers with those of the header and the crates)
     for name in ("bindings/c", "crates"):
         os.symlink(f"{ROOT}/{name}", f"{folder}/{name}")
-    how = {**os.environ, "ZELAMIKU_LIBS": f"{ROOT}/crates/zelamiku/out/host", "CARGO_TARGET_DIR": f"{folder}/target", "RUSTC_BOOTSTRAP": "1", "RUSTFLAGS": "-A warnings",
+    how = {**os.environ, "ZELAMIKU_LIBS": LIBS, "CARGO_TARGET_DIR": f"{folder}/target", "RUSTC_BOOTSTRAP": "1", "RUSTFLAGS": "-A warnings",
            "RUSTDOCFLAGS": f"-A warnings -Z unstable-options --persist-doctests {folder}/examples"}  # fmt: skip
     cargo = lambda *words: subprocess.run(["cargo", *words, "--offline", "--quiet"], cwd=at, env=how, capture_output=True, text=True, check=False)
     changes, wrong = [dict(it, number=number) for number, it in enumerate(rust_changes(), 1)], {0}
@@ -276,7 +277,7 @@ def rust(folder):
         for program, *name in map(str.split, tests):
             with subprocess.Popen([program, *(["--exact"] if name else []), *name], cwd=at, env={**how, **environment}, stdout=subprocess.PIPE, stderr=subprocess.STDOUT, text=True) as it:
                 try:
-                    out = it.communicate(timeout=seconds)[0]
+                    out = it.communicate(timeout=min(seconds, 90))[0]
                 except subprocess.TimeoutExpired:
                     it.kill()
                     out = "it doesn't end"
@@ -330,7 +331,7 @@ def main(of, asked):
             if why := next((why for name, part, operator, why in EQUIVALENT if (name, operator) == (it["file"], it["operator"]) and part in it["text"]), ""):
                 return "equivalent", why
             quickest = sorted(reached[it["number"]])
-            wrong = run([test for _, test in quickest], 60 + 8 * sum(seconds for seconds, _ in quickest), MUTANT=str(it["number"])) if quickest else ""
+            wrong = run([test for _, test in quickest], 60 + 4 * sum(seconds for seconds, _ in quickest), MUTANT=str(it["number"])) if quickest else ""
             return ("found", wrong.strip().splitlines()[-1][:100]) if wrong else ("SURVIVED", f"{len(quickest)} tests come there")
 
         for it, (what, why) in zip(chosen, pool.map(one, chosen)):

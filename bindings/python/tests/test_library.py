@@ -34,6 +34,8 @@ class Wrong(unittest.TestCase):
         version = library.library().version()
         with mock.patch.object(library, "VERSION", version + 1), self.assertRaisesRegex(zelamiku.NoLibrary, f"this package needs {version + 1};"):
             library.Library(library.library().path)
+        with self.assertRaisesRegex(AttributeError, "the library has no call zelamiku_fly"):
+            library.library().fly
 
 
 class Structs(unittest.TestCase):

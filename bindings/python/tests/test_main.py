@@ -7,6 +7,7 @@ from pathlib import Path
 
 import zelamiku
 from support import PATIENCE, OnFile
+from zelamiku import __main__ as zelamiku_main
 
 MODULE = """
 import zelamiku
@@ -85,6 +86,15 @@ class Words(OnFile):
         self.refused("are declared", "show", "a.heap", "bank:LAST")
         with self.open(**self.declared["OBJECTS"], lanes=3):
             self.refused("another process has the heap", "show", "a.heap", "bank")
+
+    def test_the_help_shows_what_to_type(self):
+        status, out, error = self.run_with("--help")
+        self.assertEqual((status, error), (0, ""))
+        self.assertIn("usage: python -m zelamiku [-h] {show,migrate} ...\n\n" + zelamiku_main.__doc__, out)
+        out = " ".join(self.run_with("migrate", "--help")[1].split())
+        self.assertIn("usage: python -m zelamiku migrate [-h] [--lanes N] [--drop] FILE MODULE[:NAME] [MODULE[:NAME]]", out)
+        for text in ("the new declaration; by default the same one", "for so many threads; by default as many as it has", "lose the fields that the new declaration doesn't have"):
+            self.assertIn(text, out)
 
     def test_migrate_carries_over_what_has_a_name_in_both(self):
         status, out, error = self.run_with("migrate", "a.heap", "bank", "bank:LAST")

@@ -49,6 +49,10 @@ class Numbers(unittest.TestCase):
 
         plan = Plan({"total": Guarded, "account": Account})
         self.assertEqual([(each.owner, each.guard) for each in plan.fields], [(0, 1)] * 3 + [(1, 1)] * 2)
+        for kind in (zelamiku.Field, zelamiku.Signed, zelamiku.Bool, zelamiku.Float, zelamiku.Ref):
+            other = type(zelamiku.Object)("Other", (zelamiku.Object,), {"total": kind(guard="account", transient=True)})
+            planned = Plan({"total": other, "account": Account}).fields[0]
+            self.assertEqual((planned.guard, planned.is_transient), (1, True), kind)
         for declared in ({"total": Guarded}, {"total": Guarded, "account": [Account]}):
             with self.assertRaisesRegex(ValueError, "total.total: its guard 'account' is the name of no single object"):
                 Plan(declared)

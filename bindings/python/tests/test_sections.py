@@ -431,11 +431,15 @@ class Waits(OnFile):
                 self.assertEqual((heap.alice.left, heap.alice.right), (1, 100))
                 heap.alice.left = 100
         # One that is refused (NO_FAT) ends nothing.
-        with self.assertRaises(zelamiku.Refused), heap.synchronized(heap.alice), mock.patch.object(library(), "thread_wait", lambda *_: 17):
-            heap.alice.left = 1
-            heap.alice.wait()
-        with heap.synchronized(heap.alice):
-            self.assertEqual(heap.alice.left, 100)
+        for goes_on in (False, True):
+            with self.assertRaises(zelamiku.Refused), heap.synchronized(heap.alice), mock.patch.object(library(), "thread_wait", lambda *_: 17):
+                heap.alice.left = 1
+                error = outcome(heap.alice.wait)
+                if goes_on:
+                    heap.alice.right = 1
+                raise error
+            with heap.synchronized(heap.alice):
+                self.assertEqual((heap.alice.left, heap.alice.right), (100, 100))
         raises(heap, heap.bob, heap.bob, heap.bob, heap.alice)
         with self.assertRaisesRegex(zelamiku.Abandoned, "can't be reverted"):
             enter(heap.synchronized(heap.alice))
@@ -533,8 +537,7 @@ class Sessions(OnFile):
             enter(heap.synchronized(heap.alice))
             sleeps.get.side_effect = queue.Empty
             self.assertIsInstance(in_thread(lambda: enter(heap.synchronized(heap.alice, timeout=0.2))), zelamiku.NoLaneFree)
-            for call in sleeps.get.mock_calls:
-                self.assertLessEqual(call.kwargs["timeout"], 0.2)
+            self.assertTrue(0 < max(call.kwargs["timeout"] for call in sleeps.get.mock_calls) <= 0.2)
             sleeps.reset_mock()
             with mock.patch.object(library(), "thread_begin", begin_late), beside(lambda: enter(heap.synchronized(heap.alice, timeout=LONG))) as outcomes:
                 refused.wait()
