@@ -102,7 +102,7 @@ class Monitors(OnFile):
                 heap.alice.balance = 2
                 raise ValueError
             self.assertEqual(in_thread(lambda: self.values(heap)), [1, 100])
-            with self.assertRaisesRegex(zelamiku.Refused, "for each `with`"):
+            with self.assertRaisesRegex(zelamiku.Refused, r"entered before; call synchronized\(\.\.\) for each `with`"):
                 section.__enter__()
             section = heap.synchronized(heap.alice)
             with section, self.assertRaisesRegex(zelamiku.Refused, "for each `with`"):
@@ -446,6 +446,26 @@ class Waits(OnFile):
         with self.assertRaises(zelamiku.Abandoned):
             heap.close()
 
+    def test_after_a_wait_a_section_that_has_stored_nothing_goes_on(self):
+        def wait(*objects):
+            with heap.synchronized(*objects):
+                if len(objects) == 1:
+                    heap.alice.left = 1
+                heap.alice.wait()
+                with contextlib.suppress(ValueError), heap.synchronized(heap.alice):
+                    raise ValueError
+                heap.alice.right += 1
+
+        with self.open(alice=Pair, bob=Pair) as heap:
+            for objects in ([heap.alice], [heap.alice, heap.bob]):
+                with beside(lambda: wait(*objects)) as outcomes:
+                    while not outcomes:
+                        with heap.synchronized(heap.alice):
+                            heap.alice.notify()
+                self.assertEqual(outcomes, [None])
+            with heap.synchronized(heap.alice):
+                self.assertEqual((heap.alice.left, heap.alice.right), (1, 102))
+
     def test_who_waits_for_whom(self):
         """Python computes while threads sleep in the library. A wait with another monitor held takes its own in another order, which no
         synchronized(..) can refuse."""
@@ -543,7 +563,7 @@ class Sessions(OnFile):
                 refused.wait()
                 heap.session.end()
                 freed.set()
-            self.assertEqual((outcomes, sleeps.get.mock_calls), ([None], []))
+            self.assertEqual((outcomes, sleeps.get.mock_calls, sleeps.put.mock_calls), ([None], [], []))
 
     def test_a_lane_is_not_given_up_in_a_section_and_its_sections_are_not_waited_for(self):
         with self.open(linger=3_600) as heap:

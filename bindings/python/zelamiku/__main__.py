@@ -37,7 +37,6 @@ class _Refused(Exception):
 
 def _declared(name: str) -> dict[str, Any]:
     module, _, variable = name.partition(":")
-    sys.path.insert(0, os.getcwd())
     found = getattr(importlib.import_module(module), variable or "OBJECTS", None)
     if not isinstance(found, dict):
         raise _Refused(f"{module} has no dict {variable or 'OBJECTS'}: name the one that has the objects, as {module}:NAME")
