@@ -317,7 +317,7 @@ def main(of, asked):
     counts, reached = defaultdict(int), defaultdict(list)
     with tempfile.TemporaryDirectory() as folder, ThreadPoolExecutor(asked.jobs) as pool:
         binding = {"python": python, "rust": rust}[of](folder)
-        chosen = choose([it for it in next(binding) if asked.only in ("", it["file"])], asked.count, asked.seed)
+        chosen = [it for it in choose(next(binding), asked.count, asked.seed) if re.search(asked.only, it["text"])]
         if asked.list:
             return print("\n".join(map(told, chosen)))
         tests, run = binding.send(chosen)
@@ -343,7 +343,6 @@ def main(of, asked):
             counts[what] += 1
             print(f"{told(it)}: {what}: {why}", flush=True)
     seen = counts["found"] + counts["SURVIVED"]
-    print(f"seed {asked.seed}: {counts['found']} of {seen} found, {100 * counts['found'] / max(seen, 1):.0f} %; {counts['equivalent']} equivalent")
-    print(f"{counts['found']} passed, {counts['SURVIVED']} failed")
+    print(f"seed {asked.seed}: {counts['found']} of {seen} found, {100 * counts['found'] / max(seen, 1):.1f} %; {counts['equivalent']} equivalent")
     return 1 if counts["SURVIVED"] else 0
 

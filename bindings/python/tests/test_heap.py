@@ -61,8 +61,8 @@ class Values(OnFile):
                 for index in (3, -4):
                     with self.assertRaises(IndexError):
                         it.many[index] = 0
-                for name in ("many", "nothing"):
-                    with self.assertRaises(AttributeError):
+                for name, text in (("many", r"it\.many is an array: store to one of its items"), ("nothing", "nothing")):
+                    with self.assertRaisesRegex(AttributeError, text):
                         setattr(it, name, 1)
                 it.whole -= 1
                 self.assertEqual((it.whole, list(it.many)), (6, [-1] * 3))
@@ -93,6 +93,8 @@ class Values(OnFile):
                 for wrong, kind in ((1, zelamiku.NotTaken), (3, IndexError), (-1, IndexError), (0.5, TypeError)):
                     self.assertIsInstance(outcome(lambda: free.give(wrong)), kind)
                 self.assertEqual((len(free), free.take(), free.take()), (3, 1, None))
+                with self.assertRaisesRegex(AttributeError, r"seats\.free is a pool: call its take\(\) and give\(\)"):
+                    heap.seats.free = 1
             for refused in (free.take, lambda: free.give(0)):
                 self.assertIsInstance(outcome(refused), zelamiku.NotHeld)
 

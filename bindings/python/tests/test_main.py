@@ -111,6 +111,8 @@ class Words(OnFile):
         with self.assertRaisesRegex(zelamiku.OtherHeap, "it has 4 lanes, and 12 are asked for; ask for 3.*python -m zelamiku migrate"):
             self.open(**self.declared["OBJECTS"], lanes=12)
         self.refused("lanes is 0", "migrate", "a.heap", "bank", "--lanes", "0")
+        # As one that was killed leaves it.
+        Path(self.path + ".migrated").write_text("half")
         self.assertEqual(self.run_with("migrate", "a.heap", "bank", "--lanes", "12")[0], 0)
         with self.open(**self.declared["OBJECTS"], lanes=12) as heap:
             self.assertEqual(heap.report.lanes, 12)
