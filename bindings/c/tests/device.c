@@ -311,6 +311,37 @@ static void refusals(void) {
     MUST(value_on(held.now) == 7);
 }
 
+/* A record that was altered is named by its lane and its place. */
+static void bad_records(void) {
+    memory copy = new_memory(SIZE), before = new_memory(SIZE);
+    zelamiku_device device = device_of(&copy);
+    zelamiku_report report = {.size = sizeof report};
+    zelamiku_heap other;
+    char text[100];
+    unsigned found = 0;
+    make();
+    begin();
+    zelamiku_thread own = begin_thread();
+    store(own, 8);
+    OK(zelamiku_thread_await(own));
+    memcpy(before.now, held.durable, SIZE); /* no close has written its end */
+    close_heap();
+    for (size_t at = 2160; at < SIZE; at++) { /* after the controls */
+        if (before.now[at] == 0) continue;
+        memcpy(copy.now, before.now, SIZE);
+        copy.now[at] ^= 0xff;
+        zelamiku_status status = open_on(&other, "another host", &device, &PLAN, &report);
+        if (status == ZELAMIKU_OK) OK(zelamiku_heap_stop(other, ZELAMIKU_ABANDONED));
+        if (report.damage != ZELAMIKU_DAMAGED_RECORD) continue;
+        (void)snprintf(text, sizeof text, "the heap has a record that can't be read: lane %u, place %llu", report.bad_lane, (unsigned long long)report.bad_place);
+        MUST(status == ZELAMIKU_DAMAGED_FILE && report.bad_lane < 5 && says(text));
+        found += report.bad_place > 0;
+    }
+    MUST(found > 0);
+    free_memory(&copy);
+    free_memory(&before);
+}
+
 /* ---- a fault at each call ---- */
 
 /* A fault at each call of an opening: no heap is open then, and what was there is there still. Answers how many calls there were. */
@@ -644,6 +675,7 @@ int main(int argc, char **argv) {
     held = new_memory(SIZE);
     life(argv[1]);
     refusals();
+    bad_records();
     times();
     for (unsigned what = REFUSED; what < FAULTS && !is_short; what++) {
         opened += openings(what);

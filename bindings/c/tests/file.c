@@ -793,7 +793,7 @@ static void links(void) {
     /* Where a path leads is found whatever was in the memory for it before. */
     static char real_one[2 * PATH_MAX];
     memset(real_one, '/', sizeof real_one - 1);
-    MUST(find_real_path("real/new one", real_one) && strlen(real_one) < PATH_MAX && strcmp(real_one + strlen(real_one) - 13, "/real/new one") == 0);
+    MUST(find_new_path("real/new one", real_one) && strlen(real_one) < PATH_MAX && strcmp(real_one + strlen(real_one) - 13, "/real/new one") == 0);
     MUST(real_one[strlen(real_one) - 14] != '/' && !find_real_path("spare/below", real_one) && errno == ENOTDIR);
 }
 

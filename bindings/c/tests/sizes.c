@@ -128,7 +128,23 @@ static void later_members(zelamiku_plan *plan, zelamiku_device *device) {
     MUST(zelamiku_heap_open(&heap, "sizes", plan, NULL) == expected && (expected != ZELAMIKU_OK || zelamiku_heap_close(heap) == ZELAMIKU_OK));
     device->later = 0;
 #else
-    (void)plan, (void)device;
+    struct {
+        zelamiku_plan is;
+        uint64_t later;
+    } larger = {*plan, 0};
+    struct {
+        zelamiku_stats is;
+        uint64_t later;
+    } stats = {{.size = sizeof stats}, 7};
+    zelamiku_heap heap;
+    larger.is.size = sizeof larger;
+    OK(zelamiku_heap_open(&heap, "sizes", &larger.is, NULL));
+    OK(zelamiku_heap_stats(heap, &stats.is));
+    OK(zelamiku_heap_close(heap));
+    MUST(stats.later == 0 && stats.is.size == sizeof stats);
+    larger.later = 1;
+    MUST(zelamiku_heap_open(&heap, "sizes", &larger.is, NULL) == ZELAMIKU_BAD_ARGUMENT);
+    (void)device;
 #endif
 }
 
