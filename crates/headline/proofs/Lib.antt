@@ -1,2 +1,4 @@
+mod CutOff
 mod Given
 mod Lives
+mod Durable

@@ -12,11 +12,13 @@ use Rattle.monitor.specs.Seats.{Home}
 use Rattle.thread_steps.specs.Views.{plan}
 use Rattle.store_image.specs.KeptHeap.{kept_heap}
 use Rattle.heap_model.specs.Past.{Past}
-use Rattle.law_survival.specs.Again.{AreCutOff, Attempt, HasEnded}
+use Rattle.law_survival.specs.Again.{HasEnded}
 use Rattle.law_survival.specs.Promise.{Answer}
-use Rattle.law_survival.specs.WholeRun.{CannotRecover}
+use Rattle.recover_heap.specs.declared.error.RecoverError.{RecoverError}
+use Rattle.recover_heap.specs.declared.error.RecoverError.TheVariants.{Fault, NoMemory, Worn}
 use Rattle.law_running.specs.Running.{GoesOnLegally}
 use Rattle.headline.specs.Life.{Life}
+use Rattle.headline.specs.Openings.{AreOpenings}
 
 -- Recovery gave this heap, and reported so many sections of each lane as kept. They are one set of sections: of each lane the first so many. The past
 -- says what was acknowledged before, and `seen` is what the helper has seen of the threads' history.
@@ -35,9 +37,13 @@ pub record Headline (l : Layout) (s : Setting) (p : Past) (seen : List (ℕ × E
   -- In each such history the heap has what they stored, in the history's order, over the first values, and nothing else.
   pub values : (history : List (ℕ × Event)) → GoesOnLegally s seen history → heap ≡ kept_heap l s (log_of s history) cut
 
--- Recovery gives such a heap. It fails only if a call of its device failed, memory ran out, or the control's sequence is at its end.
-abbrev pub Gives : {E : Type 0} → Layout → Setting → Past → (seen : List (ℕ × Event)) → (image : List ℕ) → Answer E → Type 0
-Gives l s p seen image answer = MatchResult answer (λ r. Headline l s p seen r.0.heap (counts_of r.1.kept)) (λ back. CannotRecover image back.1)
+-- Why recovery may fail: a call of its device failed, memory ran out, or the control's sequence is at its end.
+abbrev pub MayFail : RecoverError → Type 0
+MayFail e = (e ≡ Fault) ⊎ (e ≡ NoMemory) ⊎ (e ≡ Worn)
+
+-- Recovery gives such a heap, or may fail.
+abbrev pub Gives : {E : Type 0} → Layout → Setting → Past → (seen : List (ℕ × Event)) → Answer E → Type 0
+Gives l s p seen answer = MatchResult answer (λ r. Headline l s p seen r.0.heap (counts_of r.1.kept)) (λ back. MayFail back.1)
 
 -- Recovery gave such a heap, and reported these sections as kept; or it reported that an earlier recovery had ended, and then none.
 pub record HeadlineAgain (l : Layout) (s : Setting) (p : Past) (seen : List (ℕ × Event)) (heap : List ℕ) (report : Report) : Type 0 where
@@ -48,11 +54,11 @@ pub record HeadlineAgain (l : Layout) (s : Setting) (p : Past) (seen : List (ℕ
 module _ {D : Type 0} (device : D → Device) where
   -- A heap lived until a crash left this image. Recovery gives such a heap, with all that was acknowledged before the call in which the crash came.
   abbrev pub GivesLife : {E : Type 0} → (image : List ℕ) → Answer E → Type 0
-  GivesLife image told = (h : Home) (l : Layout) (p : Past) (seen : List (ℕ × Event)) → Life device h image l p seen → Gives l (plan h) p seen image told
+  GivesLife image told = (h : Home) (l : Layout) (p : Past) (seen : List (ℕ × Event)) → Life device h image l p seen → Gives l (plan h) p seen told
 
-  -- A heap lived until a crash. Then it was opened any number of times, and each time a crash or a fault cut its recovery off. The last of these
-  -- left this image. Recovery gives the same heap.
+  -- A heap lived until a crash. Then it was opened any number of times, and each opening was cut off, at any of its calls. The last of these left
+  -- this image. Recovery gives the same heap.
   abbrev pub GivesAgain : {E : Type 0} → (image : List ℕ) → Answer E → Type 0
-  GivesAgain image told = (h : Home) (l : Layout) (p : Past) (seen : List (ℕ × Event)) (first : List ℕ) (attempts : List Attempt)
-      → Life device h first l p seen → AreCutOff attempts first image
-      → MatchResult told (λ r. HeadlineAgain l (plan h) p seen r.0.heap r.1) (λ back. CannotRecover image back.1)
+  GivesAgain image told = (h : Home) (l : Layout) (p : Past) (seen : List (ℕ × Event)) (first : List ℕ)
+      → Life device h first l p seen → AreOpenings first image
+      → MatchResult told (λ r. HeadlineAgain l (plan h) p seen r.0.heap r.1) (λ back. MayFail back.1)

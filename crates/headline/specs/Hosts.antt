@@ -23,17 +23,17 @@ use Rattle.headline.specs.Headline.{Gives}
 -- in that past.
 abbrev pub GivesHostRun : {E : Type 0} → (image : List ℕ) → Answer E → Type 0
 GivesHostRun image told = (h : Home) (p : Past) (old : Device) (y : Parts Deferred) (seen : List (ℕ × Event)) (c : Host)
-    → RunsOn hosted_device h p old y seen → LeavesSince old y.store.disk c image → Gives y.store.known.layout (plan h) p seen image told
+    → RunsOn hosted_device h p old y seen → LeavesSince old y.store.disk c image → Gives y.store.known.layout (plan h) p seen told
 
 -- So it is over a round of the heap, whatever the round answers.
 abbrev pub GivesHostRound : {E : Type 0} → (image : List ℕ) → Answer E → Type 0
 GivesHostRound image told = (x y : Hosting) (answer : Result ℕ StoreError) (p : Past) (old : Device) (c : Host)
     → HasRunOn x p old → MakesRound x y answer → HearsThreads x y → LeavesSince old y.helper.store.disk c image
-    → Gives y.helper.store.known.layout (plan x.home) p y.helper.seat.view.history image told
+    → Gives y.helper.store.known.layout (plan x.home) p y.helper.seat.view.history told
 
 -- So it is over a closing, at whatever moment the host comes on with the calls that are left: by the closing's history.
 abbrev pub GivesHostClosing : {E : Type 0} → (image : List ℕ) → Answer E → Type 0
 GivesHostClosing image told = (h : Home) (x : Parts Deferred) (p : Past) (old : Device) (d : Deferred) (c : Host) → h.plan.lanes ≡ x.store.known.threads
     → (run : RunsSince x.store.known.layout x.store.known.threads (plan h) p old (hosted_device x.store.disk))
     → (serves : IsServing hosted_device x (plan h) run.now) → (closing : IsClosedWith h x d) → LeavesSince old d c image
-    → Gives x.store.known.layout (plan h) p (closing.from run.now serves).closed.history image told
+    → Gives x.store.known.layout (plan h) p (closing.from run.now serves).closed.history told

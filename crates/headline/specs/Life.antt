@@ -15,28 +15,45 @@ use Rattle.thread_heap.specs.Closed.{IsClosedFrom}
 use Rattle.law_running.specs.Running.{HasMadeRound}
 
 module _ {D : Type 0} (device : D → Device) (h : Home) where
-  -- A heap was opened, and its helper has made any number of rounds. The past has what is acknowledged now, and `seen` is what the helper has seen
-  -- of the threads' history.
-  pub data Lives : Parts D → Past → (seen : List (ℕ × Event)) → Type 0 where
-    -- The heap was opened, and no round was made.
-    Opened : (x : Parts D) → h.plan.lanes ≡ x.store.known.threads → IsServing device x (plan h) no_past → Lives x no_past []
+  -- From this moment of a heap's life on, its helper has made any number of rounds. The past has what is acknowledged now, and `seen` is what the
+  -- helper has seen of the threads' history.
+  pub data LivesSince (first : Parts D) (before : Past) (saw : List (ℕ × Event)) : Parts D → Past → (seen : List (ℕ × Event)) → Type 0 where
+    -- No round was made.
+    Still : LivesSince first before saw first before saw
     -- A round was made, whatever it answered.
     MadeRound : (x y : Parts D) (p : Past) (seen : List (ℕ × Event)) (answer : Result ℕ StoreError)
-        → Lives x p seen → (made : HasMadeRound device h p x y answer) → Lives y made.round.now y.seat.view.history
+        → LivesSince first before saw x p seen → (made : HasMadeRound device h p x y answer) → LivesSince first before saw y made.round.now y.seat.view.history
     -- A round was made after a fault. Such a round makes no call, and sees no more.
     MadeNone : (x y : Parts D) (p : Past) (seen : List (ℕ × Event)) (answer : Result ℕ StoreError)
-        → Lives x p seen → x.store.known.has_failed ≡ true → HasGoneOn h x y → Rounds device (plan h) p x y answer → Lives y p seen
+        → LivesSince first before saw x p seen → x.store.known.has_failed ≡ true → HasGoneOn h x y → Rounds device (plan h) p x y answer
+        → LivesSince first before saw y p seen
 
-  -- A heap of this layout lived, until a crash came and left this image. The past has what was acknowledged before the call in which the crash came.
-  -- `seen` is what is known of the threads' history by the end of that call.
-  pub data Life (image : List ℕ) : Layout → Past → (seen : List (ℕ × Event)) → Type 0 where
+  -- A heap was opened, and its helper has made any number of rounds since.
+  pub record Lives (x : Parts D) (p : Past) (seen : List (ℕ × Event)) : Type 0 where
+    pub opened : Parts D
+    pub lanes : h.plan.lanes ≡ opened.store.known.threads
+    pub serves : IsServing device opened (plan h) no_past
+    pub since : LivesSince opened no_past [] x p seen
+
+  -- From this moment on a heap of this layout lived, until a crash came and left this image. The past has what was acknowledged before the call in
+  -- which the crash came. `seen` is what is known of the threads' history by the end of that call.
+  pub data LifeSince (first : Parts D) (before : Past) (saw : List (ℕ × Event)) (image : List ℕ) : Layout → Past → (seen : List (ℕ × Event)) → Type 0 where
     -- The crash came between two calls.
-    AtRest : (x : Parts D) (p : Past) (seen : List (ℕ × Event)) → Lives x p seen
-        → MayBeLeft (device x.store.disk) (device x.store.disk) image → Life image x.store.known.layout p seen
+    AtRest : (x : Parts D) (p : Past) (seen : List (ℕ × Event)) → LivesSince first before saw x p seen
+        → MayBeLeft (device x.store.disk) (device x.store.disk) image → LifeSince first before saw image x.store.known.layout p seen
     -- The crash came at any moment of a round, whatever the round would have answered.
-    InRound : (x y : Parts D) (p : Past) (seen : List (ℕ × Event)) (answer : Result ℕ StoreError) → Lives x p seen → HasMadeRound device h p x y answer
-        → MayBeLeft (device x.store.disk) (device y.store.disk) image → Life image y.store.known.layout p y.seat.view.history
+    InRound : (x y : Parts D) (p : Past) (seen : List (ℕ × Event)) (answer : Result ℕ StoreError) → LivesSince first before saw x p seen
+        → HasMadeRound device h p x y answer → MayBeLeft (device x.store.disk) (device y.store.disk) image
+        → LifeSince first before saw image y.store.known.layout p y.seat.view.history
     -- The crash came at any moment of a closing, or after it.
-    InClosing : (x : Parts D) (p : Past) (seen : List (ℕ × Event)) (ended : List Ended) (d : Device) → Lives x p seen
+    InClosing : (x : Parts D) (p : Past) (seen : List (ℕ × Event)) (ended : List Ended) (d : Device) → LivesSince first before saw x p seen
         → (from : IsClosedFrom h x.store.known.layout ended p x.seat (device x.store.disk) d)
-        → MayBeLeft (device x.store.disk) d image → Life image x.store.known.layout p from.closed.history
+        → MayBeLeft (device x.store.disk) d image → LifeSince first before saw image x.store.known.layout p from.closed.history
+
+  -- A heap was opened and lived, until a crash left this image.
+  pub record Life (image : List ℕ) (l : Layout) (p : Past) (seen : List (ℕ × Event)) : Type 0 where
+    pub first : Parts D
+    pub before : Past
+    pub saw : List (ℕ × Event)
+    pub lives : Lives first before saw
+    pub until : LifeSince first before saw image l p seen
