@@ -22,18 +22,18 @@
  *   NOTHING              the handle was never opened; or its heap has ended, and the library has reused its slot for another heap; or
  *                        zelamiku_thread_end has ended the handle
  *   FORKED               this process is a forked child, and the heap is its parent's. The parent goes on
- * "Ended" in a comment stands for any of the five statuses below. They mean: the heap has ended, every later call on it returns the same status, and
- * what was durable stays:
+ * "Ended" in a comment stands for any of the five statuses below. The heap has ended, and what was durable stays. Every later call on the heap
+ * returns the same status, unless the call's comment says otherwise:
  *   CLOSED               it was closed or stopped
  *   ABANDONED            it was stopped with this reason (zelamiku_heap_stop)
  *   LOST                 a sync has failed, or the program has closed the heap's descriptor. What wasn't durable may be gone, though reading the
- *                        file still returns it. Close the heap and open it again; if that fails with EIO, mount the file system again first
+ *                        file still returns it. Close the heap and open it again. If the open fails with EIO, remount the file system, then open
  *   FAILED, WORN         the heap has stopped: there was no memory, or a number has reached its limit. Close the heap, and open it again
  * If the heap ends during an enter or a wait, that call may still succeed, and its section may go on. Then the section's last exit returns the
  * reason.
  * DEVICE doesn't end the heap: a write has failed, for example on a full disk. Nothing is lost. The next call that waits for a round retries
- * the write, and the helper retries it each second. After a stop nobody would, so there a failed write is LOST. Each call that fails also records
- * the path, the cause and the cure, for its thread: zelamiku_heap_failure returns them.
+ * the write, and the helper retries it each second. After a stop nothing retries it, so a stop whose write fails returns LOST. Each call that fails
+ * also records the path, the cause and the cure, for its thread: zelamiku_heap_failure returns them.
  *
  * Structs. Each struct with a `size` can grow, up to 4,096 bytes. The program sets `size` to sizeof the struct before the call. The library reads
  * and writes no byte beyond that size, so a program that was built with an older header works with a newer library. A member that the program
@@ -116,11 +116,11 @@ typedef enum {
     ZELAMIKU_NO_FAT = 17,         /* 1,024 other monitors were waited on, or held with more than 256 locks at once, before this one */
     ZELAMIKU_WORN = 18,           /* a number has reached its limit: the monitor's 2^40 - 1, the lane's 2^62, the control's 2^64 - 1 */
     ZELAMIKU_HELD = 19,           /* another thread has the monitor, or had it when this one tried */
-    ZELAMIKU_FAILED = 22,         /* the heap has stopped, in this call or an earlier one: there was no memory for the calls of the device */
+    ZELAMIKU_FAILED = 22,         /* the heap has stopped, in this call or an earlier one: there was no memory for its calls on the device */
     ZELAMIKU_BAD_ARGUMENT = 24,   /* a pointer is NULL, a struct has a wrong size, or a number is out of its limits */
     ZELAMIKU_NOT_FORMATTED = 25,  /* the file or the device holds something other than a heap, and isn't free */
     ZELAMIKU_TOO_SMALL = 27,      /* the device has fewer bytes than the heap takes */
-    ZELAMIKU_DEVICE = 32,         /* a call of the file or the device has failed; the heap goes on */
+    ZELAMIKU_DEVICE = 32,         /* a call on the file or the device has failed; the heap goes on */
     ZELAMIKU_LOST = 33,           /* a sync or a stop's last write has failed, the connection has ended or the file was closed: the heap has ended */
     ZELAMIKU_BUSY = 34,           /* another process has the heap, this one has it open already, or the file was replaced meanwhile */
     ZELAMIKU_POOL_EMPTY = 36,     /* no slot of the pool is free */
@@ -178,8 +178,8 @@ typedef struct {
 } zelamiku_failure;
 
 /* Describes the calling thread's last failed call: fills in `failure`, unless it is NULL, and returns all of it as one line:
- * "PATH: CALL: CAUSE: the text of errno; CURE". "": no call has failed. HELD, BEHIND and POOL_EMPTY aren't failures: they
- * leave the record as it was. NULL: `failure` has a wrong size, and is unchanged. */
+ * "PATH: CALL: CAUSE: the text of errno; CURE". Returns "" if no call has failed, and NULL if `failure` has a wrong size, which leaves it unchanged.
+ * HELD, BEHIND and POOL_EMPTY aren't failures: they leave the record as it was. */
 const char *zelamiku_heap_failure(zelamiku_failure *failure);
 
 /* ---- a device of your own ----
@@ -197,7 +197,7 @@ const char *zelamiku_heap_failure(zelamiku_failure *failure);
  *           the last successful sync is kept: the library syncs again, and doesn't repeat the writes. The system's fdatasync doesn't
  *           guarantee that, so return LOST if it fails
  *   length  sets `length` to how many bytes the device has. The number must not fall while the heap is open
- * After a crash each range that was written since the last sync may hold any bytes; every other byte keeps its value. docs/FORMAT.md, "What the
+ * A crash may leave any bytes in the ranges that were written since the last sync. Every other byte must keep its value. docs/FORMAT.md, "What the
  * device keeps", says which devices promise that. Each opening also rewrites three single bytes, at 8, 64 and 1,112, with the values that it has
  * read there: a crash during such a rewrite must not change a durable byte.
  *
@@ -232,7 +232,7 @@ typedef struct {
 enum { ZELAMIKU_LOG_INFO = 0, ZELAMIKU_LOG_WARNING = 1, ZELAMIKU_LOG_ERROR = 2 };
 typedef void zelamiku_log(void *context, uint32_t level, const char *text);
 
-/* What a heap is made of, and how it works. A good plan sets size, objects, fields and count, and leaves the rest 0. The library reads it, and
+/* What a heap is made of, and how it works. Most plans set size, objects, fields and count, and leave the rest 0. The library reads the plan, and
  * what it points to, during zelamiku_heap_open only.
  * Records of a section lie in its lane's ring until a round takes them, and in the lane's log until they are durable. A thread without room in
  * either sleeps until a round. A larger ring and log therefore give more sections a second if syncs are slow and few threads wait. A ring holds
@@ -277,8 +277,8 @@ enum {
     ZELAMIKU_DAMAGED_LOG = 5      /* no threads can have left these records */
 };
 
-/* What an opening found. It leaves the helper's lane out: `lanes` counts the lanes of threads, and `dropped` counts only threads' sections, and of
- * these only what the log has: a section that no round had logged is lost without being counted.
+/* What an opening found. The helper's lane is left out: `lanes` counts the threads' lanes, and `dropped` the threads' sections that are in the log.
+ * A section that no round had logged is lost without being counted.
  * Exception: if `dropped` isn't 0, `undone` also counts fields whose old values were in the helper's lane. If `dropped` is 0, `undone` is 0. */
 typedef struct {
     uint32_t size;         /* sizeof(zelamiku_report) */
@@ -296,7 +296,7 @@ typedef struct {
     uint64_t bytes;        /* of the image */
     uint64_t dropped;      /* the sections that recovery dropped; none was acknowledged. zelamiku_heap_dropped has each */
     uint64_t undone;       /* the fields that recovery has set back to an old value */
-    uint64_t kept[ZELAMIKU_MOST_LANES]; /* how many sections of each lane were kept, since the previous opening */
+    uint64_t kept[ZELAMIKU_MOST_LANES]; /* how many of each lane's sections since the previous opening were kept */
 } zelamiku_report;
 
 /* Opens the heap in the file at this path: recovers it, or makes it if there is no file, or a free one (empty, only zeros, or left by an
@@ -366,8 +366,10 @@ ZELAMIKU_MUST_USE zelamiku_status zelamiku_heap_dropped(zelamiku_heap heap, size
 /* Makes all sections durable, and closes the heap. No section may be open. Threads that still have lanes get CLOSED. Returns OK, or
  *   RUNNING   a section is open, or a thread waits. The heap stays open
  *   DEVICE    a write has failed. The heap stays open
- *   Ended     the heap had ended already, and is released now. If another thread is closing or stopping it, this call waits until it has ended
- *   NO_MEMORY, FAILED, WORN: the heap has ended before its last writes and syncs were all made. Nothing is lost: the next open recovers it */
+ *   Ended     the heap had ended already, or its last round has failed: what wasn't durable may be lost. The heap is released now. If another thread
+ *             is closing or stopping it, this call waits until it has ended
+ *   NO_MEMORY all sections are durable, but the close's own last writes and syncs weren't all made. The heap has ended; the next open recovers it.
+ *             FAILED and WORN may also mean this */
 ZELAMIKU_MUST_USE zelamiku_status zelamiku_heap_close(zelamiku_heap heap);
 
 /* Stops a heap whose threads may be in sections or wait: from now on their calls return `why`, even calls that sleep now. Before the stop returns,
@@ -428,7 +430,7 @@ ZELAMIKU_MUST_USE zelamiku_status zelamiku_heap_stats(zelamiku_heap heap, zelami
 typedef struct {
     uint32_t lane;      /* the thread's */
     uint32_t object;    /* whose monitor it wants */
-    uint32_t owner;     /* the lane that has it; ZELAMIKU_NOBODY: none now, or unknown, because all lanes are in sections and none sleeps */
+    uint32_t owner;     /* the lane that has it; ZELAMIKU_NOBODY: none now, or unknown, because every lane was busy at that moment */
     uint32_t in_circle; /* 1: it waits in a circle of threads, none of which can go on */
 } zelamiku_wait;
 
@@ -475,7 +477,7 @@ ZELAMIKU_MUST_USE zelamiku_status zelamiku_thread_store(zelamiku_thread thread, 
 
 /* Undoes what the open section has stored: each field gets the value that it had before the section's first store to it, and each slot of a pool
  * is taken or free as it was. The monitors stay held and the section goes on. It may store again; otherwise it ends as a section without stores.
- * After a crash no state in between shows, because all of it is one section. Threads that it has notified stay notified.
+ * A crash never shows a state in between: it keeps or drops the whole section. Threads that the section has notified stay notified.
  *   - A section can be reverted while it holds every monitor under which it has stored. Once it has freed one of them, by an exit or a wait,
  *     and goes on with others, it can no longer be reverted: other threads may have seen those values. For this rule, stores that a revert has
  *     undone don't count.
@@ -525,9 +527,9 @@ typedef struct {
 ZELAMIKU_MUST_USE zelamiku_status zelamiku_thread_progress(zelamiku_thread thread, zelamiku_progress *progress);
 
 /* Sleeps until the thread's first `sections` sections are durable, at most until the deadline (zelamiku_now, or ZELAMIKU_NO_DEADLINE).
- * ZELAMIKU_ALL_SECTIONS, or a number above those ended, means all. It requests a round, and sleeps on while a section that one of them depends on is
- * open. `is_durable` gets whether they are. A deadline that has passed requests the round and doesn't sleep. A timeout changes nothing for the
- * sections. Any thread may call it. Returns OK, also at the deadline, or
+ * ZELAMIKU_ALL_SECTIONS, or a number above those ended, means all. The call requests a round, and sleeps on while a section that one of them depends
+ * on is open. `is_durable` becomes true if they are durable, else false. With a deadline that has passed the call requests the round and doesn't
+ * sleep. A timeout changes nothing for the sections. Any thread may call it. Returns OK, also at the deadline, or
  *   RUNNING  only for ZELAMIKU_ALL_SECTIONS itself: the thread has a section open. Exit its monitors first
  *   DEVICE   a write has failed: call again
  *   Ended    the sections did not become durable; or, for ZELAMIKU_ALL_SECTIONS alone, an open one was cut off */
@@ -544,8 +546,8 @@ ZELAMIKU_MUST_USE static inline zelamiku_status zelamiku_thread_await(zelamiku_t
  *
  * A pool has slots, numbered from 0. It lies in persistent fields of one object, which guards them: the head, and after it a field for each
  * slot. The program keeps a slot's contents in fields of its own, as field BASE + slot. They may hold the numbers of other slots, which makes
- * lists and trees. If a crash drops a section, what it took and released is undone; if the section is kept, so is that. The program
- * must not store to the pool's fields by other calls. The image doesn't record where a pool lies: the program must know. */
+ * lists and trees. If a crash drops a section, the slots that it took or released are as they were before it. The program must not store to the
+ * pool's fields by other calls. The image doesn't record where a pool lies: the program must know. */
 
 /* Fills in the fields of a pool of `count - 1` slots, all free: `fields` gets the head and then the slots, one after another, for the plan.
  * Returns OK. BAD_ARGUMENT: `count` is below 2. TOO_MANY: it is above ZELAMIKU_MOST_SLOTS + 1. After either error `fields` is unchanged
