@@ -57,7 +57,7 @@ def is_check(words, doc):
 
 
 def finish(tool, files, checks, wrong=(), option=""):
-    """Writes the files that are others than these texts, by path; where the tool only checks, they are wrong. Tells what is, and returns the status."""
+    """Writes the files that are others than these texts, by path; where the tool only checks, they are wrong. Prints what is wrong, and returns the status."""
     wrong = list(wrong)
     for path, text in files.items():
         if os.path.exists(f"{ROOT}/{path}") and read(path) == text:
