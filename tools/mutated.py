@@ -26,12 +26,14 @@ from concurrent.futures import ThreadPoolExecutor
 
 from made import ROOT, read
 
-# Changes that nobody could see: the file, a text of the line, the operator ("": each), and why.
+# Changes that nobody could see: the file, what the line has, the operator ("": each), and why.
 EQUIVALENT = [
-    ("__main__.py", "before.get(name, (None, 0))", "", "a member that the old declaration hasn't has no first field there"),
+    ("__main__.py", r"before.get\(name, \(None, 0", "", "a member that the old declaration hasn't has no first field there"),
     ("heap.py", "ring=4_096, fingerprint=plan", "no argument", "it only saves memory while a new heap is made"),
     ("declare.py", "raise NotImplementedError", "", "each kind of member has its own"),
-    ("durable.rs", "Ok(_) => (None, true)", "truth", "it only asks for the round once more"),
+    ("durable.rs", r"let mut is_durable = false;", "", "the library writes it"),
+    ("held.rs", r"let mut (value|lanes|slot) = ", "", "the library writes it"),
+    ("durable.rs", r"Ok\(_) => \(None, true\)", "truth", "it only asks for the round once more"),
 ]
 
 # ---- Python: by the tree of its syntax ----
@@ -282,7 +284,7 @@ def rust(folder):
         for program, *name in map(str.split, tests):
             with subprocess.Popen([program, *(["--exact"] if name else []), *name], cwd=at, env={**how, **environment}, stdout=subprocess.PIPE, stderr=subprocess.STDOUT, text=True) as it:
                 try:
-                    out = it.communicate(timeout=min(seconds, 90))[0]
+                    out = it.communicate(timeout=min(seconds, 60))[0]
                 except subprocess.TimeoutExpired:
                     it.kill()
                     out = "it doesn't end"
@@ -321,19 +323,22 @@ def main(of, asked):
         if asked.list:
             return print("\n".join(map(told, chosen)))
         tests, run = binding.send(chosen)
-        for test in tests:
-            log, begun = f"{folder}/reached", time.monotonic()
+
+        def reach(test):
+            log, begun = f"{folder}/{tests.index(test)}.log", time.monotonic()
             # (the log takes its time where signals come)
             if run([test], 1200, REACHED=log) and (wrong := run([test], 1200)):
-                sys.exit(f"mutants: without a change: {test}: {wrong}")
+                print(f"mutants: without a change: {test}: {wrong}", flush=True)
+                os._exit(1)
             if os.path.exists(log):
                 with open(log, encoding="utf-8") as file:
                     for it in set(file.read().split()):
                         reached[int(it)].append((time.monotonic() - begun, test))
-                os.remove(log)
+
+        list(pool.map(reach, tests))
 
         def one(it):
-            if why := next((why for name, part, operator, why in EQUIVALENT if name == it["file"] and operator in ("", it["operator"]) and part in it["text"]), ""):
+            if why := next((why for name, part, operator, why in EQUIVALENT if name == it["file"] and operator in ("", it["operator"]) and re.search(part, it["text"])), ""):
                 return "equivalent", why
             quickest = sorted(reached[it["number"]])
             wrong = run([test for _, test in quickest], 60 + 4 * sum(seconds for seconds, _ in quickest), MUTANT=str(it["number"])) if quickest else ""

@@ -186,10 +186,16 @@ fn a_stop_that_cant_write_says_what_is_lost() {
     assert_eq!(value(&mut counters(2).open(&scratch).unwrap().session().unwrap(), 0), 6);
 }
 
-fn threads_that_wake() -> usize {
+// Of each thread that wakes: how often it has slept.
+fn sleeps() -> Vec<u64> {
     let tasks = std::fs::read_dir("/proc/self/task").unwrap();
-    let names = tasks.filter_map(|task| std::fs::read_to_string(task.ok()?.path().join("comm")).ok());
-    names.filter(|name| name.trim() == "zelamiku-wakes").count()
+    let told = tasks.filter_map(|task| std::fs::read_to_string(task.ok()?.path().join("status")).ok());
+    let wakes = told.filter(|text| text.contains("Name:\tzelamiku-wakes\n"));
+    wakes.map(|text| text.split_once("\nvoluntary_ctxt_switches:").unwrap().1.lines().next().unwrap().trim().parse().unwrap()).collect()
+}
+
+fn threads_that_wake() -> usize {
+    sleeps().len()
 }
 
 #[test]
@@ -215,6 +221,15 @@ fn one_thread_wakes_all_of_a_heap_and_ends_with_it() {
         }
     }
     assert_eq!(threads_that_wake(), 2);
+    // It sleeps while nobody waits for it, however many rounds there are.
+    let mut session = heaps[0].session().unwrap();
+    let before: u64 = sleeps().iter().sum();
+    for value in 0..30 {
+        store(&mut session, value);
+        session.durable().unwrap();
+    }
+    assert!(sleeps().iter().sum::<u64>() < before + 10);
+    drop(session);
     for (at, heap) in heaps.into_iter().enumerate() {
         drop(heap);
         until("the heap's thread has ended", || threads_that_wake() == 1 - at);

@@ -41,6 +41,17 @@ fn a_heap_that_has_to_be_there_isnt_made() {
 }
 
 #[test]
+fn a_heap_has_eight_lanes_of_a_rings_records_unless_it_is_told_otherwise() {
+    let scratch = Scratch::new("defaults");
+    let options = Heap::options().objects(1).field(Field(0), Object(0), 7);
+    assert_eq!(options.clone().open(&scratch).unwrap().lanes(), 8);
+    let heap = options.open(&scratch).unwrap();
+    let report = heap.report().unwrap();
+    assert_eq!((report.lanes, report.capacity, report.objects, report.fields), (8, 16_384, 1, 1));
+    assert_eq!(report.bytes, std::fs::metadata(&scratch).unwrap().len());
+}
+
+#[test]
 fn names_in_another_order_are_another_heap() {
     let scratch = Scratch::new("names");
     accounts().names(&["alice", "bob"]).open(&scratch).unwrap().close().unwrap();
