@@ -3,7 +3,7 @@ use common::Scratch;
 use std::error::Error as _;
 use std::io;
 use std::time::Duration;
-use zelamiku::{Difference, Error, ErrorKind, Field, Heap, NewField, Object, Options, Part, Pool, Refusal, Why};
+use zelamiku::{Cause, Difference, Error, ErrorKind, Field, Heap, NewField, Object, Options, Part, Pool, Refusal, Why};
 
 mod common;
 
@@ -49,6 +49,23 @@ fn a_heap_has_eight_lanes_of_a_rings_records_unless_it_is_told_otherwise() {
     let report = heap.report().unwrap();
     assert_eq!((report.lanes, report.capacity, report.objects, report.fields), (8, 16_384, 1, 1));
     assert_eq!(report.bytes, std::fs::metadata(&scratch).unwrap().len());
+}
+
+#[test]
+fn a_section_that_nobody_waits_for_is_durable_after_the_linger() {
+    let scratch = Scratch::new("linger");
+    let heap = accounts().linger(Duration::from_secs(3_600)).open(&scratch).unwrap();
+    let mut session = heap.session().unwrap();
+    common::count(&mut session, 0);
+    std::thread::sleep(Duration::from_millis(300));
+    assert!(!session.is_durable(1));
+    drop((session, heap));
+    // No time at all is the least that the library knows.
+    let heap = accounts().linger(Duration::ZERO).open(&scratch).unwrap();
+    let mut session = heap.session().unwrap();
+    common::count(&mut session, 0);
+    common::until("it is durable", || session.is_durable(1));
+    assert_eq!(heap.stats().unwrap().last_cause, Cause::Linger);
 }
 
 #[test]
