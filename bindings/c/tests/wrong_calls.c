@@ -4,6 +4,7 @@
 #define _GNU_SOURCE
 #include <errno.h>
 #include <fcntl.h>
+#include <malloc.h>
 #include <pthread.h>
 #include <stdio.h>
 #include <stdlib.h>
@@ -734,6 +735,11 @@ static void full(void) {
     MUST(setrlimit(RLIMIT_FSIZE, &before) == 0);
     open_all(&small);
     open_all(&small);
+    /* A heap that was made and closed keeps no memory, but its path until another one has its place. */
+    size_t used = mallinfo2().uordblks;
+    for (unsigned i = 0; i < 100; i++)
+        MUST(zelamiku_heap_open(&heap, "memory", &plan, NULL) == ZELAMIKU_OK && zelamiku_heap_close(heap) == ZELAMIKU_OK && unlink("memory") == 0);
+    MUST(mallinfo2().uordblks < used + 15000);
 }
 
 int main(int argc, char **argv) {
