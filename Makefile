@@ -29,7 +29,7 @@ THREADED := threads.tsan revert.tsan event.tsan places.tsan device.tsan
 FLAGS.plain := -O2
 FLAGS.asan := -O2 -g -fsanitize=address,undefined
 FLAGS.tsan := -O1 -g -fsanitize=thread
-FLAGS.cov := -O0 -g -w --coverage -fprofile-update=atomic -Wl,--wrap=_exit $(OUT)/exits.c
+FLAGS.cov := -O0 -g -w --coverage -fprofile-update=atomic -Wl,--wrap=_exit,--wrap=__gcov_fork $(OUT)/exits.c
 # Tests that haven't the scheduler's C in them; and words that a program is given behind its folder.
 ALONE := wrong_calls places device sizes
 WORDS.revert.tsan := threads

@@ -148,7 +148,8 @@ static void end_draft(draft *draft) {
     close_listed(&draft->old);
     lock(&registry);
     struct draft **from = &drafts;
-    for (; *from != draft; from = &(*from)->next) assert(*from != NULL);
+    for (; *from != draft; from = &(*from)->next)
+        assert(*from != NULL);
     *from = draft->next;
     unlock(&registry);
     errno = error;

@@ -32,7 +32,7 @@ static zelamiku_status tell_size(const zelamiku_device *device, uint64_t *size) 
 }
 
 static bool has_functions(const zelamiku_device *device) {
-    return device != NULL && device->read != NULL && device->write != NULL && device->sync != NULL && device->length != NULL;
+    return device->read != NULL && device->write != NULL && device->sync != NULL && device->length != NULL;
 }
 
 /* Whether the heap's descriptor still is its file's. Another file is neither written nor taken for the heap's. errno is EBADF then. */

@@ -119,7 +119,8 @@ static void close_event(heap *heap, seat *own) {
 
 /* The same for all lanes that a heap of the place has ever had. */
 static void close_events(heap *heap) {
-    for (uint32_t lane = 0; heap->events > 0 && lane < ZELAMIKU_MOST_LANES; lane++) close_event(heap, seat_at(heap, lane));
+    if (heap->events == 0) return;
+    for (uint32_t lane = 0; lane < ZELAMIKU_MOST_LANES; lane++) close_event(heap, seat_at(heap, lane));
 }
 
 /* The thread returns the lane, also after the heap has ended: it waits for nothing, and has no event. */

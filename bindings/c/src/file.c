@@ -109,11 +109,10 @@ static zelamiku_status sync_of_file(void *context) {
 }
 
 static zelamiku_status length_of_file(void *context, uint64_t *size) {
-    struct stat info;
-    if (fstat(descriptor_of(context), &info) != 0) return ZELAMIKU_DEVICE;
-    *size = (uint64_t)info.st_size;
-    bool is_known = !S_ISBLK(info.st_mode) || ioctl(descriptor_of(context), BLKGETSIZE64, size) == 0;
-    return is_known ? ZELAMIKU_OK : ZELAMIKU_DEVICE;
+    off_t end = lseek(descriptor_of(context), 0, SEEK_END); /* also of a block device, whose st_size is 0 */
+    if (end < 0) return ZELAMIKU_DEVICE;
+    *size = (uint64_t)end;
+    return ZELAMIKU_OK;
 }
 
 static zelamiku_device device_of_file(int file) {

@@ -14,13 +14,13 @@ static void forked(void) {
         heap->end_status = ZELAMIKU_FORKED;
         shut(heap, true);
         if (!heap->is_used) continue;
-        if (heap->file >= 0 && has_its_file(heap)) (void)close(heap->file);
+        if (has_its_file(heap)) (void)close(heap->file); /* where there is none, -1, which closes nothing */
         heap->file = -1; /* a child of this child may have another file by that number */
         heap->volume = heap->inode = 0;
     }
     for (const draft *draft = drafts; draft != NULL; draft = draft->next) {
-        if (draft->old >= 0) (void)close(draft->old);
-        if (draft->file >= 0) (void)close(draft->file);
+        (void)close(draft->old);
+        (void)close(draft->file);
     }
     drafts = NULL;
     opens_underway = 0; /* their threads aren't here */

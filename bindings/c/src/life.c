@@ -62,8 +62,7 @@ static void mark_atomics(heap *heap) {
 
 /* Removes all that an earlier heap has left in the place. */
 static void clear_place(heap *heap, const zelamiku_plan *plan) {
-    long processors = sysconf(_SC_NPROCESSORS_ONLN);
-    heap->processors = processors > 1 ? (uint32_t)processors : 1;
+    heap->processors = (uint32_t)sysconf(_SC_NPROCESSORS_ONLN); /* the most there could be, if it isn't known */
     heap->linger = (uint64_t)(plan->linger != 0 ? plan->linger : ZELAMIKU_DEFAULT_LINGER) * 1000;
     heap->log = plan->log;
     heap->log_context = plan->log_context;
@@ -411,18 +410,11 @@ zelamiku_status zelamiku_heap_await_round(zelamiku_heap handle, uint64_t seen, u
     return ON_HEAP(handle, "await a round", await_round(heap, seen, deadline, rounds));
 }
 
-/* The bytes of the disk in memory, between two rounds: what the device holds once all pending calls are made. */
-static zelamiku_status copy_bytes(heap *heap, uint8_t *bytes) {
-    zelamiku_status status = ZELAMIKU_OK;
-    uint64_t copied = 1;
-    for (uint64_t at = 0; status == ZELAMIKU_OK && at < heap->size && copied > 0; at += copied)
-        status = zelamiku_copy(&heap->handle, at, bytes + at, (size_t)(heap->size - at), &copied);
-    return status;
-}
-
-/* The heap's bytes, of a moment between two rounds, and the mode of its file, or that of a new file if it has none. */
+/* The heap's bytes, of a moment between two rounds: what the device holds once all pending calls are made. And the mode of its file, or that of a
+ * new file if it has none. */
 static zelamiku_status take_bytes(heap *heap, uint8_t *bytes, mode_t *mode) {
     struct stat info = {.st_mode = 0600};
+    uint64_t copied = 0;
     lock(&heap->mutex);
     zelamiku_status status = (zelamiku_status)heap->end_status;
     if (status == ZELAMIKU_OK) {
@@ -431,7 +423,8 @@ static zelamiku_status take_bytes(heap *heap, uint8_t *bytes, mode_t *mode) {
         if (status == ZELAMIKU_OK) {
             unlock(&heap->mutex);
             if (heap->file >= 0) (void)fstat(heap->file, &info);
-            status = copy_bytes(heap, bytes);
+            status = zelamiku_copy(&heap->handle, 0, bytes, (size_t)heap->size, &copied);
+            assert(status == ZELAMIKU_OK && copied == heap->size);
             lock(&heap->mutex);
         }
         lead_no_more(heap, false); /* if the heap has ended, before anybody sees `is_led`: the thread that ends it frees it meanwhile */
@@ -445,17 +438,16 @@ static zelamiku_status take_bytes(heap *heap, uint8_t *bytes, mode_t *mode) {
 /* Opens and locks what is at the draft's path, if there is something. DEVICE, by errno. */
 static zelamiku_status take_target(draft *draft) {
     struct stat info;
-    bool is_for_reading = !open_listed(&draft->old, draft->path, O_RDWR, 0) && (errno == EACCES || errno == EROFS);
+    bool is_for_reading = !open_listed(&draft->old, draft->path, O_RDWR, 0) && errno == EACCES;
     if (is_for_reading) (void)open_listed(&draft->old, draft->path, O_RDONLY, 0);
     if (draft->old < 0) return errno == ENOENT ? ZELAMIKU_OK : ZELAMIKU_DEVICE;
     if (fstat(draft->old, &info) != 0) return ZELAMIKU_DEVICE;
     if (S_ISREG(info.st_mode)) return is_open_here(&info) ? ZELAMIKU_BUSY : lock_alone(draft->old);
-    errno = S_ISDIR(info.st_mode) ? EISDIR : EINVAL;
-    return ZELAMIKU_DEVICE;
+    return errno = EINVAL, ZELAMIKU_DEVICE;
 }
 
 static zelamiku_status no_copy(const char *path) {
-    return fail(path, ZELAMIKU_DEVICE, errno, "the copy can't be written", "what was at the path is there still", "copy");
+    return fail(path, ZELAMIKU_DEVICE, errno, "the copy can't be written", errno == EINVAL ? "name a regular file" : NULL, "copy");
 }
 
 /* Begins a copy: locks the file at the path, where its links lead, until the copy has replaced it. So that file is no heap that is open, and

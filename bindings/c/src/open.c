@@ -150,12 +150,12 @@ static zelamiku_status compare(opening *opening) {
     zelamiku_field *has = (zelamiku_field *)calloc(report->fields, sizeof *has);
     if (has == NULL) return refuse(opening, ZELAMIKU_NO_MEMORY, 0);
     zelamiku_status status = zelamiku_fields(&opening->handle, &opening->shape, has, report->fields);
-    uint64_t fingerprint = status == ZELAMIKU_OK ? take_fingerprint(opening, has) : 0;
-    if (status == ZELAMIKU_OK &&
-        (differs(opening, ZELAMIKU_DIFFERENT_OBJECTS, 0, report->objects, plan->objects) ||
-         differs(opening, ZELAMIKU_DIFFERENT_COUNT, 0, report->fields, plan->count) ||
-         differs(opening, ZELAMIKU_DIFFERENT_LANES, 0, report->lanes, opening->threads) || differs_in_fields(opening, has) ||
-         (fingerprint != 0 && differs(opening, ZELAMIKU_DIFFERENT_FINGERPRINT, 0, fingerprint, plan->fingerprint))))
+    assert(status == ZELAMIKU_OK);
+    uint64_t fingerprint = take_fingerprint(opening, has);
+    if (differs(opening, ZELAMIKU_DIFFERENT_OBJECTS, 0, report->objects, plan->objects) ||
+        differs(opening, ZELAMIKU_DIFFERENT_COUNT, 0, report->fields, plan->count) ||
+        differs(opening, ZELAMIKU_DIFFERENT_LANES, 0, report->lanes, opening->threads) || differs_in_fields(opening, has) ||
+        (fingerprint != 0 && differs(opening, ZELAMIKU_DIFFERENT_FINGERPRINT, 0, fingerprint, plan->fingerprint)))
         status = ZELAMIKU_OTHER_HEAP;
     free(has);
     return status == ZELAMIKU_OK ? status : refuse(opening, status, 0);
@@ -593,7 +593,6 @@ static zelamiku_status open_planned(opening *opening, zelamiku_heap *opened) {
     opening->threads = plan->lanes != 0 ? plan->lanes : ZELAMIKU_DEFAULT_LANES;
     opening->ring = plan->ring != 0 ? plan->ring : ZELAMIKU_DEFAULT_RING;
     opening->capacity = plan->capacity != 0 ? plan->capacity : opening->ring;
-    opening->report.bad_lane = ZELAMIKU_NOBODY;
     opening->heap = place_for(opening->path, plan, &status);
     if (opening->heap == NULL) return status;
     status = plan->device != NULL ? open_device(opening) : open_path(opening);
@@ -606,7 +605,7 @@ static zelamiku_status open_planned(opening *opening, zelamiku_heap *opened) {
 }
 
 zelamiku_status zelamiku_heap_open(zelamiku_heap *opened, const char *path, const zelamiku_plan *plan, zelamiku_report *report) {
-    opening opening = {.path = path};
+    opening opening = {.path = path, .report.bad_lane = ZELAMIKU_NOBODY};
     if (opened != NULL) opened->number = 0;
     if (report != NULL && !has_size(report, LEAST_REPORT)) return wrong_size("open", "zelamiku_report");
     if (report != NULL) give_out(report, &opening.report, sizeof opening.report);

@@ -54,7 +54,7 @@ static const char *const TEXTS[][2] = {
 static const char *text_of(uint32_t status, unsigned which) {
     assert(which < 2);
     bool is_there = status < sizeof TEXTS / sizeof *TEXTS && TEXTS[status][0] != NULL;
-    return is_there ? TEXTS[status][which] : which == 0 ? "no status of zelamiku.h" : "";
+    return is_there ? TEXTS[status][which] : "no status of zelamiku.h";
 }
 
 const char *zelamiku_status_text(uint32_t status) {
@@ -139,8 +139,8 @@ static zelamiku_status name_field(zelamiku_status status, uint32_t field) {
 static void compose(int error) {
     char system[96] = "";
     const char *path = failure.path, *call = failure.call, *cause = failure.cause, *cure = failure.cure;
-    (void)snprintf(failure.text, sizeof failure.text, "%s%s%s%s%s%s%s%s%s", path, path[0] != 0 ? ": " : "", call, call[0] != 0 ? ": " : "", cause,
-                   error != 0 ? ": " : "", error != 0 ? strerror_r(error, system, sizeof system) : "", cure[0] != 0 ? "; " : "", cure);
+    (void)snprintf(failure.text, sizeof failure.text, "%s%s%s: %s%s%s; %s", path, path[0] != 0 ? ": " : "", call, cause, error != 0 ? ": " : "",
+                   error != 0 ? strerror_r(error, system, sizeof system) : "", cure);
 }
 
 /* Keeps for the thread why its call has failed: the path, the call, the status or `cause` in its place, the system's error, and the cure, which is

@@ -53,6 +53,8 @@ static void note_line(void *of, uint32_t level, const char *text) {
 
 /* ---- the device ---- */
 
+static int error_now = ENOSPC; /* of a call that fails, but for SILENT */
+
 /* The fault that this call meets. */
 static unsigned fault_of_call(void) {
     unsigned call = ++calls, at = fault_at;
@@ -64,7 +66,7 @@ static zelamiku_status begin_call(const char *kind, unsigned *met) {
     *met = fault_of_call();
     if (*met == NO_FAULT) return ZELAMIKU_OK;
     kind_of_fault = kind;
-    if (*met != SILENT) errno = ENOSPC;
+    if (*met != SILENT) errno = error_now;
     if (*met == HANGS) {
         hung++;
         while (!is_let_go) usleep(1000);
@@ -126,7 +128,7 @@ static void empty(void) {
 
 /* The cause that is reported. Where a function leaves errno as it was, no errno of before is its cause. */
 static int cause(void) {
-    return fault == SILENT ? EIO : ENOSPC;
+    return fault == SILENT ? EIO : error_now;
 }
 
 /* From now on: the fault at the call from here. */
@@ -269,10 +271,12 @@ static void refuses(zelamiku_status wanted, const zelamiku_plan *plan, const cha
 
 static void refusals(void) {
     zelamiku_plan plan = PLAN;
-    zelamiku_device device = DEVICE;
-    device.sync = NULL;
-    heap.number = 1;
-    MUST(open_on(&heap, "device", &device, &PLAN, NULL) == ZELAMIKU_BAD_ARGUMENT && heap.number == 0 && says("four functions"));
+    for (unsigned lacks = 0; lacks < 4; lacks++) {
+        zelamiku_device device = {sizeof device, lacks == 0 ? NULL : flaky_read, lacks == 1 ? NULL : flaky_write, lacks == 2 ? NULL : flaky_sync,
+                                  lacks == 3 ? NULL : flaky_length, &held};
+        heap.number = 1;
+        MUST(open_on(&heap, "device", &device, &PLAN, NULL) == ZELAMIKU_BAD_ARGUMENT && heap.number == 0 && says("four functions"));
+    }
     MUST(open_on(&heap, NULL, &DEVICE, &PLAN, NULL) == ZELAMIKU_BAD_ARGUMENT && open_on(NULL, "device", &DEVICE, &PLAN, NULL) == ZELAMIKU_BAD_ARGUMENT);
     empty();
     plant(NO_FAULT, 0);
@@ -340,6 +344,27 @@ static void bad_records(void) {
     MUST(found > 0);
     free_memory(&copy);
     free_memory(&before);
+}
+
+/* A failure tells what to do about the system's error. */
+static void cures(void) {
+    static const struct {
+        int error;
+        const char *cure;
+    } CURES[] = {{ENOSPC, "make room"}, {EDQUOT, "make room"}, {EIO, "its disk has failed: mount the file system again"},
+                 {EROFS, "mount the file system for writing"}, {EACCES, "ask its owner for the right to read and write it"},
+                 {EPERM, "ask its owner for the right to read and write it"}, {ENOENT, "make its folder first"},
+                 {EMFILE, "close some files, or allow more of them (ulimit -n)"}, {ENFILE, "close some files, or allow more of them (ulimit -n)"},
+                 {ENOLCK, "use a file system that has locks"}, {EISDIR, "name a file"}, {ETIMEDOUT, "see the system's error, and call again"}};
+    for (size_t i = 0; i < sizeof CURES / sizeof *CURES; i++) {
+        plant(REFUSED, 1);
+        is_over = false;
+        error_now = CURES[i].error;
+        MUST(open_on(&heap, "device", &DEVICE, &PLAN, NULL) == ZELAMIKU_DEVICE && last_failure().error == error_now);
+        MUST(strcmp(last_failure().cure, CURES[i].cure) == 0);
+    }
+    error_now = ENOSPC;
+    is_over = true;
 }
 
 /* ---- a fault at each call ---- */
@@ -676,6 +701,7 @@ int main(int argc, char **argv) {
     life(argv[1]);
     refusals();
     bad_records();
+    cures();
     times();
     for (unsigned what = REFUSED; what < FAULTS && !is_short; what++) {
         opened += openings(what);

@@ -216,6 +216,13 @@ static void room(void) {
     __atomic_store_n(&syncs_hang, 0, __ATOMIC_SEQ_CST);
     (void)rounds_at_rest();
     MUST(!is_readable(one, 0));
+    /* Once a section has ended since it was told of room, an ask makes the event unreadable. */
+    __atomic_store_n(&syncs_hang, 1, __ATOMIC_SEQ_CST);
+    fill(a, 0);
+    __atomic_store_n(&syncs_hang, 0, __ATOMIC_SEQ_CST);
+    while (zelamiku_thread_enter_until(a, 0, 0) == ZELAMIKU_BEHIND) MUST(is_readable(one, PATIENCE));
+    MUST(zelamiku_thread_exit(a, 0) == ZELAMIKU_OK);
+    await_event(a, one);
     /* Its room depends on an open section: it is told of a few rounds, and then of one that follows that section's end. */
     MUST(zelamiku_thread_enter(a, 0) == ZELAMIKU_OK && zelamiku_thread_enter(a, 1) == ZELAMIKU_OK);
     MUST(zelamiku_thread_store(a, 1, 7) == ZELAMIKU_OK && zelamiku_thread_exit(a, 1) == ZELAMIKU_OK);
@@ -379,6 +386,18 @@ static void failing_writes(void) {
         MUST(status == ZELAMIKU_OK || status == ZELAMIKU_DEVICE);
     }
     await_event(a, event);
+    /* It is told too where it has no room; the write that made none is made again each second, and not sooner. */
+    __atomic_store_n(&writes_fail, 1, __ATOMIC_SEQ_CST);
+    fill(a, 0);
+    troubles = stats().troubles;
+    __atomic_store_n(&failures, 1, __ATOMIC_SEQ_CST);
+    UNTIL(stats().troubles == troubles + 1);
+    MUST(is_readable(event, PATIENCE) && ask_well(a) < progress(a).sections);
+    fill(a, 0);
+    __atomic_store_n(&writes_fail, 0, __ATOMIC_SEQ_CST);
+    while (zelamiku_thread_enter_until(a, 0, 0) == ZELAMIKU_BEHIND) MUST(is_readable(event, PATIENCE));
+    MUST(zelamiku_thread_exit(a, 0) == ZELAMIKU_OK);
+    await_event(a, event);
     MUST(zelamiku_thread_end(a) == ZELAMIKU_OK && zelamiku_thread_end(b) == ZELAMIKU_OK);
     close_heap_well();
 }
@@ -404,11 +423,11 @@ static void *stop_soon(void *data) {
 
 /* Another thread stops the heap: each loop is told, also in a section, and once more when nothing will be acknowledged any more. */
 static void stops(void) {
-    int one, two;
+    int one, two, late;
     uint64_t durable = 0;
     pthread_t thread;
     begin_heap(true);
-    zelamiku_thread a = begin_loop(&one), b = begin_loop(&two);
+    zelamiku_thread a = begin_loop(&one), b = begin_loop(&two), c = begin_thread();
     add(a, 0);
     await_event(a, one);
     MUST(zelamiku_thread_enter(b, 1) == ZELAMIKU_OK && zelamiku_thread_store(b, 1, 5) == ZELAMIKU_OK && zelamiku_thread_enter(b, 2) == ZELAMIKU_OK);
@@ -418,6 +437,8 @@ static void stops(void) {
     while (zelamiku_thread_ask(a, &durable) == ZELAMIKU_OK) MUST(is_readable(one, PATIENCE));
     MUST(zelamiku_thread_ask(a, &durable) == ZELAMIKU_CLOSED && durable == 1 && is_readable(two, PATIENCE));
     MUST(zelamiku_thread_exit(b, 2) == ZELAMIKU_CLOSED && pthread_join(thread, NULL) == 0);
+    /* An event that is made after the end is readable, also after an ask. */
+    MUST(ask_well(c) == 0 && zelamiku_thread_event(c, &late) == ZELAMIKU_OK && is_readable(late, 0) && zelamiku_thread_end(c) == ZELAMIKU_CLOSED);
     /* A section of its own was cut off. */
     MUST(zelamiku_thread_ask(b, &durable) == ZELAMIKU_CLOSED && durable == 0 && zelamiku_thread_end(a) == ZELAMIKU_CLOSED);
     begin_heap(false);

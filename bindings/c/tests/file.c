@@ -14,6 +14,7 @@
 #include <stdio.h>
 #include <stdlib.h>
 #include <string.h>
+#include <linux/capability.h>
 #include <linux/loop.h>
 #include <sys/file.h>
 #include <sys/ioctl.h>
@@ -28,7 +29,6 @@ static int fails_in;       /* which write, sync or rename from now on fails; 0: 
 static int dies_in;        /* at which of them the process is killed; 0: at none */
 static int moves_one_byte; /* and each second call is interrupted */
 static int turn;
-static int replaces;       /* the path leads to another file as soon as this one is locked */
 
 static int is_interrupted(void) {
     if (!moves_one_byte || ++turn % 2 == 0) return 0;
@@ -57,6 +57,11 @@ static void note(int kind, const void *bytes, size_t size, off_t at) {
     step_count++;
 }
 
+static void begin_record(void) {
+    while (step_count > 0) free(steps[--step_count].bytes);
+    records = 1;
+}
+
 static int is_due(void) {
     if (dies_in > 0 && --dies_in == 0) (void)raise(SIGKILL);
     if (fails_in == 0 || --fails_in > 0) return 0;
@@ -70,8 +75,11 @@ static ssize_t flaky_pwrite(int file, const void *bytes, size_t size, off_t at) 
     return pwrite(file, bytes, moves_one_byte && size > 1 ? size / 2 : size, at);
 }
 
+static bool cuts; /* another, which locks nothing, cuts the file once its first bytes were read */
+
 static ssize_t flaky_pread(int file, void *bytes, size_t size, off_t at) {
     if (is_interrupted()) return -1;
+    if (cuts && size > 4096 && ftruncate(file, 4096) != 0) abort();
     return pread(file, bytes, moves_one_byte && size > 4095 ? 4095 : size, at);
 }
 
@@ -133,6 +141,7 @@ static unsigned released_at;        /* at which nap `busy` is unlocked; 0: at no
 static int busy = -1;
 
 static mode_t mode_made; /* that of the last file which was made, before any umask */
+static bool draft_goes;  /* before the next open of one that was there */
 
 static int flaky_open(const char *path, int flags, ...) {
     va_list more;
@@ -140,6 +149,7 @@ static int flaky_open(const char *path, int flags, ...) {
     mode_t mode = (flags & O_CREAT) != 0 ? va_arg(more, mode_t) : 0;
     va_end(more);
     if ((flags & O_CREAT) != 0) mode_made = mode;
+    if (draft_goes && (flags & O_CREAT) == 0 && strstr(path, ".heapctl-new") != NULL) draft_goes = unlink(path) != 0;
     if ((flags & O_DIRECTORY) != 0 && folder_error == EACCES) return errno = EACCES, -1;
     be_slow(path, OPENS_LATE);
     int file = is_interrupted() ? -1 : open(path, flags, mode);
@@ -152,7 +162,6 @@ static void (*before_lock)(void); /* what another does before a file is locked *
 static int replacing_flock(int file, int how) {
     if (is_interrupted()) return -1;
     if (before_lock != NULL && (how & LOCK_EX) != 0) before_lock();
-    if (replaces && (how & LOCK_EX) != 0 && (rename("heap", "moved") != 0 || link("spare", "heap") != 0)) abort();
     return flock(file, how);
 }
 
@@ -301,6 +310,12 @@ static void old(void) {
     MUST(found() == 8);
 }
 
+static const char *replacement;
+
+static void replace_heap(void) {
+    MUST(rename("heap", "moved") == 0 && symlink(replacement, "heap") == 0);
+}
+
 /* One open has the file's heap at a time; and one that was replaced meanwhile has none. */
 static void others(void) {
     zelamiku_heap heap;
@@ -312,10 +327,13 @@ static void others(void) {
     MUST(close(file) == 0 && found() == 8);
     file = open("spare", O_RDWR | O_CREAT | O_CLOEXEC, 0600);
     MUST(file >= 0 && close(file) == 0);
-    replaces = 1;
-    MUST(open_heap(&heap) == ZELAMIKU_BUSY && strstr(zelamiku_heap_failure(NULL), "replaced or removed") != NULL);
-    replaces = 0;
-    MUST(rename("moved", "heap") == 0 && found() == 8);
+    for (int i = 0; i < 2; i++) {
+        replacement = i == 0 ? "spare" : "/dev/null";
+        before_lock = replace_heap;
+        MUST(open_heap(&heap) == ZELAMIKU_BUSY && strstr(zelamiku_heap_failure(NULL), "replaced or removed") != NULL);
+        before_lock = NULL;
+        MUST(rename("moved", "heap") == 0 && found() == 8);
+    }
     MUST(zelamiku_heap_open(&heap, "spare", &plan, NULL) == ZELAMIKU_OK && zelamiku_heap_close(heap) == ZELAMIKU_OK);
 }
 
@@ -365,13 +383,17 @@ static void waits_for_a_volume(void) {
     released_at = 0;
 }
 
-/* Of a large file that has no image little is read at once, and of one that has, the image. */
+/* Of a large file that has no image little is read at once, and of one that has, the image. One that is cut meanwhile is refused. */
 static void sizes(void) {
     zelamiku_heap heap;
     life();
     MUST(truncate("heap", (off_t)1 << 40) == 0);
     most = 0;
     MUST(found() == 8 && most == report.bytes);
+    cuts = true;
+    MUST(open_heap(&heap) == ZELAMIKU_DEVICE && strstr(zelamiku_heap_failure(NULL), "heap: open: it can't be read: Input/output error") != NULL);
+    cuts = false;
+    MUST(open_heap(&heap) == ZELAMIKU_DAMAGED_FILE && report.damage == ZELAMIKU_DAMAGED_LENGTH);
     int file = open("heap", O_RDWR | O_CLOEXEC);
     MUST(pwrite(file, "\xff", 1, 24) == 1);
     most = 0;
@@ -485,7 +507,7 @@ static void openings(void) {
     zelamiku_heap heap;
     life();
     read_head(before);
-    records = 1;
+    begin_record();
     MUST(open_heap(&heap) == ZELAMIKU_OK);
     records = 0;
     MUST(step_count > 6 && steps[0].kind == SYNCED && steps[4].kind == FOLDER_SYNCED);
@@ -495,7 +517,6 @@ static void openings(void) {
         MUST(steps[i + 1].kind == WRITTEN && (size_t)steps[i + 1].at == GATES[i] && steps[i + 1].size == 1);
         MUST(((const uint8_t *)steps[i + 1].bytes)[0] == before[GATES[i]]);
     }
-    while (step_count > 0) free(steps[--step_count].bytes);
     MUST(zelamiku_heap_close(heap) == ZELAMIKU_OK);
     read_head(before);
     for (int call = 1; call <= 5; call++) {
@@ -513,6 +534,9 @@ static void openings(void) {
         MUST(status == (folder_error == EIO ? ZELAMIKU_DEVICE : ZELAMIKU_OK) && whole_syncs == (folder_error != EIO));
         if (status == ZELAMIKU_OK) MUST(zelamiku_heap_close(heap) == ZELAMIKU_OK);
     }
+    folder_error = EACCES;
+    fails_in = 5;
+    MUST(open_heap(&heap) == ZELAMIKU_DEVICE && fails_in == 0 && strstr(zelamiku_heap_failure(NULL), "its folder can't be synced: No space") != NULL);
     folder_error = 0;
     MUST(found() == 8);
 }
@@ -572,7 +596,7 @@ static int cut_off_makings(void) {
     static uint8_t image[1 << 20];
     int count = 0, renamed = 0;
     remove_file();
-    records = 1;
+    begin_record();
     MUST(found() == 5);
     records = 0;
     while (renamed < step_count && steps[renamed].kind != RENAMED) renamed++;
@@ -774,6 +798,21 @@ static void slow_opens(void) {
 
 /* ---- names ---- */
 
+/* A heap in the root folder, as containers have one. */
+static void rooted(void) {
+    zelamiku_heap heap;
+    int root = open("/", O_RDONLY | O_DIRECTORY | O_CLOEXEC), here = open(".", O_RDONLY | O_DIRECTORY | O_CLOEXEC);
+    MUST(root >= 0 && here >= 0);
+    if (chroot("real") != 0) {
+        printf("LEFT OUT: a user that may change no root: a heap in the root folder\n");
+    } else {
+        zelamiku_status status = zelamiku_heap_open(&heap, "/heap", &plan, &report);
+        MUST(fchdir(root) == 0 && chroot(".") == 0 && fchdir(here) == 0 && status == ZELAMIKU_OK && report.is_made == 1);
+        MUST(zelamiku_heap_close(heap) == ZELAMIKU_OK && unlink("real/heap") == 0);
+    }
+    MUST(close(root) == 0 && close(here) == 0);
+}
+
 /* A link stays, and what it leads to gets the heap, also where that is no file yet. */
 static void links(void) {
     zelamiku_heap heap;
@@ -788,6 +827,7 @@ static void links(void) {
         MUST(zelamiku_heap_open(&heap, "real/heap", &plan, NULL) == ZELAMIKU_OK && add(heap, 0) == 6 && zelamiku_heap_close(heap) == ZELAMIKU_OK);
         MUST(unlink("real/heap") == 0);
     }
+    rooted();
     MUST(symlink("../circle", "real/circle") == 0 && symlink("real/circle", "circle") == 0);
     MUST(zelamiku_heap_open(&heap, "circle", &plan, NULL) == ZELAMIKU_DEVICE && last_failure().error == ELOOP);
     /* Where a path leads is found whatever was in the memory for it before. */
@@ -818,6 +858,21 @@ static void remove_copy(void) {
     MUST(unlink("copy") == 0);
 }
 
+static void replace_draft(void) {
+    before_lock = NULL;
+    MUST(rename("copy.heapctl-new", "moved") == 0);
+    make_file_of("copy.heapctl-new", "other", 5, 0600);
+}
+
+/* Whether root may write to files that their modes forbid. */
+static void override_modes(bool may) {
+    struct __user_cap_header_struct of = {_LINUX_CAPABILITY_VERSION_3, 0};
+    struct __user_cap_data_struct rights[2];
+    MUST(syscall(SYS_capget, &of, rights) == 0);
+    rights[0].effective = may ? rights[0].permitted : rights[0].effective & ~(1u << CAP_DAC_OVERRIDE);
+    MUST(syscall(SYS_capset, &of, rights) == 0);
+}
+
 static pid_t lasting;
 
 /* A child that lives on keeps no lock, whether it has run yet or not: in the one that the system alone makes no handler of a fork runs. It goes
@@ -846,8 +901,13 @@ static void copies(void) {
     MUST(zelamiku_heap_copy(heap, "copy") == ZELAMIKU_BUSY && zelamiku_heap_close(other) == ZELAMIKU_OK && value_at("copy") == 9);
     before_rename = open_copy;
     MUST(zelamiku_heap_copy(heap, "copy") == ZELAMIKU_OK && opened_meanwhile == ZELAMIKU_BUSY && value_at("copy") == 8);
-    MUST(mode_of("copy") == 0640 && unlink("copy") == 0);
+    MUST(mode_of("copy") == 0640 && chmod("copy", 0444) == 0);
     before_rename = NULL;
+    /* One that may only be read is replaced as any other. */
+    override_modes(false);
+    zelamiku_status status = zelamiku_heap_copy(heap, "copy");
+    override_modes(true);
+    MUST(status == ZELAMIKU_OK && mode_of("copy") == 0640 && value_at("copy") == 8 && unlink("copy") == 0);
     /* What a copy that was cut off has left is taken up, and not while another one has it. */
     make_file_of("copy.heapctl-new", "left", 4, 0400);
     MUST(zelamiku_heap_copy(heap, "copy") == ZELAMIKU_OK && is_missing("copy.heapctl-new") && value_at("copy") == 8);
@@ -857,7 +917,13 @@ static void copies(void) {
     MUST(strstr(zelamiku_heap_failure(NULL), "copy: copy: a heap, a copy or an image is being made there") != NULL);
     MUST(zelamiku_heap_open(&other, "copy", &plan, NULL) == ZELAMIKU_OK && zelamiku_heap_close(other) == ZELAMIKU_OK && unlink("copy") == 0);
     MUST(zelamiku_heap_open(&other, "copy", &plan, NULL) == ZELAMIKU_BUSY && is_missing("copy") && close(file) == 0);
-    MUST(zelamiku_heap_copy(heap, "copy") == ZELAMIKU_OK && is_missing("copy.heapctl-new"));
+    /* Or it goes, or another one takes its name, while it is opened. */
+    draft_goes = true;
+    MUST(zelamiku_heap_copy(heap, "copy") == ZELAMIKU_OK && !draft_goes && is_missing("copy.heapctl-new"));
+    MUST(unlink("copy") == 0);
+    before_lock = replace_draft;
+    MUST(zelamiku_heap_copy(heap, "copy") == ZELAMIKU_OK && before_lock == NULL && is_missing("copy.heapctl-new"));
+    MUST(unlink("moved") == 0);
     before_rename = remove_copy;
     MUST(zelamiku_heap_copy(heap, "copy") == ZELAMIKU_OK && value_at("copy") == 8);
     for (int has_run = 0; has_run < 2; has_run++) {
@@ -923,8 +989,12 @@ static void astray(void) {
     MUST(add(heap, 0) > 0 && (heaps[heap.number >> 8 & 255].path_checked == looked || zelamiku_now() - looked >= SECOND)); /* once a second */
     MUST(rename("../heap", "../moved") == 0 && astray_after(heap) == 1 && astray_after(heap) == 1 && warnings == 1);
     MUST(rename("../moved", "../heap") == 0 && astray_after(heap) == 0 && warnings == 1);
+    /* Of a circle of links nothing is known. A file of another file system is another one. */
+    MUST(rename("../heap", "../moved") == 0 && symlink("heap", "../heap") == 0 && astray_after(heap) == 0 && warnings == 1);
+    MUST(unlink("../heap") == 0 && symlink("/dev/null", "../heap") == 0 && astray_after(heap) == 1 && warnings == 2);
+    MUST(rename("../moved", "../heap") == 0 && astray_after(heap) == 0);
     make_file_of("../other", "", 0, 0600);
-    MUST(rename("../other", "../heap") == 0 && astray_after(heap) == 1 && warnings == 2);
+    MUST(rename("../other", "../heap") == 0 && astray_after(heap) == 1 && warnings == 3);
     MUST(zelamiku_heap_close(heap) == ZELAMIKU_OK && chdir("..") == 0);
 }
 
@@ -947,7 +1017,10 @@ static void closed_by_the_program(int at, const char *reused_for) {
     MUST(open_heap(&heap) == ZELAMIKU_OK && zelamiku_thread_begin(&own, heap) == ZELAMIKU_OK);
     int file = heaps[heap.number >> 8 & (ZELAMIKU_MOST_HEAPS - 1)].file;
     stolen_for = reused_for;
-    if (at == 0 && reused_for != NULL) steal(file);
+    if (at == 0 && reused_for != NULL) {
+        steal(file);
+        MUST(child_has(reused_for)); /* a fork closes it in no child */
+    }
     if (reused_for == NULL) MUST(close(file) == 0);
     if (at == 0) must_stay_alone();
     stolen_at = at;
@@ -1017,7 +1090,10 @@ static void volumes(void) {
     MUST(zelamiku_heap_copy(heap, "copy of a volume") == ZELAMIKU_OK && mode_of("copy of a volume") == 0600);
     MUST(zelamiku_heap_copy(heap, path) == ZELAMIKU_DEVICE && zelamiku_heap_stop(heap, ZELAMIKU_ABANDONED) == ZELAMIKU_OK);
     MUST(zelamiku_heap_open(&heap, path, &plan, &report) == ZELAMIKU_OK && report.is_made == 0 && add(heap, 1) == 8);
-    MUST(zelamiku_heap_close(heap) == ZELAMIKU_OK && pwrite(volume, "x", 1, 0) == 1 && pread(volume, before, sizeof before, 0) == sizeof before);
+    MUST(zelamiku_heap_close(heap) == ZELAMIKU_OK);
+    /* Another user may not open it. */
+    MUST(seteuid(65534) == 0 && zelamiku_heap_open(&heap, path, &plan, NULL) == ZELAMIKU_DEVICE);
+    MUST(last_failure().error == EACCES && seteuid(0) == 0 && pwrite(volume, "x", 1, 0) == 1 && pread(volume, before, sizeof before, 0) == sizeof before);
     MUST(zelamiku_heap_open(&heap, path, &plan, NULL) == ZELAMIKU_NOT_FORMATTED);
     MUST(pread(volume, after, sizeof after, 0) == sizeof after && memcmp(before, after, sizeof before) == 0 && close(volume) == 0);
     MUST(zelamiku_heap_open(&heap, "copy of a volume", &plan, NULL) == ZELAMIKU_OK && add(heap, 0) == 7 && zelamiku_heap_close(heap) == ZELAMIKU_OK);
@@ -1049,6 +1125,7 @@ int main(int argc, char **argv) {
     closed_by_the_program(0, NULL);
     closed_by_the_program(0, "notes");
     closed_by_the_program(0, "heap");
+    closed_by_the_program(0, "/dev/null");
     closed_by_the_program(2, "notes");
     closed_by_the_program(2, "heap");
     closed_before_the_close();
@@ -1057,6 +1134,7 @@ int main(int argc, char **argv) {
     life();
     old();
     copies();
+    openings();
     MUST(descriptors(&inherited) == before);
     printf("file: lives, an old image, other opens, a block device, large files, rings, the helper's lane, links, a file that goes, one that the program"
            " closes, a fault at each of %d calls of a making, %d crashes of a making, %d of one in place, %d kills (%d before the heap was there), and"

@@ -22,6 +22,7 @@
 #include <sys/syscall.h>
 #include <sys/wait.h>
 #include <unistd.h>
+#include "memory.h"
 
 static _Atomic unsigned long turn;  /* calls of the life that is lived */
 static _Atomic unsigned long refused_one; /* which of them; 0: none */
@@ -69,6 +70,9 @@ static int refused_fstat(int file, struct stat *info) {
 }
 static int refused_flock(int file, int how) {
     return refuses(ENOLCK) ? -1 : flock(file, how);
+}
+static off_t refused_lseek(int file, off_t at, int from) {
+    return refuses(EIO) ? -1 : lseek(file, at, from);
 }
 static ssize_t refused_pread(int file, void *bytes, size_t size, off_t at) {
     return refuses(EIO) ? -1 : pread(file, bytes, size, at);
@@ -136,6 +140,7 @@ static long refused_syscall(long number, long answer) {
 #define stat(path, info) refused_stat(path, info)
 #define fstat refused_fstat
 #define flock(file, how) refused_flock(file, how)
+#define lseek refused_lseek
 #define pread refused_pread
 #define pwrite refused_pwrite
 #define fdatasync refused_fdatasync
@@ -156,18 +161,45 @@ static long refused_syscall(long number, long answer) {
 #undef open
 #undef fcntl
 #undef rename
+#undef malloc
+
+/* The proved library's memory, in place of the kit's own functions for it. */
+typedef struct {
+    uint64_t is_there;
+    void *at;
+} allocated;
+
+static allocated allocated_by(void *old, size_t size) {
+    static max_align_t nothing;
+    void *at = refuses(ENOMEM) ? NULL : realloc(old, size);
+    return (allocated){at != NULL, at != NULL ? at : &nothing};
+}
+
+allocated rattle_alloc(size_t size, size_t least) {
+    return allocated_by(NULL, size > 0 ? size : least);
+}
+
+allocated rattle_realloc(void *old, size_t before, size_t size, size_t least) {
+    (void)before;
+    return allocated_by(old, size > 0 ? size : least);
+}
+
+void rattle_dealloc(void *old) {
+    free(old);
+}
 
 #define SAY_MORE() fprintf(stderr, "call %lu is refused, errno %d: ", (unsigned long)refused_one, (int)with)
 #include "must.h"
 
-enum { OBJECTS_THERE = 2, FIELDS_THERE = 2, LIVES = 5 };
-static const zelamiku_field FIELDS[FIELDS_THERE] = {{0, 0, 10, 0}, {1, 1, 20, 0}};
+enum { OBJECTS_THERE = 2, FIELDS_THERE = 3, LIVES = 6 };
+static const zelamiku_field FIELDS[FIELDS_THERE] = {{0, 0, 10, 0}, {1, 1, 20, 0}, {1, 1, 30, 1}};
 static const zelamiku_plan PLAN = {.size = sizeof(zelamiku_plan), .fields = FIELDS, .count = FIELDS_THERE, .objects = OBJECTS_THERE, .lanes = 2, .capacity = 2000, .ring = 4096};
 static uint64_t kept, tried; /* the value that is durable, and one that may be */
 
 /* How a life begins. */
-typedef enum { NO_FILE, ZEROS, A_HEAP, BY_A_LINK, REVERTS } beginning;
-static const char *const BEGINNINGS[LIVES] = {"no file", "a file of zeros", "a heap", "a link to no file", "a heap that reverts"};
+typedef enum { NO_FILE, ZEROS, A_HEAP, BY_A_LINK, REVERTS, A_DEVICE } beginning;
+static const char *const BEGINNINGS[LIVES] = {"no file", "a file of zeros", "a heap", "a link to no file", "a heap that reverts", "a device of zeros"};
+static memory held; /* the device */
 
 static bool is_missing(const char *path) {
     struct stat info;
@@ -175,32 +207,42 @@ static bool is_missing(const char *path) {
 }
 
 static zelamiku_status told; /* what the first call of this life that failed returned */
+static unsigned stopped;     /* how many lives' heaps have ended for want of memory */
 
 /* Whether the status and its cause are those of the call that was refused. */
 static bool is_of_refusal(zelamiku_status status) {
-    if (status == ZELAMIKU_NO_MEMORY && with == ENOMEM) return last_failure().error == 0 || last_failure().error == ENOMEM;
+    if ((status == ZELAMIKU_NO_MEMORY || status == ZELAMIKU_FAILED) && with == ENOMEM) return last_failure().error == 0 || last_failure().error == ENOMEM;
     return (status == ZELAMIKU_NO_MEMORY || status == ZELAMIKU_DEVICE || status == ZELAMIKU_LOST) && last_failure().error == with;
 }
 
-/* OK, or the one call that reports what was refused, and why. Later calls fail only where the heap is lost. */
+static bool has_ended(zelamiku_status status) {
+    return status == ZELAMIKU_LOST || status == ZELAMIKU_FAILED;
+}
+
+/* OK, or the one call that reports what was refused, and why. Later calls fail only where the heap has ended. */
 static bool passes(zelamiku_status status) {
     if (status == ZELAMIKU_OK) return true;
     MUST(with != 0 && zelamiku_heap_failure(NULL)[0] != 0);
     if (told == ZELAMIKU_OK) MUST(is_of_refusal(status));
-    else MUST(told == ZELAMIKU_LOST && status == ZELAMIKU_LOST);
+    else MUST(has_ended(told) && status == told);
+    stopped += told != status && status == ZELAMIKU_FAILED;
     told = status;
     return false;
+}
+
+static void leave_file(const char *path) {
+    int file = open(path, O_RDWR | O_CREAT | O_CLOEXEC, 0640);
+    MUST(file >= 0 && ftruncate(file, 5000) == 0 && close(file) == 0);
 }
 
 static void begin_life(beginning how) {
     static const char *const ALL[] = {"heap", "copy", "link to come"};
     for (size_t i = 0; i < sizeof ALL / sizeof *ALL && how != A_HEAP && how != REVERTS; i++) (void)unlink(ALL[i]);
-    if (how == ZEROS) {
-        int file = open("heap", O_RDWR | O_CREAT | O_CLOEXEC, 0640);
-        MUST(file >= 0 && ftruncate(file, 5000) == 0 && close(file) == 0);
-    }
+    if (how == ZEROS) leave_file("heap");
     if (how == BY_A_LINK) MUST(symlink("link to come", "heap") == 0);
-    if (how < A_HEAP || how == BY_A_LINK) kept = tried = 10;
+    if (how == A_HEAP) leave_file("copy.heapctl-new"); /* as a copy that was cut off */
+    if (how == A_DEVICE) memset(held.now, 0, held.size);
+    if (how != A_HEAP && how != REVERTS) kept = tried = 10;
 }
 
 /* One section more, and whether it is durable. */
@@ -245,7 +287,9 @@ static void live(beginning how) {
     zelamiku_heap heap;
     zelamiku_thread own;
     zelamiku_plan plan = PLAN;
+    zelamiku_device device = device_of(&held);
     plan.reverts = how == REVERTS;
+    if (how == A_DEVICE) plan.device = &device;
     if (how == NO_FILE) plan.lanes = 0; /* as many as there are by default: more than the others want */
     zelamiku_status opened = zelamiku_heap_open(&heap, "heap", &plan, NULL);
     if (!passes(opened)) {
@@ -256,18 +300,22 @@ static void live(beginning how) {
     if (passes(zelamiku_thread_begin(&own, heap))) add_one(heap, own);
     copy_one(heap);
     zelamiku_status status = zelamiku_thread_end(own);
-    MUST(status == ZELAMIKU_OK || (status == ZELAMIKU_LOST && !passes(status)));
+    MUST(status == ZELAMIKU_OK || (has_ended(status) && !passes(status)));
     if (!passes(zelamiku_heap_close(heap)) && told == ZELAMIKU_DEVICE) MUST(zelamiku_heap_close(heap) == ZELAMIKU_OK);
 }
 
-/* Nothing is refused any more: the heap is there, or can be made, and has what was durable; so has a copy that was told as written. */
-static void look(void) {
+/* Nothing is refused any more: the heap is there, or can be made, and has what was durable. A copy takes up what one that was cut off has left. */
+static void look(beginning how) {
     zelamiku_heap heap;
     zelamiku_thread own;
     uint64_t value;
+    zelamiku_plan plan = PLAN;
+    zelamiku_device device = device_of(&held);
     refused_one = 0;
+    if (how == A_DEVICE) plan.device = &device;
+    zelamiku_status status = zelamiku_heap_open(&heap, "heap", &plan, NULL);
+    if (how == A_HEAP) MUST(zelamiku_heap_copy(heap, "copy") == ZELAMIKU_OK);
     MUST(is_missing("heap.heapctl-new") && is_missing("copy.heapctl-new") && is_missing("link to come.heapctl-new"));
-    zelamiku_status status = zelamiku_heap_open(&heap, "heap", &PLAN, NULL);
     MUST(status == ZELAMIKU_OK && zelamiku_thread_begin(&own, heap) == ZELAMIKU_OK && zelamiku_thread_enter(own, 0) == ZELAMIKU_OK);
     MUST(zelamiku_thread_load(own, 0, &value) == ZELAMIKU_OK && (value == kept || value == tried));
     kept = tried = value;
@@ -315,7 +363,8 @@ static void many_dropped(void) {
     zelamiku_heap heap;
     zelamiku_thread holder, own;
     zelamiku_report report = {.size = sizeof report};
-    MUST(unlink("heap") == 0 && zelamiku_heap_open(&heap, "heap", &PLAN, NULL) == ZELAMIKU_OK);
+    begin_life(NO_FILE);
+    MUST(zelamiku_heap_open(&heap, "heap", &PLAN, NULL) == ZELAMIKU_OK);
     MUST(zelamiku_thread_begin(&holder, heap) == ZELAMIKU_OK && zelamiku_thread_begin(&own, heap) == ZELAMIKU_OK);
     MUST(zelamiku_thread_enter(holder, 0) == ZELAMIKU_OK && zelamiku_thread_enter(holder, 1) == ZELAMIKU_OK);
     MUST(zelamiku_thread_store(holder, 1, 5) == ZELAMIKU_OK && zelamiku_thread_exit(holder, 1) == ZELAMIKU_OK);
@@ -343,21 +392,30 @@ static zelamiku_heap open_one(const char *path) {
     return heap;
 }
 
-/* A copy is written to no pipe and no folder, nor to a path that is too long. */
+/* The copy isn't written, and the failure says why, and what to do. */
+static void no_copy_to(zelamiku_heap heap, const char *path, int error, const char *cure) {
+    MUST(zelamiku_heap_copy(heap, path) == ZELAMIKU_DEVICE && last_failure().error == error && strcmp(last_failure().cure, cure) == 0);
+}
+
+/* A copy is written to no pipe and no folder, nor to a path that is too long, nor through a link in the place of the file beside. */
 static void copies(void) {
     static char long_path[PATH_MAX + 100];
+    struct stat info;
     memset(long_path, 'x', sizeof long_path - 1);
     zelamiku_heap heap = open_one("heap");
-    MUST(mkfifo("pipe", 0600) == 0 && mkdir("folder", 0700) == 0);
-    MUST(zelamiku_heap_copy(heap, "pipe") == ZELAMIKU_DEVICE && last_failure().error == EINVAL);
-    MUST(zelamiku_heap_copy(heap, "folder") == ZELAMIKU_DEVICE && last_failure().error == EISDIR);
-    MUST(zelamiku_heap_copy(heap, long_path) == ZELAMIKU_DEVICE && last_failure().error == ENAMETOOLONG);
-    MUST(zelamiku_heap_copy(heap, "") == ZELAMIKU_DEVICE && last_failure().error == ENOENT);
+    MUST(mkfifo("pipe", 0600) == 0 && mkdir("folder", 0700) == 0 && symlink("elsewhere", "new.heapctl-new") == 0);
+    no_copy_to(heap, "pipe", EINVAL, "name a regular file");
+    no_copy_to(heap, "folder", EISDIR, "name a file");
+    no_copy_to(heap, long_path, ENAMETOOLONG, "see the system's error, and call again");
+    no_copy_to(heap, "", ENOENT, "make its folder first");
+    no_copy_to(heap, "no folder/copy", ENOENT, "make its folder first");
+    no_copy_to(heap, "new", ELOOP, "see the system's error, and call again");
+    MUST(is_missing("elsewhere") && lstat("new.heapctl-new", &info) == 0 && S_ISLNK(info.st_mode));
     forks = true;
     MUST(zelamiku_heap_copy(heap, "copy") == ZELAMIKU_OK && !forks && zelamiku_heap_close(heap) == ZELAMIKU_OK);
 }
 
-/* A heap is made at the end of a link from the root on; and in a folder whose path leaves no room for the name beside it none is made. */
+/* A heap is made at the end of a link from the root on. Where a link, or the name beside, makes the path too long, none is made. */
 static void paths(void) {
     char here[PATH_MAX], target[PATH_MAX + 16];
     zelamiku_heap heap;
@@ -365,6 +423,10 @@ static void paths(void) {
     MUST(zelamiku_heap_close(open_one("link from the root")) == ZELAMIKU_OK && access("far", F_OK) == 0);
     static char name[201];
     memset(name, 'd', 200);
+    MUST(symlink(name, "far link") == 0);
+    for (size_t i = 0; i + 2 < sizeof target; i += 2) memcpy(target + i, "./", 2);
+    (void)snprintf(target + PATH_MAX - 100, 100, "far link");
+    MUST(zelamiku_heap_open(&heap, target, &PLAN, NULL) == ZELAMIKU_DEVICE && last_failure().error == ENAMETOOLONG && is_missing(name));
     for (size_t length = strlen(here); length < PATH_MAX - 8; length = strlen(here)) {
         size_t left = PATH_MAX - 6 - length;
         name[left - 1 < 200 ? left - 1 : left - 1 < 210 ? 150 : 200] = 0;
@@ -374,16 +436,19 @@ static void paths(void) {
     MUST(zelamiku_heap_open(&heap, "heap", &PLAN, NULL) == ZELAMIKU_DEVICE && last_failure().error == ENAMETOOLONG && is_missing("heap"));
 }
 
-/* Statuses have texts, also those that are none. */
+/* Statuses have texts, also those that are none, or none of zelamiku.h. */
 static void texts(void) {
-    MUST(strcmp(zelamiku_status_text(4711), "no status of zelamiku.h") == 0 && strcmp(zelamiku_status_text(ZELAMIKU_OK), "ok") == 0);
+    static const uint32_t NONE[] = {2, 48, 4711, UINT32_MAX};
+    for (size_t i = 0; i < sizeof NONE / sizeof *NONE; i++) MUST(strcmp(zelamiku_status_text(NONE[i]), "no status of zelamiku.h") == 0);
+    MUST(strcmp(zelamiku_status_text(ZELAMIKU_OK), "ok") == 0 && strcmp(zelamiku_status_text(ZELAMIKU_NOT_REVERTED), "the section can't be reverted") == 0);
 }
 
 int main(int argc, char **argv) {
     unsigned long all = 0;
     MUST(argc == 2 && chdir(argv[1]) == 0 && mkdir("refused calls", 0700) == 0 && chdir("refused calls") == 0);
     texts();
-    for (beginning how = NO_FILE; how <= REVERTS; how++) {
+    held = new_memory(1 << 18);
+    for (beginning how = NO_FILE; how <= A_DEVICE; how++) {
         unsigned long one = 0;
         do {
             begin_life(how);
@@ -395,13 +460,14 @@ int main(int argc, char **argv) {
             live(how);
             bool was_refused = with != 0;
             MUST(!is_of_a_sync || told != ZELAMIKU_OK);
-            look();
+            look(how);
             if (!was_refused) break;
         } while (one < 5000);
         printf("refused calls: %lu in a life that begins with %s\n", one - 1, BEGINNINGS[how]);
         all += one - 1;
     }
-    MUST(all > 100);
+    MUST(all > 100 && stopped > 0);
+    free_memory(&held);
     no_helper();
     many_dropped();
     copies();

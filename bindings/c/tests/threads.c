@@ -168,7 +168,8 @@ static long own_SYS_futex(void *word, int what, uint32_t value, const struct tim
 static uint64_t usual_slice = 2100000;
 static _Thread_local uint64_t own_slice, inherited_slice; /* 0: the usual one */
 static unsigned slices_asked;
-static int filter; /* what prctl says of a filter of calls */
+static int filter; /* what prctl says of a filter of calls; -1: that it knows of none */
+static uint32_t policy; /* of the threads, by which the system shares its processors */
 
 static uint64_t *runtime_in(void *of) {
     return (uint64_t *)of + 3;
@@ -185,6 +186,7 @@ static long own_SYS_sched_getattr(int process, void *of, size_t size, unsigned f
     if (own_slice == 0) own_slice = inherited_slice;
     *flags_in(of) = 3;
     *runtime_in(of) = own_slice != 0 ? own_slice : usual_slice;
+    ((uint32_t *)of)[1] = policy;
     return 0;
 }
 
@@ -199,6 +201,7 @@ static long own_SYS_sched_setattr(int process, void *of, unsigned flags) {
 static _Thread_local int own_slack = 50000; /* of timers */
 
 static int own_PR_GET_SECCOMP(void) {
+    errno = EINVAL;
     return filter;
 }
 
@@ -1677,8 +1680,8 @@ static void await_asked(unsigned count) {
     UNTIL(__atomic_load_n(&slices_asked, __ATOMIC_SEQ_CST) >= count);
 }
 
-/* A thread that waits for rounds, and the helper, ask once for a short slice, where they have the system's. With a slice of one's own, on an older
- * system and under a filter nothing changes. */
+/* A thread that waits for rounds, and the helper, ask once for a short slice, where they have the system's. With a slice or a policy of one's own,
+ * on an older system and under a filter nothing changes. */
 static void slices(void) {
     MUST(unlink("slices.heap") == 0 || errno == ENOENT);
     slices_asked = 0;
@@ -1697,6 +1700,12 @@ static void slices(void) {
     usual_slice = 2100000;
     filter = 2;
     MUST(slice_after(0) == 0 && slices_asked == 8 && slack_after == USUAL_SLACK);
+    filter = 0;
+    policy = SCHED_BATCH;
+    MUST(slice_after(0) == 0 && slices_asked == 8);
+    policy = SCHED_OTHER;
+    filter = -1;
+    MUST(slice_after(0) == SHORT_SLICE && slices_asked == 10);
     filter = 0;
     MUST(zelamiku_heap_close(all) == ZELAMIKU_OK && unlink("slices.heap") == 0);
 }

@@ -56,6 +56,7 @@ static void bad_plans(void) {
     IS(zelamiku_heap_open(&heap, "a", NULL, NULL), BAD_ARGUMENT, "NULL");
     bad.fields = NULL;
     IS(zelamiku_heap_open(&heap, "a", &bad, &report), BAD_ARGUMENT, "NULL");
+    MUST(report.bad_lane == ZELAMIKU_NOBODY && report.damage == ZELAMIKU_UNDAMAGED);
     bad = plan, bad.objects = 0;
     IS(zelamiku_heap_open(&heap, "a", &bad, &report), BAD_ARGUMENT, "objects is 0");
     bad = plan, bad.objects = 4097;
@@ -249,6 +250,16 @@ static void fingerprints(void) {
     FINGERPRINT(&plan, OK, SAME, 0, 0);
     FINGERPRINT(&named, OK, SAME, 0, 0);
     FINGERPRINT(&more, OTHER_HEAP, DIFFERENT_COUNT, FIELDS, FIELDS + 1);
+    /* A last field that has another guard or owner, or isn't transient, is no fingerprint; and none is looked for in a plan of still fewer fields. */
+    static const zelamiku_field OTHERS[] = {{0, 1, 77, 1}, {1, 0, 77, 1}, {0, 0, 77, 0}};
+    for (uint32_t i = 0; i < sizeof OTHERS / sizeof *OTHERS; i++) {
+        MUST(unlink("fingerprint") == 0);
+        longer[FIELDS] = OTHERS[i];
+        FINGERPRINT(&more, OK, SAME, 0, 0);
+        FINGERPRINT(&named, OTHER_HEAP, DIFFERENT_COUNT, FIELDS + 1, FIELDS);
+    }
+    other = named, other.count = FIELDS - 1;
+    FINGERPRINT(&other, OTHER_HEAP, DIFFERENT_COUNT, FIELDS + 1, FIELDS - 1);
     /* One field less may be planned. */
     MUST(most != NULL);
     more.fields = most, more.count = 16384, more.fingerprint = 1;
@@ -382,6 +393,7 @@ static void handles(void) {
     IS(zelamiku_heap_waits(heap, NULL, 0, NULL), BAD_ARGUMENT, "NULL");
     size_t told = 1;
     IS(zelamiku_heap_waits(heap, NULL, 1, &told), BAD_ARGUMENT, "NULL");
+    IS(zelamiku_heap_stop(heap, ZELAMIKU_OK), BAD_ARGUMENT, "the reason is wrong; give ZELAMIKU_CLOSED or ZELAMIKU_ABANDONED");
     IS(zelamiku_heap_close(heap), OK, "");
     by_nobody(own, ZELAMIKU_CLOSED, "handles: ");
     by_nobody(third, ZELAMIKU_CLOSED, "the heap was closed or stopped");
@@ -479,6 +491,14 @@ static void limits(void) {
     IS(zelamiku_thread_give(own, HEAD, SLOTS, 3), NOT_TAKEN, "field 4");
     MUST(zelamiku_thread_store(own, HEAD, 1000) == ZELAMIKU_OK);
     IS(zelamiku_thread_take(own, HEAD, SLOTS, &slot), DAMAGED, "limits: take of the pool at field 4");
+    IS(zelamiku_thread_give(own, HEAD, SLOTS, 0), DAMAGED, "give to the pool at field 4");
+    /* A cell that names no slot. Fields that are no pool's: the thread doesn't hold all of their guards. */
+    MUST(zelamiku_thread_store(own, HEAD, 4) == ZELAMIKU_OK && zelamiku_thread_store(own, HEAD + 4, 1000) == ZELAMIKU_OK);
+    IS(zelamiku_thread_take(own, HEAD, SLOTS, &slot), DAMAGED, "field 4");
+    MUST(zelamiku_thread_store(own, 1, 1) == ZELAMIKU_OK && zelamiku_thread_store(own, HEAD, UINT64_MAX) == ZELAMIKU_OK);
+    IS(zelamiku_thread_take(own, 1, SLOTS, &slot), NOT_HELD, "take of the pool at field 1");
+    IS(zelamiku_thread_give(own, 2, SLOTS, 1), NOT_HELD, "give to the pool at field 2");
+    MUST(slot == ZELAMIKU_NO_NUMBER);
     IS(zelamiku_thread_exit(own, POOL), OK, "");
     IS(zelamiku_heap_close(heap), OK, "");
 }
@@ -586,15 +606,21 @@ static void forks(void) {
     MUST(zelamiku_heap_close(heap) == ZELAMIKU_OK && waitpid(child, &status, 0) == child && status == 0);
 }
 
-/* In a program that was started without standard streams, and may have no other descriptors: nothing is made. */
-static bool makes_nothing(void) {
+/* In a program that was started without standard streams, and may have no other descriptors, or has the only other one in use: nothing is made,
+ * and nothing that is there goes. */
+static bool opens_nothing(bool is_there) {
     zelamiku_heap heap;
     struct rlimit before, few;
     bool is_well = getrlimit(RLIMIT_NOFILE, &before) == 0;
-    few = before, few.rlim_cur = STDERR_FILENO + 1;
-    is_well &= setrlimit(RLIMIT_NOFILE, &few) == 0 && zelamiku_heap_open(&heap, "streams", &plan, NULL) == ZELAMIKU_DEVICE;
-    is_well &= last_failure().error == EMFILE;
-    return is_well && access("streams", F_OK) != 0 && access("streams.heapctl-new", F_OK) != 0 && setrlimit(RLIMIT_NOFILE, &before) == 0;
+    int other = fcntl(open("/dev/null", O_RDONLY | O_CLOEXEC), F_DUPFD_CLOEXEC, STDERR_FILENO + 1);
+    (void)close(STDIN_FILENO);
+    for (int most = STDERR_FILENO + 1; most <= other + 1; most++) {
+        few = before, few.rlim_cur = (rlim_t)most;
+        is_well &= setrlimit(RLIMIT_NOFILE, &few) == 0 && zelamiku_heap_open(&heap, "streams", &plan, NULL) == ZELAMIKU_DEVICE;
+        is_well &= last_failure().error == EMFILE && strstr(zelamiku_heap_failure(NULL), "close some files, or allow more of them") != NULL;
+    }
+    is_well &= (access("streams", F_OK) == 0) == is_there && access("streams.heapctl-new", F_OK) != 0;
+    return is_well && setrlimit(RLIMIT_NOFILE, &before) == 0 && close(other) == 0;
 }
 
 /* How many descriptors a program would have too that this one executes. */
@@ -614,13 +640,13 @@ static bool prints_nowhere(void) {
     int event = -1;
     for (int stream = 0; stream <= STDERR_FILENO; stream++) (void)close(stream);
     unsigned before = inherited();
-    bool is_well = makes_nothing();
+    bool is_well = opens_nothing(false);
     is_well &= zelamiku_heap_open(&heap, "streams", &plan, NULL) == ZELAMIKU_OK && zelamiku_thread_begin(&own, heap) == ZELAMIKU_OK;
     is_well &= zelamiku_thread_event(own, &event) == ZELAMIKU_OK && event > STDERR_FILENO;
     for (int stream = 0; stream <= STDERR_FILENO; stream++) is_well &= write(stream, "told", 4) == -1;
     is_well &= inherited() == before;
     is_well &= zelamiku_heap_copy(heap, "streams' copy") == ZELAMIKU_OK && zelamiku_thread_end(own) == ZELAMIKU_OK;
-    return is_well && zelamiku_heap_close(heap) == ZELAMIKU_OK;
+    return is_well && zelamiku_heap_close(heap) == ZELAMIKU_OK && opens_nothing(true);
 }
 
 static void no_streams(void) {
@@ -743,7 +769,7 @@ static void full(void) {
 }
 
 int main(int argc, char **argv) {
-    MUST(argc == 2 && chdir(argv[1]) == 0 && mkdir("wrong calls", 0700) == 0 && chdir("wrong calls") == 0);
+    MUST(argc == 2 && chdir(argv[1]) == 0 && mkdir("wrong calls", 0755) == 0 && chdir("wrong calls") == 0);
     prepare();
     bad_plans();
     bad_paths();
