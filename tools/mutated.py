@@ -29,10 +29,11 @@ from made import ROOT, read
 # Changes that nobody could see: the file, what the line has, the operator ("": each), and why.
 EQUIVALENT = [
     ("__main__.py", r"before.get\(name, \(None, 0", "", "a member that the old declaration hasn't has no first field there"),
-    ("heap.py", "ring=4_096, fingerprint=plan", "no argument", "it only saves memory while a new heap is made"),
+    ("heap.py", "ring=4_096, fingerprint=plan", "", "it only saves memory while a new heap is made"),
     ("declare.py", "raise NotImplementedError", "", "each kind of member has its own"),
     ("durable.rs", r"let mut is_durable = false;", "", "the library writes it"),
     ("held.rs", r"let mut (value|lanes|slot) = ", "", "the library writes it"),
+    ("durable.rs", "^            return;$", "no way out", "no waker has the ticket 0"),
     ("durable.rs", r"Ok\(_) => \(None, true\)", "truth", "it only asks for the round once more"),
 ]
 

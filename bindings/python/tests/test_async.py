@@ -1,5 +1,6 @@
 """Tasks that wait until their sections are durable."""
 import asyncio
+import resource
 import threading
 import unittest
 from unittest import mock
@@ -114,6 +115,22 @@ class Tasks(OnFile):
             for _ in range(20):
                 asyncio.run(main(heap))
             self.assertEqual((errors, self.values(heap)), ([], [140, 120]))
+
+    def test_one_for_which_there_is_no_descriptor_fails(self):
+        async def main(heap):
+            with heap.synchronized(heap.alice):
+                heap.alice.balance = 1
+            soft, hard = resource.getrlimit(resource.RLIMIT_NOFILE)
+            resource.setrlimit(resource.RLIMIT_NOFILE, (3, hard))
+            try:
+                with self.assertRaises(zelamiku.NoMemory):
+                    await heap.durable_async()
+            finally:
+                resource.setrlimit(resource.RLIMIT_NOFILE, (soft, hard))
+            await end(heap.durable_async())
+
+        with self.open(linger=3_600) as heap:
+            asyncio.run(main(heap))
 
     def test_one_that_asks_while_its_round_ends_is_woken(self):
         async def main(heap):

@@ -409,6 +409,7 @@ class Endings(OnFile):
         with self.open() as heap:
             with self.assertRaisesRegex(AttributeError, "has no object carol"):
                 heap.carol
+            self.assertFalse(hasattr(heap, "_carol"))
             self.assertIn("alice, object 0 of", repr(heap.alice))
             self.assertEqual(heap.objects, (heap.alice, heap.bob))
             with self.assertRaisesRegex(TypeError, "wants an object"):

@@ -4,10 +4,12 @@ import subprocess
 import sys
 import unittest
 from pathlib import Path
+from unittest import mock
 
 import zelamiku
 from support import PATIENCE, OnFile
 from zelamiku import __main__ as zelamiku_main
+from zelamiku.library import library
 
 MODULE = """
 import zelamiku
@@ -81,6 +83,11 @@ class Words(OnFile):
         with open("/dev/full", "w") as full:
             ran = subprocess.run([*COMMAND, "show", "a.heap", "bank"], cwd=self.folder, stdout=full, stderr=subprocess.PIPE, timeout=PATIENCE, check=False)
         self.assertEqual((ran.returncode, ran.stderr), (1, b"zelamiku: [Errno 28] No space left on device\n"))
+        reader, writer = os.pipe()
+        os.close(reader)
+        with os.fdopen(writer) as nobody:
+            ran = subprocess.run([*COMMAND, "show", "a.heap", "bank"], cwd=self.folder, stdout=nobody, stderr=subprocess.PIPE, timeout=PATIENCE, check=False)
+        self.assertEqual((ran.returncode, ran.stderr), (141, b""))
         self.refused("bank has no dict ACCOUNTS", "show", "a.heap", "bank:ACCOUNTS")
         self.refused("there is no heap", "show", "b.heap", "bank")
         self.refused("are declared", "show", "a.heap", "bank:LAST")
@@ -116,6 +123,13 @@ class Words(OnFile):
         self.assertEqual(self.run_with("migrate", "a.heap", "bank", "--lanes", "12")[0], 0)
         with self.open(**self.declared["OBJECTS"], lanes=12) as heap:
             self.assertEqual(heap.report.lanes, 12)
+        self.assertEqual(self.run_with("show", "a.heap", "bank"), (0, SHOWN, ""))
+
+    def test_migrate_leaves_the_file_if_the_new_heap_cant_be_synced(self):
+        close, ends = library().heap_close, iter([33])
+        with mock.patch.object(library(), "heap_close", lambda heap: close(heap) or next(ends, 0)), self.assertRaises(zelamiku.SyncFailed):
+            zelamiku_main.migrate(self.path, self.declared["OBJECTS"], self.declared["LAST"], None, False)
+        self.assertEqual(sorted(os.listdir(self.folder)), ["a.heap", "a.heap.migrated", "bank.py"])
         self.assertEqual(self.run_with("show", "a.heap", "bank"), (0, SHOWN, ""))
 
     def test_migrate_refuses_what_would_be_another_value(self):

@@ -98,6 +98,8 @@ class Differences(unittest.TestCase):
         self.assertTrue(plan.difference(6, 7, 0, 1).endswith("declared as transient"))
         self.assertIn("there object 99 guards it", plan.difference(5, 7, 99, 4))
         self.assertTrue(plan.cure(1, 1).startswith("ask for 1; "))
+        for what in range(2, 7):
+            self.assertEqual(plan.cure(what, 1), "declare what the file has, or choose another path")
 
 
 if __name__ == "__main__":

@@ -570,8 +570,8 @@ class Sessions(OnFile):
             self.assertTrue(heap.durable())
             with heap.synchronized(heap.alice):
                 heap.alice.balance = 1
-                for call in (heap.session.end, heap.durable):
-                    with self.assertRaisesRegex(zelamiku.InSection, "leave it first"):
+                for call, text in ((heap.session.end, "the lane can't be freed"), (heap.durable, "it can't be durable")):
+                    with self.assertRaisesRegex(zelamiku.InSection, f"this section hasn't ended, so {text}; leave it first"):
                         call()
                 heap.alice.balance = 2
             heap.session.end()

@@ -107,6 +107,24 @@ fn a_section_that_depends_on_an_open_one_is_told_once_that_ends() {
 }
 
 #[test]
+fn one_that_is_polled_again_requests_no_more_rounds() {
+    let scratch = Scratch::new("async-again");
+    let heap = counters(2).linger(Duration::from_secs(3_600)).open(&scratch).unwrap();
+    let mut session = heap.session().unwrap();
+    while_nothing_is_durable(&heap, || {
+        count(&mut session, 0);
+        let mut durable = session.durable_async();
+        assert_eq!(poll(&mut durable, &nobody()), Poll::Pending);
+        let before = heap.stats().unwrap().rounds;
+        for _ in 0..100 {
+            assert_eq!(poll(&mut durable, &nobody()), Poll::Pending);
+            std::thread::sleep(Duration::from_millis(1));
+        }
+        assert!(heap.stats().unwrap().rounds < before + 10);
+    });
+}
+
+#[test]
 fn a_thousand_cancelled_futures_leave_nothing() {
     let scratch = Scratch::new("async-cancelled");
     let heap = counters(2).open(&scratch).unwrap();

@@ -69,6 +69,21 @@ fn a_section_that_nobody_waits_for_is_durable_after_the_linger() {
 }
 
 #[test]
+fn a_heap_whose_file_was_removed_says_so() {
+    let scratch = Scratch::new("astray");
+    let heap = accounts().open(&scratch).unwrap();
+    let mut session = heap.session().unwrap();
+    common::count(&mut session, 0);
+    session.durable().unwrap();
+    assert!(!heap.stats().unwrap().is_astray);
+    std::fs::remove_file(&scratch).unwrap();
+    common::until("the helper has seen it", || {
+        common::count(&mut session, 0);
+        heap.stats().unwrap().is_astray
+    });
+}
+
+#[test]
 fn names_in_another_order_are_another_heap() {
     let scratch = Scratch::new("names");
     accounts().names(&["alice", "bob"]).open(&scratch).unwrap().close().unwrap();
