@@ -76,7 +76,7 @@ pub(crate) fn rounds<'a>(alloc: Global) -> Arg<'a>
         .long("rounds")
         .value_name("N")
         .help(
-            "The sections that each thread works, 1 to 10000,\nin place of --seconds. 1000 without either",
+            "The sections that each thread runs, 1 to 10000,\nin place of --seconds. 1000 without either",
         )
         .value_parser(value_parser!(u32).range(1..=10_000))
 }
@@ -89,7 +89,7 @@ pub(crate) fn seconds<'a>(alloc: Global) -> Arg<'a>
         .long("seconds")
         .value_name("N")
         .help(
-            "How long the threads work, 1 to 3600 seconds,\nin place of --rounds. In memory, what they write\nis kept",
+            "How long the threads work, 1 to 3600 seconds,\nin place of --rounds. Without --image each write\ntakes memory",
         )
         .value_parser(value_parser!(u32).range(1..=3_600))
 }
@@ -102,7 +102,7 @@ pub(crate) fn last<'a>(alloc: Global) -> Arg<'a>
         .long("last")
         .value_name("N")
         .help(
-            "With --dot: how many sections of each thread are\ndrawn at most, the last ones. 50 without this",
+            "With --dot: draws at most the last N sections of\neach thread. 50 without this",
         )
         .value_parser(value_parser!(u32).range(1..=1_000_000_000))
 }
@@ -126,7 +126,7 @@ pub(crate) fn sectors<'a>(alloc: Global) -> Arg<'a>
         .long("sectors")
         .value_name("BYTES")
         .help(
-            "Keeps the image in two places, for a disk that may\nlose a sector that it was writing at a power\nfailure: the bytes of a sector, 4096. In one place\nwithout this",
+            "Keeps the image in two places, for a disk that may\nlose the sector that it is writing when the power\nfails. BYTES is the size of a sector, 4096",
         )
         .value_parser(value_parser!(u32).range(512..=4096))
 }

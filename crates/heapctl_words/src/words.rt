@@ -131,9 +131,9 @@ pub struct Asked<'a> {
 
 // What stands at the end of the program's help.
 const EXIT_STATUSES: &str = "\
-Exit status: 0 where all is done; 2 for wrong words, or a schema file or script
-that is refused; 3 where another process has the image; 1 for every other
-fault, which standard error tells";
+Exit status: 0 if all was done; 2 for wrong words, or a schema file or script
+that is refused; 3 if another process has the image; 1 for any other fault,
+which standard error reports";
 
 // How many sections of each thread a graph has where nothing is said.
 const LAST: u32 = 50;
@@ -199,7 +199,7 @@ fn plain_format<'a>(alloc: Global) -> Result<Command<'a>, AllocError>
         "The image file to make, at another path than the\nschema file",
     );
     let command = Command::new(alloc, "format").about(
-        "Makes an image file for the objects and fields of a schema file. An\nimage that is there is kept beside it, at the path with '~' at its\nend",
+        "Makes an image file for the objects and fields of a schema file. An\nimage that is there is kept beside it, under its path with '~'\nappended",
     );
     let command = with_option(Ok(command), image);
     let command = with_option(command, path(alloc, "schema", "The schema file"));
@@ -245,7 +245,7 @@ fn dump<'a>(alloc: Global) -> Result<Command<'a>, AllocError>
         "The schema file of the image, for names. Without\nthis they are o0 and f0, and so on",
     );
     let command = Command::new(alloc, "dump").about(
-        "Prints a schema file whose first values are those that 'recover'\ngives, and leaves the image file as it is: 'format' of it, with more\nlines at its end or none, makes an image with the same heap. Of a\ndamaged image --cells and --slot print what is left, which needn't\nbe the values of one moment",
+        "Prints a schema file whose first values are those that 'recover'\nwould give, and leaves the image file as it is. 'format' of that file\nmakes an image with the same heap, and more fields if lines are added\nat its end. --cells and --slot print what is left of a damaged image,\nwhich needn't be the values of one moment",
     );
     let cells = flag(
         alloc,
@@ -267,7 +267,7 @@ fn get<'a>(alloc: Global) -> Result<Command<'a>, AllocError>
         "The schema file of the image, for names. Without\nthis they are f0, f1 and so on",
     );
     let command = Command::new(alloc, "get").about(
-        "Prints the values that 'recover' gives to fields of an image file,\neach as NAME=VALUE, and leaves the file as it is",
+        "Prints the values that 'recover' would give to fields of an image\nfile, each as NAME=VALUE, and leaves the file as it is",
     );
     let command = with_option(Ok(command), path(alloc, "image", "The image file to read"));
     let command = with_option(command, schema);
@@ -283,7 +283,7 @@ fn set<'a>(alloc: Global) -> Result<Command<'a>, AllocError>
         "The schema file of the image, for names. Without\nthis they are f0, f1 and so on",
     );
     let command = Command::new(alloc, "set").about(
-        "Recovers an image file, sets fields of it by a section of their own,\nand prints what 'run' prints of that section's lines, once it is\nacknowledged and the file is replaced",
+        "Recovers an image file, sets fields of it in a section of its own, and\nprints what 'run' prints for that section, once the section is\nacknowledged and the file is replaced",
     );
     let command = with_option(
         Ok(command),
@@ -301,7 +301,7 @@ fn recover<'a>(alloc: Global) -> Result<Command<'a>, AllocError>
 {
     Command::new(alloc, "recover")
         .about(
-            "Recovers an image file after a crash, and prints what was kept and\ndropped. Where the report must not be lost, run 'show' first",
+            "Recovers an image file after a crash, and prints what was kept and\ndropped. If the report must not be lost, run 'show' first",
         )
         .arg(path(alloc, "image", "The image file to recover"))
 }
@@ -311,7 +311,7 @@ fn upgrade<'a>(alloc: Global) -> Result<Command<'a>, AllocError>
 {
     Command::new(alloc, "upgrade")
         .about(
-            "Makes an image file that an older release left one of this release,\nin place: recovers it, and prints what was kept and dropped",
+            "Upgrades an image file of an older release in place: recovers it,\nand prints what was kept and dropped",
         )
         .arg(path(alloc, "image", "The image file to upgrade"))
 }
@@ -322,7 +322,7 @@ fn drive<'a>(alloc: Global) -> Result<Command<'a>, AllocError>
     let image = file(
         alloc,
         "image",
-        "The image file on which they work: made where it is\nmissing or empty, and else gone on with. In memory\nwithout this",
+        "The image file on which they work. It is made if it\nis missing or empty. In memory without this",
     );
     let command = Command::new(alloc, "drive").about(
         "Lets threads count on one heap, and prints how many sections of each\nare acknowledged, and what they have counted",
@@ -352,7 +352,7 @@ fn run<'a>(alloc: Global) -> Result<Command<'a>, AllocError>
         "Ends at the first refused line, with status 1. An\nimage stays as it was then",
     );
     let command = Command::new(alloc, "run").about(
-        "Plays the script on standard input, as no word at all does too. With\n--image it is played over an image file: the file is recovered, what\nthe lines leave of it takes its place, and then the report and what\nthey print is printed; where that can't be done, nothing is, and the\nfile stays as it was",
+        "Plays the script on standard input; the default without a command.\nWith --image it recovers an image file, plays the script over it and\nreplaces the file. Then it prints the report and the output of the\nscript. If that fails, it prints no output and leaves the file as it\nwas",
     );
     with_option(with_option(with_option(Ok(command), image), schema), strict)
 }
