@@ -101,9 +101,7 @@ pub(crate) fn last<'a>(alloc: Global) -> Arg<'a>
     Arg::new(alloc, "last")
         .long("last")
         .value_name("N")
-        .help(
-            "With --dot: draws at most the last N sections of\neach thread. 50 without this",
-        )
+        .help("With --dot: draws at most the last N sections of\neach thread. 50 without this")
         .value_parser(value_parser!(u32).range(1..=1_000_000_000))
 }
 
