@@ -107,6 +107,11 @@ class Monitors(OnFile):
             section = heap.synchronized(heap.alice)
             with section, self.assertRaisesRegex(zelamiku.Refused, "for each `with`"):
                 enter(section)
+            # One whose end was asked for and not called, as by who looks what it has.
+            section = heap.synchronized(heap.alice)
+            self.assertTrue(callable(section.__exit__))
+            with self.assertRaisesRegex(zelamiku.Refused, "entered before"):
+                enter(section)
 
 
 class Exceptions(OnFile):
