@@ -29,6 +29,7 @@ from made import ROOT, read
 # Changes that nobody could see: the file, what the line has, the operator ("": each), and why.
 EQUIVALENT = [
     ("__main__.py", r"before.get\(name, \(None, 0", "", "a member that the old declaration hasn't has no first field there"),
+    ("__main__.py", r"os.close\(folder\)", "", "the program ends, and its descriptors with it"),
     ("heap.py", "ring=4_096, fingerprint=plan", "", "it only saves memory while a new heap is made"),
     ("declare.py", "raise NotImplementedError", "", "each kind of member has its own"),
     ("durable.rs", r"let mut is_durable = false;", "", "the library writes it"),

@@ -98,6 +98,9 @@ class Words(OnFile):
         status, out, error = self.run_with("--help")
         self.assertEqual((status, error), (0, ""))
         self.assertIn("usage: python -m zelamiku [-h] {show,migrate} ...\n\n" + zelamiku_main.__doc__, out)
+        status, out, error = self.run_with()
+        self.assertEqual((status, out), (2, ""))
+        self.assertIn("arguments are required: word", error)
         out = " ".join(self.run_with("migrate", "--help")[1].split())
         self.assertIn("usage: python -m zelamiku migrate [-h] [--lanes N] [--drop] FILE MODULE[:NAME] [MODULE[:NAME]]", out)
         for text in ("the new declaration; by default the same one", "for so many threads; by default as many as it has", "lose the fields that the new declaration doesn't have"):
