@@ -1,12 +1,18 @@
 -- Lines of fields, and assignments, one name after the other.
-use Rattle.std.proofs.Common.{ℕ, ◌≡◌, ◌+◌, ◌<◌, ◌⊎◌, Option, List, drop, length, get_or, refl, sym, subst, inl, inr, ◌∙◌}
+use Rattle.std.proofs.Common.{ℕ, ◌≡◌, ◌+◌, ◌<◌, ◌⊎◌, Option, List, [], Err, drop, length, get_or, refl, sym, subst, inl, inr, ◌∙◌}
 use Rattle.std.proofs.lemmas.List.{drop_more}
 use Rattle.std.proofs.lemmas.Option.{slice_get-get_or}
 use Rattle.std.specs.Borrow.{Bor}
 use Rattle.guards.specs.Schema.{Declarations}
 use Rattle.script_images.specs.Assigning.{HasAssignments, IsAssigned, IsPlanned, IsPlayedPlan, IsSetOver, Misses, MissesAt, RefusesPlayed, RefusesTexts, RefusesToSet, told_of_miss}
-use Rattle.script_images.specs.Values.{HasLine, HasLines, HasNoField, IsNoField, RefusesStudied, RefusesValues}
-use Rattle.image_file.specs.Images.{IsThere}
+use Rattle.script_images.specs.Values.{GetsBy, HasLine, HasLines, HasNoField, IsNoField, RefusesHeldValues, RefusesNames, RefusesStudied, RefusesStudy, RefusesValues}
+use Rattle.std.specs.Io.KnownBytes.{Appends}
+use Rattle.image_file.specs.Images.{BeginsThere, IsThere}
+use Rattle.image_file.specs.Naming.{IsNamedBy}
+use Rattle.image_file.specs.declared.error.ImageFault.TheVariants as images
+use Rattle.image_file.specs.declared.error.NamedFault.TheVariants as named
+use Rattle.image_schema.specs.OfImage.{named_as}
+use Rattle.recover.specs.Reading.{RefusesImage}
 use Rattle.recover.specs.Study.{IsStudyOf}
 use Rattle.recover.specs.declared.studied.Study.{Study}
 use Rattle.script_images.specs.declared.assigning.Miss.{Miss}
@@ -43,12 +49,36 @@ told_refuses schema texts miss.Unknown place misses = misses
 told_refuses schema texts miss.Transient place misses = misses
 told_refuses schema texts miss.NoMemory place misses = refl
 
+-- what a refusal to tell of the names says of the study
+pub names_refused : (given : Option Declarations) (names : List (Bor (List ℕ))) (s : Study) (fault : ValueFault)
+    → RefusesNames (named_as given s) s.heap.items names fault → RefusesStudied given names s fault
+names_refused given names s (values.Named why) refused = subst (RefusesStudy given s) (sym refused) refl
+names_refused given names s (values.Unknown place) refused = refused
+names_refused given names s values.Write refused = absurd refused
+
 -- what a refusal to tell of a study says of the image
 pub none_of : (given : Option Declarations) (names : List (Bor (List ℕ))) (image : List ℕ) (s : Study) → IsStudyOf image s → (fault : ValueFault)
     → RefusesStudied given names s fault → RefusesValues given names image fault
-none_of given names image s studied (values.Named why) refused = tt
+none_of given names image s studied (values.Named (named.Image (images.Image why))) refused = subst (RefusesImage image) (sym refused) tt
+none_of given names image s studied (values.Named (named.Image images.InUse)) refused = absurd refused
+none_of given names image s studied (values.Named (named.Schema why)) refused = absurd refused
+none_of given names image s studied (values.Named named.OtherSchema) refused = record { study = s; studied = studied; other = refused }
 none_of given names image s studied (values.Unknown place) refused = record { study = s; studied = studied; none = refused }
 none_of given names image s studied values.Write refused = absurd refused
+
+-- and of the one that is there
+pub none_there : (given : Option Declarations) (names : List (Bor (List ℕ))) (image : List ℕ) (had : Option (List ℕ)) → BeginsThere image had → (fault : ValueFault)
+    → RefusesValues given names image fault → RefusesHeldValues given names had fault
+none_there given names image had begins (values.Named why) refused = inr (record { image = image; begins = begins; refused = refused })
+none_there given names image had begins (values.Unknown place) refused = record { image = image; begins = begins; refused = refused }
+none_there given names image had begins values.Write refused = absurd refused
+
+-- nothing was written
+pub none_got : {P : Type 0} (path : Option P) (given : Option Declarations) (names : List (Bor (List ℕ))) (had has old new : Option (List ℕ)) → IsNamedBy path given
+    → (fault : ValueFault) → RefusesHeldValues given names had fault → has ≡ had → Appends old new [] → GetsBy path names (Err fault) had has old new
+none_got path given names had has old new is_named (values.Named why) refused same silent = (inr (record { given = given; is_named = is_named; refused = refused }), same, silent)
+none_got path given names had has old new is_named (values.Unknown place) refused same silent = (record { given = given; is_named = is_named; none = refused }, same, silent)
+none_got path given names had has old new is_named values.Write refused same silent = absurd refused
 
 -- the lines of the section were played, or not
 module _ (given : Option Declarations) (texts : List (Bor (List ℕ))) (image : List ℕ) (schema : Declarations) (lines heap : List ℕ) where

@@ -47,8 +47,8 @@ where
     R: Files<File = F>,
     W: Write,
     // What is written are the values that recovery of the image at the path gives to the named fields, in their order, and
-    // the image stays. A name is refused only where that image has no field of it. A refusal writes nothing, or a
-    // beginning of the lines where the writer fails.
+    // the image stays. A name is refused only where that image has no field of it. The image or the schema file is refused
+    // only for what is wrong with it. A refusal writes nothing, or a beginning of the lines where the writer fails.
     ensures ends { GetsBy schema_path.entry names.now result (P.holds images.old path.now) (P.holds images.new path.now)
         (W.contents writer.old) (W.contents writer.new) }
     // Nothing beside the path is lost.
