@@ -182,7 +182,7 @@ class Run:
 FEW = {
     "program": [Run("drive", states=40, in_recovery=10, true=1)],
     "threads": [Run("histories", states=40, in_recovery=10, true=2)],
-    "control": [Run("threads", without=2), Run("threads", failures=60, fails=("gate",), is_unmended=True)],
+    "control": [Run("threads", without=2)],
 }
 FEW_NATIVE = {
     "program": [Run("drive", states=60, in_recovery=16, true=3)],
