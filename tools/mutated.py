@@ -30,6 +30,7 @@ from made import ROOT, read
 EQUIVALENT = [
     ("__main__.py", r"before.get\(name, \(None, 0", "", "a member that the old declaration hasn't has no first field there"),
     ("__main__.py", r"os.close\(folder\)", "", "the program ends, and its descriptors with it"),
+    ("session.py", "if timeout > 0 else 0", "comparison", "a deadline of now has passed, too"),
     ("heap.py", "ring=4_096, fingerprint=plan", "", "it only saves memory while a new heap is made"),
     ("declare.py", "raise NotImplementedError", "", "each kind of member has its own"),
     ("durable.rs", r"let mut is_durable = false;", "", "the library writes it"),

@@ -60,6 +60,8 @@ seats.next 1
 class Words(OnFile):
     def setUp(self):
         super().setUp()
+        # What isn't buffered fails at once.
+        self.enterContext(mock.patch.dict(os.environ)).pop("PYTHONUNBUFFERED", None)
         Path(self.folder, "bank.py").write_text(MODULE)
         self.declared = {}
         exec(MODULE, self.declared)
