@@ -18,6 +18,7 @@ import signal
 import subprocess
 import sys
 import tempfile
+import threading
 import time
 import unittest
 import warnings
@@ -160,6 +161,7 @@ def python(folder):
 def run_python(at, tests, environment):
     """Runs these tests in this process, which is forked for it; without one it prints the names of all."""
     os.setsid()
+    threading.current_thread().name = "MainThread"
     for descriptor in (1, 2):
         os.dup2(os.open(f"{os.path.dirname(at)}/{os.getpid()}", os.O_WRONLY | os.O_CREAT | os.O_APPEND), descriptor)
     os.chdir(at)

@@ -24,7 +24,8 @@ const PASSING: Field = Field(8);
 
 // Three accounts, a pool that the first one guards, and a transient field of it.
 fn accounts() -> Options {
-    let options = Heap::options().lanes(4).objects(3);
+    // The last word counts.
+    let options = Heap::options().lanes(4).objects(3).reverts(false).reverts(true);
     let options = [(ALICE, 90), (BOB, 110), (CAROL, 0)].into_iter().fold(options, |all, (of, first)| all.field(of.balance, of.object, first));
     options.pool(SLOTS, ALICE.object).transient(PASSING, ALICE.object, 0)
 }
