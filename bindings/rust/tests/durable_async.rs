@@ -124,6 +124,33 @@ fn one_that_is_polled_again_requests_no_more_rounds() {
     });
 }
 
+// A waker that has a future: it is dropped with it.
+struct Keeps(#[allow(dead_code)] Durable);
+
+impl Wake for Keeps {
+    fn wake(self: Arc<Self>) {}
+}
+
+#[test]
+fn a_waker_that_is_dropped_may_drop_a_future() {
+    let scratch = Scratch::new("async-drop");
+    let heap = counters(2).open(&scratch).unwrap();
+    let mut session = heap.session().unwrap();
+    while_nothing_is_durable(&heap, || {
+        count(&mut session, 0);
+        let waiting = || {
+            let mut durable = session.durable_async();
+            assert_eq!(poll(&mut durable, &nobody()), Poll::Pending);
+            durable
+        };
+        let mut durable = waiting();
+        // By another waker in its place, and by the end of the future.
+        assert_eq!(poll(&mut durable, &Waker::from(Arc::new(Keeps(waiting())))), Poll::Pending);
+        assert_eq!(poll(&mut durable, &Waker::from(Arc::new(Keeps(waiting())))), Poll::Pending);
+        drop(durable);
+    });
+}
+
 #[test]
 fn a_thousand_cancelled_futures_leave_nothing() {
     let scratch = Scratch::new("async-cancelled");

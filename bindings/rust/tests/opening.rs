@@ -161,6 +161,8 @@ fn an_error_says_what_was_called_and_the_cure() {
         session.synchronized(Object(0), |s| s.load(Field(1))).unwrap_err(),
         "load field 1: the thread doesn't hold the monitor; enter the object, or the field's guard, first",
     );
+    let error = session.enter(Object(7)).unwrap_err();
+    assert_eq!(error.source().and_then(|it| it.downcast_ref()), Some(&Refusal::UnknownObject));
     let error = accounts().open(&scratch).unwrap_err();
     assert_eq!(error.kind(), ErrorKind::Busy);
     says(error, "open: this process has its heap open already; use that one's handle, or close it before");
