@@ -190,7 +190,7 @@ const char *zelamiku_heap_failure(zelamiku_failure *failure);
  *   DEVICE  it failed, and may be tried again. The device keeps what it had; any of this write's bytes may have reached it, or none
  *   LOST    it failed, and no later call may follow: the connection is gone, or what was written since the last sync may be gone. Every
  *           other value counts as LOST
- * and sets errno to the cause (without one the library reports EIO). What each does:
+ * A function that fails sets errno to the cause (without one the library reports EIO). What each does:
  *   read    fills all of `bytes` with what was last written at that place, synced or not
  *   write   takes all of the bytes. They needn't be durable before the next sync. No write is longer than 65,536 bytes, and few are aligned
  *   sync    returns OK once all earlier writes are durable: no crash and no loss of power loses them. Return DEVICE only if everything written since
@@ -202,8 +202,8 @@ const char *zelamiku_heap_failure(zelamiku_failure *failure);
  * read there: a crash during such a rewrite must not change a durable byte.
  *
  * A heap is made in place if the device is free, that is, if the bytes that the heap takes are zeros, or are what an interrupted making has left.
- * Bytes beyond these are never read. Nothing is locked: the program must see to it that one heap at a time is on a device, and that nobody else
- * writes there.
+ * Bytes beyond these are never read. The library doesn't lock the device: the program must see to it that at most one open heap uses it at a
+ * time, and that nobody else writes there.
  *
  * Errors. If a function fails while a heap is opened, zelamiku_heap_open returns DEVICE, with the cause. Later, DEVICE doesn't end the heap: the
  * failed call is retried, as the top of this header says; the remaining calls of the round follow in order. LOST ends it.
@@ -225,10 +225,10 @@ typedef struct {
 
 /* ---- a heap ---- */
 
-/* The log hook: `level` is one of these, `text` one line without a newline. The caller is the helper's thread, a thread that opens, closes,
- * or copies a heap or waits for a round, or one that has waited a second for a monitor. The calling thread holds no mutex of the library. The hook
- * must not make a call on this heap. The heap's close or stop, and an open that fails, wait for a running hook; after they have returned it isn't
- * called any more. */
+/* The log hook: `level` is one of these, `text` one line without a newline. The helper calls it, or a thread that opens, closes, stops or copies
+ * the heap, that waits for a round, or that has waited a second for a monitor. The caller holds no mutex of the library. The hook must not make a
+ * call on this heap. The heap's close or stop, and an open that fails, wait for a running hook; after they have returned it isn't called any
+ * more. */
 enum { ZELAMIKU_LOG_INFO = 0, ZELAMIKU_LOG_WARNING = 1, ZELAMIKU_LOG_ERROR = 2 };
 typedef void zelamiku_log(void *context, uint32_t level, const char *text);
 
@@ -248,7 +248,7 @@ typedef struct {
     uint32_t linger;               /* microseconds before a round takes a section that has stored and that nobody awaits; 0 is 5,000 */
     uint32_t upgrades;             /* 1: a heap of an older version is upgraded in place; 0: OLD_VERSION */
     uint32_t must_exist;           /* 1: a path without a heap is NO_HEAP, and no file is made */
-    uint32_t reverts;              /* 1: zelamiku_thread_revert can undo a section's stores. 24 bytes of memory a lane and field */
+    uint32_t reverts;              /* 1: zelamiku_thread_revert can undo a section's stores. Takes 24 bytes of memory for each field in each lane */
     uint64_t fingerprint;          /* of the fields' names in the program, or any number: see zelamiku_heap_open. 0: none */
     zelamiku_log *log;             /* or NULL */
     void *log_context;             /* handed to it; valid as long as the hook may be called */
@@ -277,7 +277,7 @@ enum {
     ZELAMIKU_DAMAGED_LOG = 5      /* no threads can have left these records */
 };
 
-/* What an opening found. The helper's lane is left out: `lanes` counts the threads' lanes, and `dropped` the threads' sections that are in the log.
+/* What an opening found. The helper's lane is left out: `lanes` counts the threads' lanes, and `dropped` the threads' sections that were dropped.
  * A section that no round had logged is lost without being counted.
  * Exception: if `dropped` isn't 0, `undone` also counts fields whose old values were in the helper's lane. If `dropped` is 0, `undone` is 0. */
 typedef struct {
@@ -291,7 +291,7 @@ typedef struct {
     uint32_t difference;   /* after OTHER_HEAP: the first difference found, ZELAMIKU_DIFFERENT_.. */
     uint32_t field;        /* which field, for OWNER, GUARD and MARK */
     uint32_t reserved;     /* 0 */
-    uint64_t has, planned; /* what the file has there, and what the plan says */
+    uint64_t has, planned; /* after OTHER_HEAP: what differs, as the file has it and as the plan has it */
     uint64_t bad_place;    /* the bad record's place in its lane */
     uint64_t bytes;        /* of the image */
     uint64_t dropped;      /* the sections that recovery dropped; none was acknowledged. zelamiku_heap_dropped has each */
@@ -313,7 +313,7 @@ typedef struct {
  * lanes, and none for the helper: rounds take four. An existing heap may have more lanes than the plan has threads: its last lane is then the
  * helper's, and all others are threads'. One with as many lanes as the plan has threads is opened too, without a lane for the helper: rounds
  * take four. The file doesn't record whether its last lane was the helper's. If the last lane was a thread's and is now the helper's, the report
- * omits that thread's sections. If it was the helper's and is now a thread's, the report lists the helper's as UNSETTLED.
+ * omits that thread's sections. If it was the helper's and is now a thread's, the report counts the helper's sections as dropped (UNSETTLED).
  * A heap made by a plan with a fingerprint has one field more, the last: transient, of object 0, with the fingerprint as its first value. The
  * report doesn't count it, and programs don't use it: a store there lasts until the heap is closed, and changes no fingerprint. A heap with no
  * fingerprint and as many fields as the plan is opened too.
@@ -343,7 +343,7 @@ ZELAMIKU_MUST_USE zelamiku_status zelamiku_heap_open(zelamiku_heap *heap, const 
 
 /* Why a section was dropped. */
 enum {
-    ZELAMIKU_NOT_DROPPED = 0, /* there is no section of that number */
+    ZELAMIKU_NOT_DROPPED = 0, /* no dropped section has this index, or the heap has ended */
     ZELAMIKU_NOT_ENDED = 1,   /* it hadn't ended */
     ZELAMIKU_DEPENDED = 2,    /* it depends on another that wasn't kept */
     ZELAMIKU_UNSETTLED = 3    /* it had ended, and wasn't acknowledged */
@@ -401,7 +401,7 @@ enum {
     ZELAMIKU_ROUND_LINGER = 5,  /* the linger has passed */
     ZELAMIKU_ROUND_AGAIN = 6,   /* a second after a write has failed */
     ZELAMIKU_ROUND_CLOSING = 7,
-    ZELAMIKU_ROUND_LEFT = 8     /* the round before reached its bound and left records */
+    ZELAMIKU_ROUND_LEFT = 8     /* the previous round reached its bound and left records */
 };
 
 /* Counts since the open. Each is exact; they are read one after another, at moments close to each other. Times are nanoseconds. */
@@ -445,7 +445,7 @@ ZELAMIKU_MUST_USE zelamiku_status zelamiku_heap_waits(zelamiku_heap heap, zelami
  * the sections of many (zelamiku_thread_progress). Returns OK, also at the deadline; DEVICE: the write of a round has failed; Ended. */
 ZELAMIKU_MUST_USE zelamiku_status zelamiku_heap_await_round(zelamiku_heap heap, uint64_t seen, uint64_t deadline, uint64_t *rounds);
 
-/* ---- a thread's use of it ---- */
+/* ---- a thread's use of a heap ---- */
 
 /* Hands out a lane that is free. Returns OK; NONE_LEFT: all are in use; Ended. After a failure `thread` isn't a valid handle. */
 ZELAMIKU_MUST_USE zelamiku_status zelamiku_thread_begin(zelamiku_thread *thread, zelamiku_heap heap);
@@ -527,9 +527,9 @@ typedef struct {
 ZELAMIKU_MUST_USE zelamiku_status zelamiku_thread_progress(zelamiku_thread thread, zelamiku_progress *progress);
 
 /* Sleeps until the thread's first `sections` sections are durable, at most until the deadline (zelamiku_now, or ZELAMIKU_NO_DEADLINE).
- * ZELAMIKU_ALL_SECTIONS, or a number above those ended, means all. The call requests a round, and sleeps on while a section that one of them depends
- * on is open. `is_durable` becomes true if they are durable, else false. With a deadline that has passed the call requests the round and doesn't
- * sleep. A timeout changes nothing for the sections. Any thread may call it. Returns OK, also at the deadline, or
+ * ZELAMIKU_ALL_SECTIONS, or a number above those ended, means all. The call requests a round. A section that depends on an open one becomes durable
+ * only after that one has ended. `is_durable` becomes true if all the awaited sections are durable, else false. With a deadline that has passed the
+ * call requests the round and doesn't sleep. A timeout changes nothing for the sections. Any thread may call it. Returns OK, also at the deadline, or
  *   RUNNING  only for ZELAMIKU_ALL_SECTIONS itself: the thread has a section open. Exit its monitors first
  *   DEVICE   a write has failed: call again
  *   Ended    the sections did not become durable; or, for ZELAMIKU_ALL_SECTIONS alone, an open one was cut off */
@@ -545,8 +545,8 @@ ZELAMIKU_MUST_USE static inline zelamiku_status zelamiku_thread_await(zelamiku_t
 /* ---- a pool: slots that are taken and released ----
  *
  * A pool has slots, numbered from 0. It lies in persistent fields of one object, which guards them: the head, and after it a field for each
- * slot. The program keeps a slot's contents in fields of its own, as field BASE + slot. They may hold the numbers of other slots, which makes
- * lists and trees. If a crash drops a section, the slots that it took or released are as they were before it. The program must not store to the
+ * slot. The program keeps a slot's contents in fields of its own, as field BASE + slot. To make lists and trees, it stores the numbers of other
+ * slots there. If a crash drops a section, the slots that it took or released are as they were before it. The program must not store to the
  * pool's fields by other calls. The image doesn't record where a pool lies: the program must know. */
 
 /* Fills in the fields of a pool of `count - 1` slots, all free: `fields` gets the head and then the slots, one after another, for the plan.
@@ -575,10 +575,10 @@ ZELAMIKU_MUST_USE zelamiku_status zelamiku_thread_give(zelamiku_thread thread, u
 /* Returns the thread's event: a descriptor that becomes readable
  *   - once a round has made some of the requested sections durable,
  *   - once the lane may have room again, after zelamiku_thread_enter_until with a deadline of 0 returned BEHIND,
- *   - once a write has failed while one of these is pending, and
+ *   - once a write has failed while the thread waits for requested sections or for room, and
  *   - once the heap has ended.
- * zelamiku_thread_ask makes it unreadable. Exception: after the event has reported room, the first zelamiku_thread_ask leaves it readable until a
- * section of the thread has ended. So a loop that asks before it waits still wakes up and tries again. The first call makes the descriptor. It
+ * zelamiku_thread_ask makes it unreadable. Exception: the first zelamiku_thread_ask after the event has reported room leaves it readable, unless a
+ * section of the thread has ended since. So a loop that asks before it waits still wakes up and tries again. The first call makes the descriptor. It
  * belongs to the library: only wait for it, by level or by edge. zelamiku_thread_end closes it, also after the heap has ended, and a fork closes it
  * in the child: remove it from the loop first. If the program has closed it by mistake, the library doesn't touch whatever file has that number by
  * then, and the next call makes another one.
