@@ -301,7 +301,8 @@ static void live(beginning how) {
     copy_one(heap);
     zelamiku_status status = zelamiku_thread_end(own);
     MUST(status == ZELAMIKU_OK || (has_ended(status) && !passes(status)));
-    if (!passes(zelamiku_heap_close(heap)) && told == ZELAMIKU_DEVICE) MUST(zelamiku_heap_close(heap) == ZELAMIKU_OK);
+    bool stops = has_ended(told) && refused_one % 2 == 0; /* that returns why it has ended, too */
+    if (!passes(stops ? zelamiku_heap_stop(heap, ZELAMIKU_CLOSED) : zelamiku_heap_close(heap)) && told == ZELAMIKU_DEVICE) MUST(zelamiku_heap_close(heap) == ZELAMIKU_OK);
 }
 
 /* Nothing is refused any more: the heap is there, or can be made, and has what was durable. A copy takes up what one that was cut off has left. */
