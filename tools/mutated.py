@@ -130,8 +130,9 @@ def python(folder):
     names = [os.path.basename(it) for it in sorted(glob.glob(f"{ROOT}/bindings/python/zelamiku/*.py")) if not it.endswith("__init__.py")]
     chosen = yield [dict(it, place=place) for name in names for place, it in enumerate(Changer(name, {}, False).all)]
     for is_reach in (True, False):
-        at = f"{folder}/{is_reach}"
+        at = f"{folder}/{is_reach}/python/tests"
         shutil.copytree(f"{ROOT}/bindings/python/tests", at)
+        os.symlink(f"{ROOT}/bindings/c", f"{folder}/{is_reach}/c")
         with open(f"{at}/support.py", "w", encoding="utf-8") as file:
             file.write(re.sub(r"(?m)^PATIENCE = .*", "PATIENCE = 60", read("bindings/python/tests/support.py")))
         os.mkdir(f"{at}/zelamiku")
@@ -148,7 +149,7 @@ def python(folder):
                 importlib.import_module(name)
 
     def run(tests, seconds, **environment):
-        child = multiprocessing.get_context("fork").Process(target=run_python, args=(f"{folder}/{'REACHED' in environment}", tests, environment))
+        child = multiprocessing.get_context("fork").Process(target=run_python, args=(f"{folder}/{'REACHED' in environment}/python/tests", tests, environment))
         child.start()
         child.join(seconds)
         if child.exitcode is None:
@@ -165,7 +166,7 @@ def run_python(at, tests, environment):
     os.setsid()
     threading.current_thread().name = "MainThread"
     for descriptor in (1, 2):
-        os.dup2(os.open(f"{os.path.dirname(at)}/{os.getpid()}", os.O_WRONLY | os.O_CREAT | os.O_APPEND), descriptor)
+        os.dup2(os.open(f"{at}/../../../{os.getpid()}", os.O_WRONLY | os.O_CREAT | os.O_APPEND), descriptor)
     os.chdir(at)
     os.environ.update(environment, PYTHONPATH=at, ZELAMIKU_LIBS=LIBS)
     sys.path.insert(0, at)

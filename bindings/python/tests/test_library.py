@@ -1,6 +1,7 @@
 """Where the library is looked for, what is wrong with another one, and its structs."""
 import ctypes.util
 import os
+import re
 import shutil
 import tempfile
 import unittest
@@ -39,6 +40,15 @@ class Wrong(unittest.TestCase):
 
 
 class Structs(unittest.TestCase):
+    def test_numbers_are_those_of_the_header(self):
+        header = Path(__file__).parents[2].joinpath("c", "zelamiku.h").read_text()
+        numbers = {name: int(number) for name, number in re.findall(r"\bZELAMIKU_(\w+)(?: =)? (\d+)", header)}
+        for name in ("MOST_LANES", "NOBODY", "NO_NUMBER", "OK", "NOTHING", "NONE_LEFT", "RUNNING", "NOT_HELD", "BEHIND", "HELD", "DEVICE", "POOL_EMPTY",
+                     "CLOSED", "ABANDONED", "OTHER_HEAP"):  # fmt: skip
+            self.assertEqual(getattr(library, name), numbers[name], name)
+        for kind, front in ((zelamiku.Cause, "ROUND_"), (zelamiku.Why, "")):
+            self.assertEqual({each.name: each.value for each in kind}, {name: numbers[front + name] for name in kind.__members__})
+
     def test_each_has_the_size_of_the_header_and_says_it(self):
         sizes = {
             library.FieldRow: 24,
