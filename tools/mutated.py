@@ -28,12 +28,15 @@ from concurrent.futures import ThreadPoolExecutor
 from made import ROOT, read
 
 HANGS = "it doesn't end"
-# Changes that nobody could see: the file, what the line has, the operator ("": each), and why.
+# Changes that nobody could see, or that another step of the gate finds: the file, what the line has, the operator ("": each), and why.
 EQUIVALENT = [
     ("__main__.py", r"before.get\(name, \(None, 0", "", "a member that the old declaration hasn't has no first field there"),
     ("__main__.py", r"os.close\(folder\)", "", "the program ends, and its descriptors with it"),
     ("session.py", "if timeout > 0 else 0", "comparison", "a deadline of now has passed, too"),
     ("heap.py", "ring=4_096, fingerprint=plan", "", "it only saves memory while a new heap is made"),
+    ("heap.py", r'"ring", ring, 4_096', "one less", "the library refuses it too, in other words"),
+    ("library.py", r"row.cure.decode\(", "", "the library's cures are ASCII"),
+    ("errors.py", r"^    \d+: \w+,", "", "tools/statuses finds it"),
     ("declare.py", "raise NotImplementedError", "", "each kind of member has its own"),
     ("durable.rs", r"let mut is_durable = false;", "", "the library writes it"),
     ("held.rs", r"let mut (value|lanes|slot) = ", "", "the library writes it"),
@@ -51,11 +54,11 @@ SWAPS = {ast.Lt: ast.LtE, ast.LtE: ast.Lt, ast.Gt: ast.GtE, ast.GtE: ast.Gt, ast
 FRONT = """
 import os as _os
 _MUTANT, _SEEN = int(_os.environ.get("MUTANT", 0)), set()
+_LOG = _os.open(_os.environ.get("REACHED", "/dev/null"), _os.O_WRONLY | _os.O_CREAT | _os.O_APPEND)
 def _reached(number):
     if number not in _SEEN:
         _SEEN.add(number)
-        with _os.fdopen(_os.open(_os.environ["REACHED"], _os.O_WRONLY | _os.O_CREAT | _os.O_APPEND), "w") as file:
-            file.write(f"{number} ")
+        _os.write(_LOG, b"%d " % number)
 """
 
 

@@ -1,5 +1,6 @@
 """Heaps that are made, used, closed and opened again."""
 import contextlib
+import dataclasses
 import errno
 import gc
 import logging
@@ -434,6 +435,9 @@ class Living(OnFile):
         self.assertTrue(stats.rounds >= 1 and stats.calls > stats.syncs >= 2 and stats.lent == 1 and stats.is_astray is False)
         self.assertTrue(0 < stats.calls_time < LONG and 0 < stats.longest_round < LONG)
         self.assertIs(stats.last_cause, zelamiku.Cause.AWAITED)
+        for told in (stats, heap.report, zelamiku.Wait(0, heap.alice, None, False), zelamiku.Dropped(0, 1, zelamiku.Why.NOT_ENDED, None)):
+            with self.assertRaises(dataclasses.FrozenInstanceError):
+                told.lane = 7
 
     def test_the_log_is_called_by_whichever_thread(self):
         lines = []
