@@ -42,6 +42,9 @@ EQUIVALENT = [
     ("held.rs", r"let mut (value|lanes|slot) = ", "", "the library writes it"),
     ("session.rs", r"self.enter_by\(object, 0\)", "one more", "a deadline of one nanosecond has passed, too"),
     ("durable.rs", "^            return;$", "no way out", "no waker has the ticket 0"),
+    ("durable.rs", "return Ok\\(\\(\\)\\);$", "no way out", "what is asked for next has the heap's end"),
+    ("durable.rs", "is_asked && progress.end == OK", "never", "it only asks for the round once more"),
+    ("durable.rs", "return None;$", "no way out", "as above"),
     ("durable.rs", r"Ok\(_\) => \(None, true\)", "truth", "it only asks for the round once more"),
 ]
 

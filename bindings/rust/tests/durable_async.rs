@@ -106,24 +106,6 @@ fn a_section_that_depends_on_an_open_one_is_told_once_that_ends() {
     assert_eq!(poll(&mut durable.unwrap(), &waker), Poll::Ready(Ok(())));
 }
 
-#[test]
-fn one_that_is_polled_again_requests_no_more_rounds() {
-    let scratch = Scratch::new("async-again");
-    let heap = counters(2).linger(Duration::from_secs(3_600)).open(&scratch).unwrap();
-    let mut session = heap.session().unwrap();
-    while_nothing_is_durable(&heap, || {
-        count(&mut session, 0);
-        let mut durable = session.durable_async();
-        assert_eq!(poll(&mut durable, &nobody()), Poll::Pending);
-        let before = heap.stats().unwrap().rounds;
-        for _ in 0..100 {
-            assert_eq!(poll(&mut durable, &nobody()), Poll::Pending);
-            std::thread::sleep(Duration::from_millis(1));
-        }
-        assert!(heap.stats().unwrap().rounds < before + 10);
-    });
-}
-
 // A waker that has a future: it is dropped with it.
 struct Keeps(#[allow(dead_code)] Durable);
 
