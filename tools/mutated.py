@@ -34,7 +34,7 @@ EQUIVALENT = [
     ("__main__.py", r"os.close\(folder\)", "", "the program ends, and its descriptors with it"),
     ("session.py", "if timeout > 0 else 0", "comparison", "a deadline of now has passed, too"),
     ("heap.py", "ring=4_096, fingerprint=plan", "", "it only saves memory while a new heap is made"),
-    ("heap.py", r'"ring", ring, 4_096', "one less", "the library refuses it too, in other words"),
+    ("heap.py", r'"ring", ring, 4_096', "", "the library refuses it too, in other words"),
     ("library.py", r"row.cure.decode\(", "", "the library's cures are ASCII"),
     ("errors.py", r"^    \d+: \w+,", "", "tools/statuses finds it"),
     ("declare.py", "raise NotImplementedError", "", "each kind of member has its own"),
