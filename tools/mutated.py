@@ -36,6 +36,7 @@ EQUIVALENT = [
     ("heap.py", "ring=4_096, fingerprint=plan", "", "it only saves memory while a new heap is made"),
     ("heap.py", r'"ring", ring, 4_096', "", "the library refuses it too, in other words"),
     ("library.py", r"row.cure.decode\(", "", "the library's cures are ASCII"),
+    ("library.py", "^ALL_SECTIONS", "one less", "no lane has so many sections"),
     ("errors.py", r"^    \d+: \w+,", "", "tools/statuses finds it"),
     ("declare.py", "raise NotImplementedError", "", "each kind of member has its own"),
     ("durable.rs", r"let mut is_durable = false;", "", "the library writes it"),
