@@ -354,7 +354,7 @@ static void no_helper(void) {
         MUST(zelamiku_heap_open(&heap, "heap", &PLAN, NULL) == ZELAMIKU_NO_MEMORY && last_failure().error == EAGAIN && heap.number == 0);
         if (i == 1) before = mallinfo2().uordblks;
     }
-    MUST(mallinfo2().uordblks < before + 20000);
+    UNTIL(mallinfo2().uordblks < before + 20000); /* threads that have ended may take a moment */
     no_threads = false;
 }
 

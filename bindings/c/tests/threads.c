@@ -1124,20 +1124,6 @@ static void waits_end_what_is_stored(void) {
     MUST(pthread_join(waiter, NULL) == 0 && zelamiku_heap_close(all) == ZELAMIKU_OK);
 }
 
-/* A wait that ends a section asks for no round. */
-static void waits_ask_for_no_round(void) {
-    pthread_t waiter;
-    uint32_t woken = 0;
-    begin_without_linger(65536, 4096);
-    zelamiku_thread own = begin_thread();
-    holder = begin_thread();
-    MUST(pthread_create(&waiter, NULL, wait_by_holder, NULL) == 0);
-    await_waiter(own);
-    usleep(20000);
-    MUST(stats().rounds == 0 && zelamiku_thread_enter(own, TOTAL) == ZELAMIKU_OK && notify_one(own, TOTAL, &woken) == ZELAMIKU_OK);
-    MUST(zelamiku_thread_exit(own, TOTAL) == ZELAMIKU_OK && pthread_join(waiter, NULL) == 0 && zelamiku_heap_close(all) == ZELAMIKU_OK);
-}
-
 /* Whether the thread ends within four minutes: one that doesn't hangs. */
 static bool ends(pthread_t thread, void **answer) {
     struct timespec due;
@@ -1882,7 +1868,6 @@ int main(int argc, char **argv) {
     still_sections(1);
     looks_depend_on_stores();
     waits_end_what_is_stored();
-    waits_ask_for_no_round();
     awaits_what_has_ended();
     ends_beside_failing_syncs();
     stops(ZELAMIKU_CLOSED);
