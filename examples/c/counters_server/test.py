@@ -18,6 +18,7 @@ Needs cc and Python alone. The library must be there (tools/c-library, or ZELAMI
 The last line counts the parts; the exit status is 1 if one has failed. A time is only waited for to end what hangs (PATIENCE).
 """
 import argparse
+import contextlib
 import os
 import random
 import re
@@ -140,13 +141,13 @@ class Client:
 def told_by(server, text):
     """All that the server sends to a client that has sent this and then its end."""
     client, told = server.connect(), b""
-    try:
+    # (what the server has sent stays to be read if it refused the client first)
+    with contextlib.suppress(BrokenPipeError, ConnectionResetError):
         client.sendall(text)
         client.shutdown(socket.SHUT_WR)
+    with contextlib.suppress(ConnectionResetError):
         while more := client.recv(1 << 16):
             told += more
-    except (BrokenPipeError, ConnectionResetError):
-        pass
     client.close()
     return told
 
