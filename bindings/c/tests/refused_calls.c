@@ -1,6 +1,6 @@
 /* Each call of the system that zelamiku_threads.c makes is refused in turn: memory, files, locks, links, threads, events. A life of a heap is lived
  * once for each. One call reports the refusal, with its cause, or all go on without what was refused. Nothing that was told durable is lost, no file is
- * left beside, and the next life has all again.
+ * left beside, no memory is kept, and the next life has all again.
  *
  *     refused_calls FOLDER      prints how many calls were refused, and answers 0, where all is as it must be */
 #define _GNU_SOURCE
@@ -27,7 +27,8 @@
 static _Atomic unsigned long turn;  /* calls of the life that is lived */
 static _Atomic unsigned long refused_one; /* which of them; 0: none */
 static _Atomic int with;            /* errno */
-static _Atomic bool is_of_a_sync;   /* that call is a sync: one call must report it */
+static _Atomic bool must_be_told;   /* that call is a sync, or finds out a path: one call must report it */
+static _Atomic long blocks;         /* of memory that are allocated */
 
 static bool refuses(int error) {
     if (refused_one == 0 || ++turn != refused_one) return false;
@@ -36,23 +37,38 @@ static bool refuses(int error) {
 }
 
 /* Functions in place of the system's: so each line of the scheduler's C has the branches that it has by itself (tools/coverage). */
+static void *counted(void *block) {
+    blocks += block != NULL;
+    return block;
+}
 static void *refused_malloc(size_t size) {
-    return refuses(ENOMEM) ? NULL : malloc(size);
+    return refuses(ENOMEM) ? NULL : counted(malloc(size));
 }
 static void *refused_calloc(size_t count, size_t size) {
-    return refuses(ENOMEM) ? NULL : calloc(count, size);
+    return refuses(ENOMEM) ? NULL : counted(calloc(count, size));
 }
 static void *refused_aligned(size_t line, size_t size) {
-    return refuses(ENOMEM) ? NULL : aligned_alloc(line, size);
+    return refuses(ENOMEM) ? NULL : counted(aligned_alloc(line, size));
 }
 static char *refused_strdup(const char *text) {
-    return refuses(ENOMEM) ? NULL : strdup(text);
+    return refuses(ENOMEM) ? NULL : (char *)counted(strdup(text));
 }
+static void counted_free(void *block) {
+    blocks -= block != NULL;
+    free(block);
+}
+static int strange_close(int file) {
+    int answer = close(file);
+    errno = ENOEXEC; /* a call that succeeds may leave any errno */
+    return answer;
+}
+static bool is_in_use, replaces; /* what is at a path is a device that another has; it is replaced as soon as it is locked */
 static int refused_open(const char *path, int flags, ...) {
     va_list words;
     va_start(words, flags);
     mode_t mode = (flags & O_CREAT) != 0 ? (mode_t)va_arg(words, int) : 0;
     va_end(words);
+    if (is_in_use && (flags & O_EXCL) != 0) return errno = EBUSY, -1;
     return refuses(EACCES) ? -1 : open(path, flags, mode);
 }
 static int refused_fcntl(int file, int how, ...) {
@@ -63,12 +79,15 @@ static int refused_fcntl(int file, int how, ...) {
     return how == F_SETSIG && refuses(ENOMEM) ? -1 : fcntl(file, how, word);
 }
 static int refused_stat(const char *path, struct stat *info) {
-    return refuses(EIO) ? -1 : stat(path, info);
+    if (refuses(EIO) || stat(path, info) != 0) return -1;
+    if (is_in_use) info->st_mode = S_IFBLK;
+    return 0;
 }
 static int refused_fstat(int file, struct stat *info) {
     return refuses(EIO) ? -1 : fstat(file, info);
 }
 static int refused_flock(int file, int how) {
+    if (replaces && how != LOCK_UN) replaces = rename("another", "heap") != 0;
     return refuses(ENOLCK) ? -1 : flock(file, how);
 }
 static off_t refused_lseek(int file, off_t at, int from) {
@@ -82,7 +101,7 @@ static ssize_t refused_pwrite(int file, const void *bytes, size_t size, off_t at
 }
 static bool refuses_sync(void) {
     bool is_refused = refuses(EIO);
-    is_of_a_sync |= is_refused;
+    must_be_told |= is_refused;
     return is_refused;
 }
 static int refused_fdatasync(int file) {
@@ -101,13 +120,17 @@ static int refused_rename(const char *from, const char *to) {
     return refuses(EIO) ? -1 : rename(from, to);
 }
 static char *refused_realpath(const char *path, char *real) {
-    return refuses(EACCES) ? NULL : realpath(path, real);
+    bool is_refused = refuses(EACCES);
+    must_be_told |= is_refused;
+    return is_refused ? NULL : realpath(path, real);
 }
 static ssize_t refused_readlink(const char *path, char *bytes, size_t size) {
     return refuses(EIO) ? -1 : readlink(path, bytes, size);
 }
 static char *refused_getcwd(char *folder, size_t size) {
-    return refuses(EACCES) ? NULL : getcwd(folder, size);
+    if (!refuses(EACCES)) return getcwd(folder, size);
+    (void)snprintf(folder, size, "nowhere");
+    return NULL;
 }
 static int refused_fchmod(int file, mode_t mode) {
     return refuses(EPERM) ? -1 : fchmod(file, mode);
@@ -135,6 +158,8 @@ static long refused_syscall(long number, long answer) {
 #define calloc refused_calloc
 #define aligned_alloc refused_aligned
 #define strdup refused_strdup
+#define free counted_free
+#define close strange_close
 #define open refused_open
 #define fcntl refused_fcntl
 #define stat(path, info) refused_stat(path, info)
@@ -162,6 +187,8 @@ static long refused_syscall(long number, long answer) {
 #undef fcntl
 #undef rename
 #undef malloc
+#undef free
+#undef close
 
 /* The proved library's memory, in place of the kit's own functions for it. */
 typedef struct {
@@ -172,6 +199,7 @@ typedef struct {
 static allocated allocated_by(void *old, size_t size) {
     static max_align_t nothing;
     void *at = refuses(ENOMEM) ? NULL : realloc(old, size);
+    blocks += old == NULL && at != NULL;
     return (allocated){at != NULL, at != NULL ? at : &nothing};
 }
 
@@ -185,6 +213,7 @@ allocated rattle_realloc(void *old, size_t before, size_t size, size_t least) {
 }
 
 void rattle_dealloc(void *old) {
+    blocks -= old != NULL;
     free(old);
 }
 
@@ -283,6 +312,19 @@ static void copy_one(zelamiku_heap heap) {
     if (passes(status)) MUST(!was_there || before.st_ino != after.st_ino);
 }
 
+/* Whether no memory is in use but what a place keeps until the next heap has it. All heaps are closed. */
+static bool has_freed_all(void) {
+    long kept_there = 0;
+    for (size_t place = 1; place < ZELAMIKU_MOST_HEAPS; place++) kept_there += (heaps[place].path != NULL) + (heaps[place].where != NULL);
+    return blocks == kept_there;
+}
+
+/* Which fields are transient is known, and where the file is, or that nobody knows. */
+static void must_know_itself(zelamiku_heap handle) {
+    heap *of = &heaps[handle.number >> 8 & 255];
+    MUST(of->transient != NULL && (of->where == NULL || access(of->where, F_OK) == 0));
+}
+
 static void live(beginning how) {
     zelamiku_heap heap;
     zelamiku_thread own;
@@ -297,6 +339,7 @@ static void live(beginning how) {
         must_be_as_before(how, opened);
         return;
     }
+    must_know_itself(heap);
     if (passes(zelamiku_thread_begin(&own, heap))) add_one(heap, own);
     copy_one(heap);
     zelamiku_status status = zelamiku_thread_end(own);
@@ -405,6 +448,7 @@ static void copies(void) {
     memset(long_path, 'x', sizeof long_path - 1);
     zelamiku_heap heap = open_one("heap");
     MUST(mkfifo("pipe", 0600) == 0 && mkdir("folder", 0700) == 0 && symlink("elsewhere", "new.heapctl-new") == 0);
+    MUST(zelamiku_heap_copy(heap, "heap") == ZELAMIKU_BUSY && last_failure().error == 0 && strcmp(last_failure().cause, "a heap of that path is open") == 0);
     no_copy_to(heap, "pipe", EINVAL, "name a regular file");
     no_copy_to(heap, "folder", EISDIR, "name a file");
     no_copy_to(heap, long_path, ENAMETOOLONG, "see the system's error, and call again");
@@ -416,7 +460,39 @@ static void copies(void) {
     MUST(zelamiku_heap_copy(heap, "copy") == ZELAMIKU_OK && !forks && zelamiku_heap_close(heap) == ZELAMIKU_OK);
 }
 
-/* A heap is made at the end of a link from the root on. Where a link, or the name beside, makes the path too long, none is made. */
+/* The open is BUSY, and says why, and what to do. */
+static void is_busy(const char *cause, const char *cure) {
+    zelamiku_heap heap;
+    MUST(zelamiku_heap_open(&heap, "heap", &PLAN, NULL) == ZELAMIKU_BUSY && heap.number == 0 && last_failure().error == 0);
+    MUST(strcmp(last_failure().cause, cause) == 0 && strcmp(last_failure().cure, cure) == 0);
+}
+
+/* A device that is mounted, and a file that is replaced while it is opened. */
+static void others(void) {
+    MUST(zelamiku_heap_close(open_one("another")) == ZELAMIKU_OK);
+    is_in_use = true;
+    is_busy("the device is in use", "unmount it, or end the program that has it");
+    is_in_use = false;
+    replaces = true;
+    is_busy("the file was replaced or removed while it was opened", "open it again");
+    MUST(!replaces && is_missing("another") && zelamiku_heap_close(open_one("heap")) == ZELAMIKU_OK);
+}
+
+/* A heap is made at the end of a link from the root on, and of one as long as can be. 40 links are too many, as a loop is. */
+static void links(void) {
+    char name[16], next[16], target[PATH_MAX] = "40";
+    zelamiku_heap heap;
+    for (int i = 0; i < 40; i++) {
+        MUST(snprintf(name, sizeof name, "%d", i) > 0 && snprintf(next, sizeof next, "%d", i + 1) > 0 && symlink(next, name) == 0);
+    }
+    MUST(zelamiku_heap_open(&heap, "0", &PLAN, NULL) == ZELAMIKU_DEVICE && last_failure().error == ELOOP && is_missing("40"));
+    MUST(zelamiku_heap_close(open_one("1")) == ZELAMIKU_OK && !is_missing("40"));
+    for (size_t i = 0; i < sizeof target - 5; i += 2) memcpy(target + i, "./", 2);
+    MUST(snprintf(target + sizeof target - 6, 6, "whole") == 5 && strlen(target) == PATH_MAX - 1 && symlink(target, "longest link") == 0);
+    MUST(zelamiku_heap_close(open_one("longest link")) == ZELAMIKU_OK && !is_missing("whole"));
+}
+
+/* Where a link, or the name beside, makes the path too long, no heap is made. */
 static void paths(void) {
     char here[PATH_MAX], target[PATH_MAX + 16];
     zelamiku_heap heap;
@@ -456,12 +532,13 @@ int main(int argc, char **argv) {
             turn = 0;
             with = 0;
             told = ZELAMIKU_OK;
-            is_of_a_sync = false;
+            must_be_told = false;
             refused_one = ++one;
             live(how);
             bool was_refused = with != 0;
-            MUST(!is_of_a_sync || told != ZELAMIKU_OK);
+            MUST(!must_be_told || told != ZELAMIKU_OK);
             look(how);
+            MUST(has_freed_all());
             if (!was_refused) break;
         } while (one < 5000);
         printf("refused calls: %lu in a life that begins with %s\n", one - 1, BEGINNINGS[how]);
@@ -472,6 +549,8 @@ int main(int argc, char **argv) {
     no_helper();
     many_dropped();
     copies();
+    others();
+    links();
     paths();
     printf("refused calls: %lu, and each was answered or done without\n", all);
     return 0;
