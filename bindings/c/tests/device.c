@@ -519,6 +519,7 @@ static void times(void) {
     is_over = false;
     OK(open_on(&heap, "device", &DEVICE, &plan, NULL));
     zelamiku_thread own = begin_thread();
+    unsigned opened = calls;
     takes = SLOW;
     store(own, 1);
     OK(zelamiku_thread_await(own));
@@ -528,9 +529,10 @@ static void times(void) {
     OK(zelamiku_thread_await(own));
     OK(zelamiku_heap_stats(heap, &second));
     MUST(first.longest_round >= SLOW * 1000 && second.longest_round >= first.longest_round && second.longest_round <= zelamiku_now() - at_first);
-    MUST(first.calls_time >= SLOW * 1000 && second.calls_time > first.calls_time);
+    MUST(first.calls_time >= SLOW * 1000 && second.calls_time > first.calls_time && second.calls_time <= zelamiku_now() - at_first);
+    MUST(second.calls == calls - opened);
     MUST(second.records > first.records && second.two_sync_rounds == first.two_sync_rounds + 1 && second.syncs == first.syncs + 2);
-    usleep(2 * LINGER); /* the helper has looked, and sleeps */
+    usleep(3 * LINGER); /* the helper has looked, and sleeps */
     store(own, 3);
     uint64_t begun = zelamiku_now();
     for (unsigned tries = 0; progress(own).durable < 3; tries++) {
@@ -538,6 +540,8 @@ static void times(void) {
         usleep(1000);
     }
     MUST(zelamiku_now() - begun >= LINGER * 1000 / 2);
+    UNTIL(stats_now(heap).rounds > second.rounds);
+    MUST(stats_now(heap).is_astray == 0); /* a device has no path to look at, as a file has each second */
     close_heap();
 }
 

@@ -158,6 +158,26 @@ static void asks_without_linger(void) {
     add(a, 0);
     await_event(a, event);
     MUST(progress(a).durable == 1 && zelamiku_thread_end(a) == ZELAMIKU_OK);
+    /* One with nothing of its own to ask for brings none. */
+    zelamiku_thread b = begin_thread(), c = begin_thread();
+    uint64_t rounds = stats().rounds;
+    add(b, 0);
+    MUST(ask_well(c) == 0);
+    usleep(20000);
+    MUST(stats().rounds == rounds);
+    close_heap_well();
+}
+
+/* The last of as many lanes as there can be has an event too. */
+static void most_lanes(void) {
+    zelamiku_plan plan = {.size = sizeof(zelamiku_plan), .fields = FIELDS, .count = 4, .objects = 4, .lanes = ZELAMIKU_MOST_LANES};
+    zelamiku_thread own[ZELAMIKU_MOST_LANES];
+    int event;
+    MUST(unlink("event.heap") == 0 && zelamiku_heap_open(&all, "event.heap", &plan, NULL) == ZELAMIKU_OK);
+    for (int i = 0; i < ZELAMIKU_MOST_LANES; i++) own[i] = i < ZELAMIKU_MOST_LANES - 1 ? begin_thread() : begin_loop(&event);
+    add(own[ZELAMIKU_MOST_LANES - 1], 0);
+    await_event(own[ZELAMIKU_MOST_LANES - 1], event);
+    for (int i = 0; i < ZELAMIKU_MOST_LANES; i++) MUST(zelamiku_thread_end(own[i]) == ZELAMIKU_OK);
     close_heap_well();
 }
 
@@ -182,6 +202,31 @@ static void depends(void) {
     MUST(ask_well(b) == 2 && stats().awaiting == 1 && zelamiku_thread_end(b) == ZELAMIKU_OK && stats().awaiting == 0 && is_closed(event));
     MUST(zelamiku_thread_exit(a, 0) == ZELAMIKU_OK && zelamiku_thread_end(a) == ZELAMIKU_OK);
     close_heap_well();
+}
+
+/* By edge there is no news but of a round that has made some of the thread's sections durable, though it waits for more. */
+static void edges(void) {
+    int event, edges = epoll_create1(EPOLL_CLOEXEC);
+    struct epoll_event edge = {.events = EPOLLIN | EPOLLET};
+    begin_heap(true);
+    zelamiku_thread a = begin_thread(), b = begin_loop(&event), c = begin_thread();
+    MUST(edges >= 0 && epoll_ctl(edges, EPOLL_CTL_ADD, event, &edge) == 0);
+    MUST(zelamiku_thread_enter(a, 0) == ZELAMIKU_OK && zelamiku_thread_enter(a, 1) == ZELAMIKU_OK);
+    MUST(zelamiku_thread_store(a, 1, 7) == ZELAMIKU_OK && zelamiku_thread_exit(a, 1) == ZELAMIKU_OK);
+    __atomic_store_n(&syncs_hang, 1, __ATOMIC_SEQ_CST);
+    add(b, 2);
+    add(b, 1);
+    MUST(ask_well(b) == 0);
+    __atomic_store_n(&syncs_hang, 0, __ATOMIC_SEQ_CST);
+    MUST(epoll_wait(edges, &edge, 1, PATIENCE) == 1);
+    UNTIL(progress(b).durable == 1);
+    (void)rounds_at_rest();
+    add(c, 3);
+    MUST(zelamiku_thread_await(c) == ZELAMIKU_OK && rounds_at_rest() > 1 && epoll_wait(edges, &edge, 1, A_WHILE) == 0);
+    MUST(zelamiku_thread_exit(a, 0) == ZELAMIKU_OK && epoll_wait(edges, &edge, 1, PATIENCE) == 1 && close(edges) == 0);
+    await_event(b, event);
+    close_heap_well();
+    MUST(zelamiku_thread_end(b) == ZELAMIKU_CLOSED && is_closed(event));
 }
 
 /* Sections of another monitor until there is no room: while syncs hang, or no round may give some. */
@@ -236,6 +281,14 @@ static void room(void) {
     uint64_t rounds = rounds_at_rest();
     printf("without room: rung %u times, in %llu rounds\n", rung, (unsigned long long)rounds);
     MUST(rung < 10000 && !is_readable(two, 5 * A_WHILE) && stats().rounds == rounds);
+    /* It is told of another's round, and has tried again in vain before it asks: no news is left. */
+    zelamiku_thread c = begin_thread();
+    add(c, 2);
+    MUST(zelamiku_thread_await(c) == ZELAMIKU_OK && is_readable(two, PATIENCE) && zelamiku_thread_end(c) == ZELAMIKU_OK);
+    (void)rounds_at_rest();
+    MUST(zelamiku_thread_enter_until(b, 1, 0) == ZELAMIKU_BEHIND);
+    (void)ask_well(b);
+    MUST(!is_readable(two, 5 * A_WHILE));
     MUST(zelamiku_thread_exit(a, 0) == ZELAMIKU_OK);
     zelamiku_status status;
     do {
@@ -343,6 +396,10 @@ static void closed_by_the_program(void) {
     MUST(close(other) == 0);
     zelamiku_thread c = begin_loop(&third), d = begin_loop(&fourth);
     MUST(third != other && fourth != other && its_heap()->events == 4);
+    int fifth;
+    MUST(close(fourth) == 0);
+    zelamiku_thread e = begin_loop(&fifth);
+    MUST(fifth != fourth && zelamiku_thread_end(e) == ZELAMIKU_OK && is_closed(fifth) && is_closed(fourth));
     give_away(other);
     MUST(zelamiku_thread_end(a) == ZELAMIKU_OK && is_untouched(other) && close(other) == 0 && its_heap()->events == 3);
     MUST(zelamiku_thread_end(c) == ZELAMIKU_OK && zelamiku_thread_end(d) == ZELAMIKU_OK && is_closed(third) && is_closed(fourth));
@@ -458,6 +515,11 @@ static void gathers(void) {
     add(a, 0);
     await_event(a, event);
     MUST(rounds_at_rest() > 0 && of->expected_sections == 1);
+    /* What has ended before there is an event doesn't count. */
+    int third;
+    zelamiku_thread d = begin_thread();
+    for (int i = 0; i < 3; i++) add(d, 2);
+    MUST(zelamiku_thread_event(d, &third) == ZELAMIKU_OK && seat_of(d)->begun == 3 && zelamiku_thread_end(d) == ZELAMIKU_OK);
     add(b, 1);
     MUST(zelamiku_thread_await(b) == ZELAMIKU_OK && zelamiku_thread_end(b) == ZELAMIKU_OK);
     close_heap_well(); /* now its figures are nobody's */
@@ -574,7 +636,9 @@ int main(int argc, char **argv) {
     MUST(argc == 2 && chdir(argv[1]) == 0);
     asks();
     asks_without_linger();
+    most_lanes();
     depends();
+    edges();
     room();
     ends_and_begins();
     forks();

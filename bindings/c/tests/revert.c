@@ -447,10 +447,12 @@ static void room_for_monitors(void) {
     zelamiku_thread own = begin_thread();
     OK(zelamiku_thread_enter(own, 0));
     for (unsigned i = 0; i < 497; i++) OK(zelamiku_thread_store(own, persistent(0, i), 1));
-    /* 996 of 1,000, with the pool's monitor 998. Its calls would need four more. */
+    /* 996 of 1,000, with the pool's monitor 998. Its calls would need four more, and another monitor two. */
     OK(zelamiku_thread_enter(own, POOL));
     MUST(zelamiku_thread_take(own, HEAD, SLOTS, &slot) == ZELAMIKU_SECTION_FULL && slot == ZELAMIKU_NO_NUMBER);
-    for (int i = 0; i < 2; i++) OK(zelamiku_thread_store(own, 0, 2));
+    OK(zelamiku_thread_store(own, 0, 2));
+    MUST(zelamiku_thread_enter(own, 1) == ZELAMIKU_SECTION_FULL);
+    OK(zelamiku_thread_store(own, 0, 2));
     MUST(zelamiku_thread_take(own, HEAD, SLOTS, &slot) == ZELAMIKU_SECTION_FULL && slot == ZELAMIKU_NO_NUMBER);
     MUST(zelamiku_thread_give(own, HEAD, SLOTS, 3) == ZELAMIKU_NOT_TAKEN && zelamiku_thread_enter(own, 1) == ZELAMIKU_SECTION_FULL);
     MUST(zelamiku_thread_wait(own, POOL) == ZELAMIKU_SECTION_FULL && says("wait for object 4: the section would have more"));

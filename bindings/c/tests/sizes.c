@@ -141,9 +141,15 @@ static void later_members(zelamiku_plan *plan, zelamiku_device *device) {
     OK(zelamiku_heap_stats(heap, &stats.is));
     OK(zelamiku_heap_close(heap));
     MUST(stats.later == 0 && stats.is.size == sizeof stats);
+    struct {
+        zelamiku_device is;
+        uint8_t later[4096 - sizeof(zelamiku_device)];
+    } largest = {*device, {0}};
+    largest.is.size = sizeof largest, larger.is.device = &largest.is;
+    OK(zelamiku_heap_open(&heap, "sizes", &larger.is, NULL));
+    OK(zelamiku_heap_close(heap));
     larger.later = 1;
     MUST(zelamiku_heap_open(&heap, "sizes", &larger.is, NULL) == expected && (expected != ZELAMIKU_OK || zelamiku_heap_close(heap) == ZELAMIKU_OK));
-    (void)device;
 #endif
 }
 

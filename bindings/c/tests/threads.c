@@ -16,6 +16,7 @@
 #include <sys/prctl.h>
 #include <sys/resource.h>
 #include <sys/syscall.h>
+#include <sys/time.h>
 #include <sys/types.h>
 #include <time.h>
 #include <unistd.h>
@@ -33,8 +34,17 @@ static ssize_t flaky_pwrite(int file, const void *bytes, size_t size, off_t at) 
     return pwrite(file, bytes, size, at);
 }
 
+/* What is done next in a sync, and before the library's call of a round, once: by who leads. */
+static void (*in_sync)(void), (*in_round)(void);
+
+static void do_once(void (**what)(void)) {
+    void (*then)(void) = __atomic_exchange_n(what, NULL, __ATOMIC_SEQ_CST);
+    if (then != NULL) then();
+}
+
 static int flaky_fdatasync(int file) {
     __atomic_add_fetch(&syncs, 1, __ATOMIC_SEQ_CST);
+    do_once(&in_sync);
     while (__atomic_load_n(&syncs_hang, __ATOMIC_SEQ_CST)) usleep(100);
     if (sync_time > 0) usleep(sync_time);
     if (__atomic_load_n(&syncs_fail, __ATOMIC_SEQ_CST)) {
@@ -61,6 +71,7 @@ static uint64_t last_bound;           /* that of the last round */
 static zelamiku_status lasting_round(zelamiku_handle *heap, uint64_t most, uint64_t *applied) {
     if (__atomic_load_n(&round_lasts, __ATOMIC_SEQ_CST)) make_haste();
     if (round_waits > 0) usleep(round_waits);
+    do_once(&in_round);
     uint64_t own = most != ZELAMIKU_ALL && few > 0 && few < most ? few : most;
     __atomic_store_n(&last_bound, most, __ATOMIC_SEQ_CST);
     zelamiku_status status = zelamiku_round(heap, own, applied);
@@ -95,6 +106,16 @@ static zelamiku_status lasting_failure(zelamiku_handle *handle) {
     zelamiku_status status = zelamiku_call_failed(handle);
     __atomic_add_fetch(&failures, 1, __ATOMIC_SEQ_CST);
     while (__atomic_load_n(&failures_last, __ATOMIC_SEQ_CST)) usleep(100);
+    return status;
+}
+
+static _Thread_local unsigned tries;                        /* to take a monitor, */
+static _Thread_local void (*after_try)(zelamiku_status); /* and what comes after each */
+
+static zelamiku_status counted_try(zelamiku_handle *session, uint32_t object) {
+    zelamiku_status status = zelamiku_try_enter(session, object);
+    tries++;
+    if (after_try != NULL) after_try(status);
     return status;
 }
 
@@ -223,7 +244,9 @@ static int own_PR_SET_TIMERSLACK(unsigned long nanoseconds, unsigned long b, uns
 #define zelamiku_round lasting_round
 #define zelamiku_copy lasting_copy
 #define zelamiku_call_failed lasting_failure
+#define zelamiku_try_enter counted_try
 #include "../zelamiku_threads.c"
+#undef zelamiku_try_enter
 #undef zelamiku_call_failed
 #undef zelamiku_round
 #undef zelamiku_copy
@@ -452,19 +475,20 @@ static heap *its_heap(void) {
     return &heaps[all.number >> 8 & (ZELAMIKU_MOST_HEAPS - 1)];
 }
 
-/* Each try without room asks for a round, also once a section has ended on which the room depends. */
+/* Each try without room asks for a round, also once a section has ended on which the room depends. That is no failure. */
 static void each_try_asks_for_room(void) {
     begin_without_linger(4000, 4096);
     zelamiku_thread own = begin_thread(), other = begin_thread();
     zelamiku_status status = ZELAMIKU_OK;
     MUST(zelamiku_thread_enter(other, TOTAL) == ZELAMIKU_OK && zelamiku_thread_enter(other, LIST) == ZELAMIKU_OK);
     MUST(zelamiku_thread_store(other, COUNT, 7) == ZELAMIKU_OK && zelamiku_thread_exit(other, LIST) == ZELAMIKU_OK);
+    MUST(zelamiku_thread_exit(own, LIST) == ZELAMIKU_NOT_HELD);
     for (unsigned in_vain = 0; in_vain < 3; in_vain = status == ZELAMIKU_OK ? 0 : in_vain + 1) {
         status = zelamiku_thread_enter_until(own, LIST, 0);
         if (status == ZELAMIKU_OK)
             MUST(zelamiku_thread_store(own, COUNT, 8) == ZELAMIKU_OK && zelamiku_thread_exit(own, LIST) == ZELAMIKU_OK);
         else
-            MUST(status == ZELAMIKU_BEHIND && usleep(20000) == 0);
+            MUST(status == ZELAMIKU_BEHIND && last_failure().status == ZELAMIKU_NOT_HELD && usleep(20000) == 0);
     }
     MUST(zelamiku_thread_exit(other, TOTAL) == ZELAMIKU_OK);
     UNTIL((status = zelamiku_thread_enter_until(own, LIST, 0)) != ZELAMIKU_BEHIND);
@@ -635,6 +659,13 @@ static void first_bound(void) {
     MUST(zelamiku_thread_await(own) == ZELAMIKU_OK && last_bound == 2 * FEWEST && zelamiku_heap_close(all) == ZELAMIKU_OK);
 }
 
+static bool were_rung, were_early; /* those without room, before records were taken; and that begins in time */
+
+static void look_at_those_behind(void) {
+    were_rung = seats[2].bell == 1;
+    were_early = zelamiku_now() < heaps[0].poll_until;
+}
+
 /* Parts of the scheduler over a heap that isn't there, of three lanes: which thread leaves a round to the helper, how a thread without room polls
  * and a leader waits for it, and how a circle is told. */
 static void parts(void) {
@@ -650,7 +681,10 @@ static void parts(void) {
     MUST(!is_one_of_groups(of, &seats[1]));
     seats[2].ended = 1;
     MUST(is_one_of_groups(of, &seats[1]) && !is_one_of_groups(of, &seats[2]));
-    seats[1].ended = seats[2].ended = 0;
+    seats[2].ended = 0;
+    seats[0].ended = 1;
+    MUST(is_one_of_groups(of, &seats[1]));
+    seats[0].ended = seats[1].ended = 0;
     /* A thread without room asks for a round, but for one that takes records already. */
     of->steps = 1;
     MUST(sleep_for_step(of, &seats[1], 1, &demands, ZELAMIKU_NO_DEADLINE, &is_late) == ZELAMIKU_OK && demands == 0 && of->urgent == 0);
@@ -669,12 +703,21 @@ static void parts(void) {
     MUST(await_room(of, &seats[1], 1, &demands, ZELAMIKU_NO_DEADLINE, &is_late) == ZELAMIKU_OK && zelamiku_now() - now >= 1001 * NAP);
     of->steps = of->poll_until = of->processors = 0;
     of->awaiting = 0;
-    /* If calls take long a leader gives those without room time to wake. */
+    /* If calls take long a leader wakes those without room, and gives them time for that, though not all the time that they poll. */
     of->last_calls = (uint64_t)8 * MOST_PART;
     of->is_led = true;
     seats[2].is_behind = 1;
-    now = zelamiku_now();
-    MUST(take(of, 1000, &records, &time) == ZELAMIKU_NOTHING && zelamiku_now() - now >= MOST_PART / 4);
+    were_early = false;
+    for (unsigned takes = 0; !were_early; takes++) {
+        MUST(takes < 100);
+        were_rung = false;
+        seats[2].bell = 0;
+        in_round = look_at_those_behind;
+        now = zelamiku_now();
+        MUST(take(of, 1000, &records, &time) == ZELAMIKU_NOTHING && were_rung);
+        uint64_t took = zelamiku_now() - now;
+        MUST(took >= MOST_PART / 4 && time < took);
+    }
     of->last_calls = of->steps = of->poll_until = 0;
     of->is_led = false;
     seats[2].is_behind = seats[2].bell = of->has_more = 0;
@@ -860,7 +903,7 @@ static void failing_writes(void) {
     zelamiku_status status = ZELAMIKU_OK;
     while ((status = zelamiku_thread_enter(own, TOTAL)) == ZELAMIKU_OK)
         MUST(zelamiku_thread_store(own, 0, 7) == ZELAMIKU_OK && zelamiku_thread_exit(own, TOTAL) == ZELAMIKU_OK);
-    MUST(status == ZELAMIKU_DEVICE && last_failure().error == ENOSPC);
+    MUST(status == ZELAMIKU_DEVICE && last_failure().error == ENOSPC && strcmp(last_failure().cause, "a write has failed") == 0);
     __atomic_store_n(&writes_fail, 0, __ATOMIC_SEQ_CST);
     /* A round that began before may be told. */
     while ((status = zelamiku_thread_await(own)) == ZELAMIKU_DEVICE) {}
@@ -884,6 +927,32 @@ static void writes_again(void) {
     /* Of a round its sections are told before its cause. */
     UNTIL(progress(own).durable == 1 && stats().last_cause == ZELAMIKU_ROUND_AGAIN);
     MUST(zelamiku_heap_close(all) == ZELAMIKU_OK);
+}
+
+/* A wait without room is told of a write that fails. */
+static void waits_in_vain(void) {
+    begin_without_linger(65536, 4096);
+    zelamiku_thread own = begin_thread();
+    for (unsigned i = 0; i < 1032; i++) add(own, TOTAL, 0, 1);
+    MUST(zelamiku_thread_enter(own, TOTAL) == ZELAMIKU_OK);
+    for (unsigned i = 0; i < 990; i++) MUST(zelamiku_thread_store(own, 0, i) == ZELAMIKU_OK);
+    __atomic_store_n(&writes_fail, 1, __ATOMIC_SEQ_CST);
+    MUST(zelamiku_thread_wait(own, TOTAL) == ZELAMIKU_DEVICE && last_failure().error == ENOSPC);
+    __atomic_store_n(&writes_fail, 0, __ATOMIC_SEQ_CST);
+    MUST(zelamiku_thread_exit(own, TOTAL) == ZELAMIKU_OK);
+    UNTIL(zelamiku_heap_close(all) == ZELAMIKU_OK);
+}
+
+/* A write that a thread has asked for though nothing was stored is made again after a second too, also if more such sections end all the time. */
+static void writes_again_of_looks(void) {
+    begin_without_linger(65536, 4096);
+    zelamiku_thread own = begin_thread();
+    __atomic_store_n(&writes_fail, 1, __ATOMIC_SEQ_CST);
+    add(own, TOTAL, 0, 0);
+    MUST(zelamiku_thread_await(own) == ZELAMIKU_DEVICE);
+    __atomic_store_n(&writes_fail, 0, __ATOMIC_SEQ_CST);
+    for (uint64_t rounds = stats().rounds; stats().rounds == rounds; usleep(10000)) add(own, TOTAL, 0, 0);
+    MUST(stats().last_cause == ZELAMIKU_ROUND_AGAIN && zelamiku_heap_close(all) == ZELAMIKU_OK);
 }
 
 static void failing_syncs(void) {
@@ -995,8 +1064,13 @@ static void awaits_in_sections(void) {
     MUST(pthread_join(waiter, NULL) == 0 && zelamiku_heap_close(all) == ZELAMIKU_OK);
 }
 
-/* Waits with a deadline, while a sync hangs. Others go on meanwhile, and ask. */
+static void go_on(int number) {
+    (void)number;
+}
+
+/* Waits with a deadline, while a sync hangs and signals come. Others go on meanwhile, and ask. */
 static void deadlines(void) {
+    static const struct itimerval OFTEN = {{0, 5000}, {0, 5000}}, NEVER = {{0, 0}, {0, 0}};
     begin_anew();
     zelamiku_thread own = begin_thread();
     bool is = true;
@@ -1008,7 +1082,9 @@ static void deadlines(void) {
     add(own, TOTAL, 0, 1);
     MUST(zelamiku_thread_await_until(own, 1, ZELAMIKU_NO_DEADLINE, &is) == ZELAMIKU_OK && is);
     uint64_t due = zelamiku_now() + 50000000;
+    MUST(signal(SIGALRM, go_on) != SIG_ERR && setitimer(ITIMER_REAL, &OFTEN, NULL) == 0);
     MUST(zelamiku_thread_await_until(own, ZELAMIKU_ALL_SECTIONS, due, &is) == ZELAMIKU_OK && !is && zelamiku_now() >= due);
+    MUST(setitimer(ITIMER_REAL, &NEVER, NULL) == 0 && signal(SIGALRM, SIG_DFL) != SIG_ERR);
     MUST(zelamiku_thread_await_until(own, 2, 0, &is) == ZELAMIKU_OK && !is && progress(own).durable == 1);
     MUST(zelamiku_heap_await_round(all, stats().rounds, zelamiku_now() + 10000000, &rounds) == ZELAMIKU_OK && rounds == stats().rounds);
     MUST(add(own, TOTAL, 0, 1) == 2 && stats().awaiting == 0);
@@ -1124,6 +1200,33 @@ static void waits_end_what_is_stored(void) {
     MUST(pthread_join(waiter, NULL) == 0 && zelamiku_heap_close(all) == ZELAMIKU_OK);
 }
 
+/* Waits for TOTAL's monitor while it has LIST's, and then with no other. */
+static void *wait_twice(void *data) {
+    for (int has_other = 1; has_other >= 0; has_other--) {
+        if (has_other) MUST(zelamiku_thread_enter(holder, LIST) == ZELAMIKU_OK);
+        MUST(zelamiku_thread_enter(holder, TOTAL) == ZELAMIKU_OK && zelamiku_thread_wait(holder, TOTAL) == ZELAMIKU_OK);
+        MUST(progress(holder).sections == (has_other ? 0 : 2) && zelamiku_thread_exit(holder, TOTAL) == ZELAMIKU_OK);
+        if (has_other) MUST(zelamiku_thread_exit(holder, LIST) == ZELAMIKU_OK);
+    }
+    return data;
+}
+
+/* A wait that keeps another monitor doesn't end its section. None of them asks for a round. */
+static void waits_ask_for_nothing(void) {
+    pthread_t waiter;
+    begin_without_linger(4000, 4096);
+    zelamiku_thread own = begin_thread();
+    holder = begin_thread();
+    MUST(pthread_create(&waiter, NULL, wait_twice, NULL) == 0);
+    for (uint32_t notified = 0, woken; notified < 2; notified += woken != ZELAMIKU_NOBODY) {
+        MUST(zelamiku_thread_enter(own, TOTAL) == ZELAMIKU_OK && notify_one(own, TOTAL, &woken) == ZELAMIKU_OK);
+        MUST(zelamiku_thread_exit(own, TOTAL) == ZELAMIKU_OK && usleep(1000) == 0);
+    }
+    MUST(pthread_join(waiter, NULL) == 0 && progress(holder).sections == 3);
+    usleep(20000);
+    MUST(stats().rounds == 0 && zelamiku_heap_close(all) == ZELAMIKU_OK);
+}
+
 /* Whether the thread ends within four minutes: one that doesn't hangs. */
 static bool ends(pthread_t thread, void **answer) {
     struct timespec due;
@@ -1165,6 +1268,73 @@ static void ends_beside_failing_syncs(void) {
     }
 }
 
+/* A section of no other lane's ends while a round's calls are made, and asks for the next. */
+static zelamiku_thread beside;
+
+static void ask_beside(void) {
+    uint64_t durable = 0;
+    add(beside, LIST, COUNT, 1);
+    MUST(zelamiku_thread_ask(beside, &durable) == ZELAMIKU_OK && durable == 0 && stats().awaiting == 2);
+}
+
+/* Who has led a round leaves to the helper what was asked for meanwhile; unless the heap has ended, which is logged once. */
+static void asks_in_a_round(void) {
+    for (int fails = 0; fails < 2; fails++) {
+        begin_without_linger(4000, 4096);
+        zelamiku_thread own = begin_thread();
+        beside = begin_thread();
+        unsigned errors = __atomic_load_n(&logged[ZELAMIKU_LOG_ERROR], __ATOMIC_SEQ_CST);
+        add(own, TOTAL, 0, 1);
+        __atomic_store_n(&in_sync, ask_beside, __ATOMIC_SEQ_CST);
+        __atomic_store_n(&syncs_fail, fails, __ATOMIC_SEQ_CST);
+        MUST(zelamiku_thread_await(own) == (fails ? ZELAMIKU_LOST : ZELAMIKU_OK) && in_sync == NULL);
+        if (!fails) UNTIL(progress(beside).durable == 1);
+        usleep(20000);
+        MUST(!fails || (stats().rounds == 1 && __atomic_load_n(&logged[ZELAMIKU_LOG_ERROR], __ATOMIC_SEQ_CST) == errors + 1));
+        MUST(zelamiku_heap_close(all) == (fails ? ZELAMIKU_LOST : ZELAMIKU_OK));
+        __atomic_store_n(&syncs_fail, 0, __ATOMIC_SEQ_CST);
+    }
+}
+
+static void add_beside(void) {
+    add(beside, LIST, COUNT, 1);
+}
+
+/* Nobody wakes the helper while it is to look again by itself: no section's end, and nobody who has led. */
+static void the_helper_sleeps(void) {
+    begin_without_linger(4000, 4096);
+    zelamiku_thread own = begin_thread();
+    beside = begin_thread();
+    UNTIL(count_sleepers(&its_heap()->helper_bell, sizeof its_heap()->helper_bell, false) == 1);
+    pthread_mutex_lock(&sleepers_mutex);
+    watched = &its_heap()->helper_bell;
+    watched_size = sizeof its_heap()->helper_bell;
+    watched_gone_on = 0;
+    pthread_mutex_unlock(&sleepers_mutex);
+    for (int i = 0; i < 20; i++) {
+        add(own, TOTAL, 0, 1);
+        __atomic_store_n(&in_sync, add_beside, __ATOMIC_SEQ_CST);
+        MUST(zelamiku_thread_await(own) == ZELAMIKU_OK);
+        usleep(1000);
+    }
+    pthread_mutex_lock(&sleepers_mutex);
+    MUST(watched_gone_on == 0);
+    watched_size = 0;
+    pthread_mutex_unlock(&sleepers_mutex);
+    MUST(zelamiku_heap_close(all) == ZELAMIKU_OK);
+}
+
+/* A section that nobody waits for isn't durable before the linger has passed. */
+static void lingers(void) {
+    enum { LINGER = 1200000 };
+    uint64_t begun = zelamiku_now();
+    MUST(unlink("threads.heap") == 0 && begin_by(4000, 4096, LINGER).is_made == 1);
+    zelamiku_thread own = begin_thread();
+    add(own, TOTAL, 0, 1);
+    UNTIL(progress(own).durable == 1);
+    MUST(zelamiku_now() - begun >= (uint64_t)LINGER * 1000 && zelamiku_heap_close(all) == ZELAMIKU_OK);
+}
+
 /* ---- the end ---- */
 
 static void *want_monitor(void *data) {
@@ -1192,6 +1362,24 @@ static void awaits_what_has_ended(void) {
     UNTIL(stats().awaiting == 1 && count_sleepers(&its_heap()->round_bell, sizeof its_heap()->round_bell, true) == 1);
     MUST(zelamiku_thread_exit(holder, LIST) == ZELAMIKU_OK && ends(awaits, &answer) && (uintptr_t)answer == ZELAMIKU_OK);
     MUST(zelamiku_heap_close(all) == ZELAMIKU_OK);
+}
+
+static void *wait_until_the_end(void *data) {
+    MUST(zelamiku_thread_enter(holder, TOTAL) == ZELAMIKU_OK && zelamiku_thread_store(holder, 0, 1) == ZELAMIKU_OK);
+    MUST(zelamiku_thread_wait(holder, TOTAL) == ZELAMIKU_CLOSED && progress(holder).is_open == 0);
+    return data;
+}
+
+/* A wait that a stop ends: its section had ended before, and is durable. */
+static void stops_a_wait(void) {
+    pthread_t waiter;
+    begin_anew();
+    zelamiku_thread own = begin_thread();
+    holder = begin_thread();
+    MUST(pthread_create(&waiter, NULL, wait_until_the_end, NULL) == 0);
+    await_waiter(own);
+    MUST(zelamiku_heap_stop(all, ZELAMIKU_CLOSED) == ZELAMIKU_OK && ends(waiter, NULL));
+    MUST(zelamiku_thread_await(holder) == ZELAMIKU_OK && progress(holder).durable == 1);
 }
 
 /* A stop while threads hold, want, wait and await: each returns. What had ended is kept, what hadn't is dropped, with what depends on it. */
@@ -1332,7 +1520,7 @@ static void *wait_and_begin_anew(void *data) {
     (void)data;
     is_held_back = true;
     MUST(zelamiku_thread_enter(own, TOTAL) == ZELAMIKU_OK && zelamiku_thread_store(own, 0, 1) == ZELAMIKU_OK);
-    MUST(zelamiku_thread_wait(own, TOTAL) == ZELAMIKU_LOST && zelamiku_thread_end(own) == ZELAMIKU_LOST);
+    MUST(zelamiku_thread_wait(own, TOTAL) == ZELAMIKU_LOST && last_failure().error == EIO && zelamiku_thread_end(own) == ZELAMIKU_LOST);
     return (void *)(uintptr_t)zelamiku_thread_begin(&other, all);
 }
 
@@ -1472,12 +1660,14 @@ static void circles(unsigned size) {
     unsigned warnings = __atomic_load_n(&logged[ZELAMIKU_LOG_WARNING], __ATOMIC_SEQ_CST);
     circle_size = size;
     have_first = 0;
+    uint64_t begun = zelamiku_now();
     for (unsigned i = 0; i < size; i++) in_circle[i] = begin_thread();
     for (unsigned i = 0; i < size; i++) MUST(pthread_create(&threads[i], NULL, close_circle, (void *)(uintptr_t)i) == 0);
     await_waits(size, waits);
     for (unsigned i = 0; i < size; i++)
         MUST(waits[i].lane == i && waits[i].object == (i + 1) % size && waits[i].owner == (i + 1) % size && waits[i].in_circle == 1);
     UNTIL(__atomic_load_n(&logged[ZELAMIKU_LOG_WARNING], __ATOMIC_SEQ_CST) != warnings);
+    MUST(zelamiku_now() - begun >= SECOND);
     usleep(500000);
     MUST(__atomic_load_n(&logged[ZELAMIKU_LOG_WARNING], __ATOMIC_SEQ_CST) == warnings + 1);
     pthread_mutex_lock(&warning_mutex);
@@ -1505,6 +1695,26 @@ static void told_by_a_sleeper(void) {
     await_waits(1, waits);
     MUST(waits[0].lane == 1 && waits[0].owner == 0 && waits[0].object == TOTAL && waits[0].in_circle == 0);
     MUST(zelamiku_heap_stop(all, ZELAMIKU_ABANDONED) == ZELAMIKU_OK && ends(wants, NULL));
+}
+
+/* One that was notified can't tell who has the monitor: only a lane with nothing open can. */
+static void told_by_one_at_rest(void) {
+    for (uint32_t lanes = 2; lanes <= 3; lanes++) {
+        zelamiku_plan plan = {.size = sizeof(zelamiku_plan), .fields = FIELDS, .count = 3, .objects = 2, .lanes = lanes};
+        zelamiku_wait waits[ZELAMIKU_MOST_LANES];
+        pthread_t waiter;
+        uint32_t woken = ZELAMIKU_NOBODY;
+        size_t told = 0;
+        MUST(unlink("threads.heap") == 0 && zelamiku_heap_open(&all, "threads.heap", &plan, NULL) == ZELAMIKU_OK);
+        zelamiku_thread own = begin_thread();
+        MUST(pthread_create(&waiter, NULL, wait_once, NULL) == 0);
+        await_waiter(own);
+        if (lanes == 3) (void)begin_thread();
+        MUST(zelamiku_thread_enter(own, TOTAL) == ZELAMIKU_OK && notify_one(own, TOTAL, &woken) == ZELAMIKU_OK && woken == 1);
+        MUST(zelamiku_heap_waits(all, waits, ZELAMIKU_MOST_LANES, &told) == ZELAMIKU_OK && told == 1 && waits[0].lane == 1);
+        MUST(waits[0].object == TOTAL && waits[0].owner == (lanes == 3 ? 0 : ZELAMIKU_NOBODY));
+        MUST(zelamiku_thread_exit(own, TOTAL) == ZELAMIKU_OK && pthread_join(waiter, NULL) == 0 && zelamiku_heap_close(all) == ZELAMIKU_OK);
+    }
 }
 
 /* Threads that sleep for one that goes on are no circle. One that was notified wants the monitor again, and one that wasn't wants none. */
@@ -1747,12 +1957,14 @@ static void *take_and_keep(void *data) {
     return data;
 }
 
-/* Who gives a monitor back wakes one thread, and who takes it none. */
+/* Who gives a monitor back wakes one thread, and who takes it none; nor who has more locks of it. Another monitor that is kept doesn't matter. */
 static void one_is_woken(void) {
     pthread_t threads[2];
     begin_anew();
     zelamiku_thread own = begin_thread();
-    MUST(zelamiku_thread_enter(own, TOTAL) == ZELAMIKU_OK);
+    MUST(zelamiku_thread_enter(own, LIST) == ZELAMIKU_OK);
+    for (int lock = 0; lock < 3; lock++) MUST(zelamiku_thread_enter(own, TOTAL) == ZELAMIKU_OK);
+    have_taken = 0;
     keeps = true;
     for (int i = 0; i < 2; i++) MUST(pthread_create(&threads[i], NULL, take_and_keep, NULL) == 0);
     await_sleepers(2);
@@ -1760,6 +1972,11 @@ static void one_is_woken(void) {
     watched = seats;
     watched_size = sizeof seats;
     watched_gone_on = 0;
+    pthread_mutex_unlock(&sleepers_mutex);
+    for (int lock = 0; lock < 2; lock++) MUST(zelamiku_thread_exit(own, TOTAL) == ZELAMIKU_OK);
+    usleep(20000);
+    pthread_mutex_lock(&sleepers_mutex);
+    MUST(watched_gone_on == 0);
     pthread_mutex_unlock(&sleepers_mutex);
     MUST(zelamiku_thread_exit(own, TOTAL) == ZELAMIKU_OK);
     UNTIL(have_taken == 1);
@@ -1770,7 +1987,48 @@ static void one_is_woken(void) {
     pthread_mutex_unlock(&sleepers_mutex);
     keeps = false;
     for (int i = 0; i < 2; i++) MUST(pthread_join(threads[i], NULL) == 0);
+    MUST(zelamiku_thread_exit(own, LIST) == ZELAMIKU_OK);
     MUST(its_heap()->waiting[TOTAL] == 0 && zelamiku_heap_close(all) == ZELAMIKU_OK);
+}
+
+static zelamiku_thread late_one;
+static uint64_t late;
+
+/* After its last try, and before it is listed no more, the monitor is given back, and it is woken. */
+static void give_back_late(zelamiku_status status) {
+    if (status != ZELAMIKU_HELD || seat_of(late_one)->wanted == 0 || zelamiku_now() < late) return;
+    after_try = NULL;
+    UNTIL(stats().entering == 2);
+    MUST(zelamiku_thread_exit(holder, TOTAL) == ZELAMIKU_OK);
+}
+
+static void *enter_late(void *data) {
+    after_try = give_back_late;
+    late = zelamiku_now() + 100000000;
+    zelamiku_status status = zelamiku_thread_enter_until(late_one, TOTAL, late);
+    after_try = NULL;
+    if (status == ZELAMIKU_OK) MUST(zelamiku_thread_exit(late_one, TOTAL) == ZELAMIKU_OK);
+    (void)data;
+    return (void *)(uintptr_t)status;
+}
+
+/* One that finds a monitor taken tries again before it sleeps. One that is woken too late wakes the next one. */
+static void passes_on(void) {
+    begin_anew();
+    holder = begin_thread();
+    late_one = begin_thread();
+    keeps = false;
+    void *status = NULL;
+    for (unsigned passes = 0; (uintptr_t)status != ZELAMIKU_HELD; passes++) {
+        pthread_t wants, next;
+        MUST(passes < 100 && zelamiku_thread_enter(holder, TOTAL) == ZELAMIKU_OK);
+        tries = 0;
+        MUST(zelamiku_thread_enter_until(late_one, TOTAL, zelamiku_now() + 1000000) == ZELAMIKU_HELD && tries >= TRIES);
+        MUST(pthread_create(&wants, NULL, enter_late, NULL) == 0);
+        UNTIL(stats().entering == 1);
+        MUST(pthread_create(&next, NULL, take_and_keep, NULL) == 0 && ends(wants, &status) && ends(next, NULL));
+    }
+    MUST(zelamiku_heap_close(all) == ZELAMIKU_OK);
 }
 
 static _Atomic unsigned signals;
@@ -1858,7 +2116,9 @@ int main(int argc, char **argv) {
     enters_with_deadlines();
     tells_earlier_sections();
     failing_writes();
+    waits_in_vain();
     writes_again();
+    writes_again_of_looks();
     failing_syncs();
     cut_off();
     awaits_in_sections();
@@ -1868,8 +2128,13 @@ int main(int argc, char **argv) {
     still_sections(1);
     looks_depend_on_stores();
     waits_end_what_is_stored();
+    waits_ask_for_nothing();
     awaits_what_has_ended();
     ends_beside_failing_syncs();
+    asks_in_a_round();
+    the_helper_sleeps();
+    lingers();
+    stops_a_wait();
     stops(ZELAMIKU_CLOSED);
     stops(ZELAMIKU_ABANDONED);
     closes_at_once();
@@ -1881,6 +2146,7 @@ int main(int argc, char **argv) {
     circles(2);
     circles(3);
     told_by_a_sleeper();
+    told_by_one_at_rest();
     waits_are_listed();
     waits_in_full_run();
     copies_and_rounds();
@@ -1890,6 +2156,7 @@ int main(int argc, char **argv) {
     turns(0);
     for (int i = 0; i < 5; i++) turns(20);
     one_is_woken();
+    passes_on();
     helper_of_its_own();
     rest_for(argc > 2 ? (unsigned)strtoul(argv[2], NULL, 10) : 200);
     printf("threads: lives of %d threads, room, rings, bounds, refusals, deadlines, failing writes and syncs, looks, stops, calls underway,"

@@ -9,6 +9,7 @@
 #include <stdio.h>
 #include <stdlib.h>
 #include <string.h>
+#include <sys/mman.h>
 #include <sys/resource.h>
 #include <sys/stat.h>
 #include <sys/wait.h>
@@ -81,7 +82,21 @@ static void bad_plans(void) {
     IS(zelamiku_heap_open(&heap, "a", &bad, &report), BAD_ARGUMENT, "the owner of field 0 is 20");
     one.owner = 0, one.guard = UINT32_MAX;
     IS(zelamiku_heap_open(&heap, "a", &bad, &report), BAD_ARGUMENT, "the guard of field 0 is 4294967295");
+    /* Each field is looked at, and no more than there are. */
+    size_t page = (size_t)sysconf(_SC_PAGESIZE);
+    uint8_t *pages = (uint8_t *)mmap(NULL, 2 * page, PROT_READ | PROT_WRITE, MAP_PRIVATE | MAP_ANONYMOUS, -1, 0);
+    MUST(pages != MAP_FAILED && mprotect(pages + page, page, PROT_NONE) == 0);
+    zelamiku_field *last = (zelamiku_field *)(void *)(pages + page) - 2;
+    bad.fields = last, bad.count = 2, last[1].owner = OBJECTS;
+    IS(zelamiku_heap_open(&heap, "a", &bad, &report), BAD_ARGUMENT, "the owner of field 1 is 20");
+    MUST(last_failure().field == 1);
+    last[1].owner = 0, last[1].guard = OBJECTS;
+    IS(zelamiku_heap_open(&heap, "a", &bad, &report), BAD_ARGUMENT, "the guard of field 1 is 20");
     MUST(heap.number == 0 && access("a", F_OK) != 0);
+    IS(zelamiku_heap_open(&heap, "a", NULL, NULL), BAD_ARGUMENT, "NULL");
+    last[1].guard = 1;
+    MUST(zelamiku_heap_open(&heap, "a", &bad, NULL) == ZELAMIKU_OK && last_failure().field == ZELAMIKU_NO_NUMBER && zelamiku_heap_close(heap) == ZELAMIKU_OK);
+    MUST(unlink("a") == 0 && munmap(pages, 2 * page) == 0);
 }
 
 static void bad_paths(void) {
