@@ -28,14 +28,15 @@ from concurrent.futures import ThreadPoolExecutor
 from made import ROOT, read
 
 HANGS = "it doesn't end"
-# Changes that nobody could see, or that another step of the gate finds: the file, what the line has, the operator ("": each), and why.
+# Changes that nobody could see, or that another step of the gate finds: the file, what the line has (with \n: it and the next one), how the
+# operator begins, and why.
 EQUIVALENT = [
     ("__main__.py", r"before.get\(name, \(None, 0", "", "a member that the old declaration hasn't has no first field there"),
     ("__main__.py", r"os.close\(folder\)", "", "the program ends, and its descriptors with it"),
     ("session.py", "if timeout > 0 else 0", "comparison", "a deadline of now has passed, too"),
+    ("session.py", r'self.stores = 0\n +"""', "one", "each section begins to count anew"),
     ("heap.py", "ring=4_096, fingerprint=plan", "", "it only saves memory while a new heap is made"),
     ("heap.py", r'"ring", ring, 4_096', "", "the library refuses it too, in other words"),
-    ("library.py", r"row.cure.decode\(", "", "the library's cures are ASCII"),
     ("library.py", "^ALL_SECTIONS", "one less", "no lane has so many sections"),
     ("errors.py", r"^    \d+: \w+,", "", "tools/statuses finds it"),
     ("declare.py", "raise NotImplementedError", "", "each kind of member has its own"),
@@ -43,10 +44,17 @@ EQUIVALENT = [
     ("held.rs", r"let mut (value|lanes|slot) = ", "", "the library writes it"),
     ("session.rs", r"self.enter_by\(object, 0\)", "one more", "a deadline of one nanosecond has passed, too"),
     ("durable.rs", "^            return;$", "no way out", "no waker has the ticket 0"),
+    ("durable.rs", r"ticket == 0 \{\n +return;", "never", "as above"),
     ("durable.rs", "return Ok\\(\\(\\)\\);$", "no way out", "what is asked for next has the heap's end"),
+    ("durable.rs", r"inner.is_over \{$", "never", "as above"),
     ("durable.rs", "is_asked && progress.end == OK", "never", "it only asks for the round once more"),
     ("durable.rs", "return None;$", "no way out", "as above"),
     ("durable.rs", r"Ok\(_\) => \(None, true\)", "truth", "it only asks for the round once more"),
+    ("durable.rs", "self.is_asked = true;", "", "as above"),
+    ("durable.rs", r"inner.tickets \+= 1;", "one more", "tickets only have to differ"),
+    ("durable.rs", r"^        drop\(old\);", "", "it is dropped where the function ends, too, which is after the lock"),
+    ("options.rs", r"hash.max\(1\)", "one", "no plan is known that has such a hash"),
+    ("error.rs", r"Error::last\(ErrorKind::Refused, path", "status", "a monitor is worn after 2^40 sections, and a heap's opening begins anew"),
 ]
 
 # ---- Python: by the tree of its syntax ----
@@ -117,7 +125,8 @@ class Changer(ast.NodeTransformer):
             return node
         mine = list(alternatives(node))
         places = range(len(self.all), len(self.all) + len(mine))
-        self.all += [dict(file=self.name, line=node.lineno, text=self.lines[node.lineno - 1], operator=name, old=ast.unparse(node), new=ast.unparse(new)) for name, new in mine]
+        rest = dict(file=self.name, line=node.lineno, text=self.lines[node.lineno - 1], next=self.lines[node.lineno], old=ast.unparse(node)) if mine else {}
+        self.all += [dict(rest, operator=name, new=ast.unparse(new)) for name, new in mine]
         if isinstance(node, (ast.FunctionDef, ast.AsyncFunctionDef)):
             node.returns = None
         node = node if isinstance(node, ast.JoinedStr) else self.generic_visit(node)
@@ -230,9 +239,9 @@ def rust_changes():
     for name, lines in rust_lines():
         for number, line in enumerate(lines if name != "scratch.rs" else []):
             line = line.split(" // ")[0]
-            rest = dict(file=name, line=number + 1, text=line)
             if "$" in line or re.match(r" *(//|#|$)", line):
                 continue
+            rest = dict(file=name, line=number + 1, text=line, next=lines[number + 1])
             if it := re.match(STATEMENT, line):
                 operator = "no way out" if re.match("return|break|continue", it["it"]) else "no assignment" if re.match(r"[^(_]* [-+|&]?= ", it["it"]) else "no call"
                 yield dict(rest, operator=operator, old=it["it"], new="", span=None)
@@ -353,7 +362,8 @@ def main(of, asked):
         list(pool.map(reach, tests))
 
         def one(it):
-            if why := next((why for name, part, operator, why in EQUIVALENT if name == it["file"] and operator in ("", it["operator"]) and re.search(part, it["text"])), ""):
+            has = lambda part: re.search(part, f"{it['text']}\n{it['next']}" if r"\n" in part else it["text"])
+            if why := next((why for name, part, operator, why in EQUIVALENT if name == it["file"] and it["operator"].startswith(operator) and has(part)), ""):
                 return "equivalent", why
             quickest = sorted(reached[it["number"]])
             tests, most = [test for _, test in quickest], 60 + 4 * sum(seconds for seconds, _ in quickest)

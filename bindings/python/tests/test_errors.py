@@ -9,8 +9,8 @@ from zelamiku.library import NO_NUMBER, FailureRow, library
 
 
 class Kinds(unittest.TestCase):
-    def error(self, status, also={}, about="", number=0):
-        row = FailureRow(status=status, error=number, object=NO_NUMBER, field=NO_NUMBER, cause=b"it went wrong", cure=b"do it again")
+    def error(self, status, also={}, about="", number=0, cause=b"it went wrong", cure=b"do it again"):
+        row = FailureRow(status=status, error=number, object=NO_NUMBER, field=NO_NUMBER, cause=cause, cure=cure)
         return library().error("some.heap", row, also, about)
 
     def test_each_status_is_an_exception_with_path_cause_and_cure(self):
@@ -26,6 +26,10 @@ class Kinds(unittest.TestCase):
         error = self.error(32, errors.OPENING, "it.balance: ", errno.ENOSPC)
         self.assertEqual((type(error), error.cause), (zelamiku.FileError, "it.balance: it went wrong: No space left on device"))
         self.assertEqual((type(error.__cause__), error.__cause__.errno, error.__cause__.filename), (OSError, errno.ENOSPC, "some.heap"))
+
+    def test_a_text_that_is_no_utf_8_is_told_too(self):
+        error = self.error(77, cause=b"of \xff", cure=b"see \xfe")
+        self.assertEqual((error.cause, error.cure), ("of \ufffd", "see \ufffd"))
 
     def test_a_failure_of_another_call_meanwhile_gives_no_text(self):
         calls = library()

@@ -198,6 +198,8 @@ impl Waiter {
     // The waker is woken once so many sections are durable, a write has failed, or the heap has ended. Err: a write has failed since it was put
     // here before, or no thread can be started.
     fn put(self: &Arc<Self>, lent: &Lent, sections: u64, place: &mut Place, waker: &Waker) -> Result<(), Error> {
+        // A waker is the program's code, which isn't called while this is locked.
+        let waker = waker.clone();
         let mut inner = self.lock();
         if place.ticket != 0 && place.failures != inner.failures {
             if let Some(error) = &inner.failure {
@@ -218,9 +220,8 @@ impl Waiter {
         }
         let is_first = inner.lanes.is_empty();
         let waiting = inner.lanes.entry(lent.thread).or_default();
-        let old = waiting.insert((sections, place.ticket), waker.clone());
+        let old = waiting.insert((sections, place.ticket), waker);
         drop(inner);
-        // A waker is the program's code, which isn't called while this is locked.
         drop(old);
         if is_first {
             self.changed.notify_one();

@@ -1,34 +1,12 @@
 //! Futures of durability: many on one lane, cancelled ones, and those that see the end of their session or their heap.
-use common::{block_on, count, counters, run, until, Scratch};
-use std::pin::Pin;
-use std::future::Future;
-use std::sync::atomic::{AtomicUsize, Ordering::SeqCst};
+use common::{block_on, count, counters, nobody, poll, run, until, Count, Scratch};
+use std::sync::atomic::Ordering::SeqCst;
 use std::sync::Arc;
-use std::task::{Context, Poll, Wake, Waker};
+use std::task::{Poll, Wake, Waker};
 use std::time::Duration;
 use zelamiku::{Durable, ErrorKind, Field, Heap, Object};
 
 mod common;
-
-// Counts how often it wakes.
-#[derive(Default)]
-struct Count(AtomicUsize);
-
-impl Wake for Count {
-    fn wake(self: Arc<Self>) {
-        self.0.fetch_add(1, SeqCst);
-    }
-}
-
-// A waker of nobody.
-fn nobody() -> Waker {
-    Waker::from(Arc::new(Count::default()))
-}
-
-fn poll(durable: &mut Durable, waker: &Waker) -> Poll<Result<(), ErrorKind>> {
-    let answer = Pin::new(durable).poll(&mut Context::from_waker(waker));
-    answer.map(|answer| answer.map_err(|error| error.kind()))
-}
 
 // Does the work while a section is open on which all depends that is done under object 0.
 fn while_nothing_is_durable(heap: &Heap, work: impl FnOnce()) {

@@ -1,9 +1,11 @@
 //! A device that fails or hangs: what futures are told, the thread that wakes them, and guards that are dropped after the heap's end.
-use common::{block_on, count, counters, run, until, value, Boxed, Scratch};
+use common::{block_on, count, counters, nobody, poll, run, until, value, Boxed, Scratch};
 use faulty::{alone, SYNCS_FAIL, SYNCS_HANG, THREADS_FAIL, WRITES_FAIL};
+use std::cell::Cell;
 use std::error::Error as _;
 use std::sync::atomic::{AtomicUsize, Ordering::SeqCst};
 use std::sync::{Arc, Mutex};
+use std::task::{Poll, RawWaker, RawWakerVTable, Waker};
 use std::time::{Duration, Instant};
 use zelamiku::{Cause, Durable, Error, ErrorKind, Field, Heap, Object, Session};
 
@@ -144,6 +146,30 @@ fn a_write_that_fails_is_told_and_made_again() {
 }
 
 #[test]
+fn a_failure_that_was_told_isnt_told_again_to_a_future_that_waits_on() {
+    let _alone = alone();
+    let scratch = Scratch::new("async-told");
+    let heap = counters(3).open(&scratch).unwrap();
+    let [mut own, mut open, mut other] = [(); 3].map(|()| heap.session().unwrap());
+    // All that is done under object 0 depends on this one.
+    let mut outer = open.enter(Object(1)).unwrap();
+    outer.synchronized(Object(0), |s| s.store(Field(0), 7)).unwrap();
+    count(&mut own, 0);
+    let mut durable = own.durable_async();
+    assert!(poll(&mut durable, &nobody()).is_pending());
+    WRITES_FAIL.store(true, SeqCst);
+    count(&mut other, 2);
+    assert_eq!(block_on(&mut durable).unwrap_err().kind(), ErrorKind::Write);
+    WRITES_FAIL.store(false, SeqCst);
+    until("writes go on", || other.durable().is_ok());
+    for _ in 0..2 {
+        assert!(poll(&mut durable, &nobody()).is_pending());
+    }
+    outer.exit().unwrap();
+    block_on(durable).unwrap();
+}
+
+#[test]
 fn without_a_thread_that_wakes_it_a_future_fails_and_may_be_awaited_again() {
     let _alone = alone();
     let scratch = Scratch::new("async-no-thread");
@@ -234,6 +260,37 @@ fn one_thread_wakes_all_of_a_heap_and_ends_with_it() {
         drop(heap);
         until("the heap's thread has ended", || threads_that_wake() == 1 - at);
     }
+}
+
+// A waker of nobody, of which a clone is made once the work is done.
+fn waker_that_does(work: &&dyn Fn()) -> Waker {
+    static CALLS: RawWakerVTable = RawWakerVTable::new(cloned, |_| {}, |_| {}, |_| {});
+    fn cloned(work: *const ()) -> RawWaker {
+        // SAFETY: the work is borrowed until the test has dropped the waker and its clones.
+        unsafe { (*work.cast::<&dyn Fn()>())() };
+        RawWaker::new(work, &CALLS)
+    }
+    // SAFETY: the calls need nothing but the work.
+    unsafe { Waker::from_raw(RawWaker::new(std::ptr::from_ref(work).cast(), &CALLS)) }
+}
+
+#[test]
+fn a_heap_may_end_between_a_futures_look_and_its_wait() {
+    let _alone = alone();
+    let scratch = Scratch::new("async-meanwhile");
+    let heap = counters(2).open(&scratch).unwrap();
+    let (mut session, heap) = (heap.session().unwrap(), Cell::new(Some(heap)));
+    SYNCS_HANG.store(true, SeqCst);
+    store(&mut session, 6);
+    let mut durable = session.durable_async();
+    assert!(poll(&mut durable, &nobody()).is_pending());
+    let end = || {
+        SYNCS_HANG.store(false, SeqCst);
+        drop(heap.take());
+        until("the heap's thread has ended", || threads_that_wake() == 0);
+    };
+    // Its last round has made the section durable.
+    assert_eq!(poll(&mut durable, &waker_that_does(&(&end as &dyn Fn()))), Poll::Ready(Ok(())));
 }
 
 // Of a heap whose sync fails while another session waits for it.

@@ -3,7 +3,7 @@ use common::{count, counters, until, value, Scratch};
 use std::panic::resume_unwind;
 use std::sync::{Arc, Barrier, Mutex};
 use std::time::Duration;
-use zelamiku::{Cause, Durable, Error, ErrorKind, Field, Heap, Level, Object, Pool, Session};
+use zelamiku::{Cause, Durable, Error, ErrorKind, Field, Heap, Level, Object, Pool, Refusal, Session};
 
 mod common;
 
@@ -105,6 +105,8 @@ fn notifications_tell_whom_they_wake() {
     assert!(others[0] < others[1] && lanes == [1, 2, 3], "{one:?} {others:?}");
     assert!(threads.into_iter().all(|thread| thread.join().unwrap().unwrap() == 7));
     assert_eq!(own.synchronized(Object(0), notified).unwrap(), (None, vec![]));
+    let refused = own.synchronized(Object(0), |s| s.notify(Object(1))).unwrap_err();
+    assert_eq!((refused.kind(), refused.refusal()), (ErrorKind::Refused, Some(Refusal::NotHeld)));
 }
 
 #[test]

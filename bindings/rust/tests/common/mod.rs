@@ -2,13 +2,14 @@
 #![allow(dead_code)]
 use std::future::Future;
 use std::pin::{pin, Pin};
+use std::sync::atomic::{AtomicUsize, Ordering::SeqCst};
 use std::sync::mpsc::{channel, Sender};
 use std::sync::{Arc, Mutex};
 use std::task::{Context, Poll, Wake, Waker};
 use std::thread::Thread;
 use std::time::{Duration, Instant};
 pub use scratch::Scratch;
-use zelamiku::{Field, Heap, Object, Options, Session};
+use zelamiku::{Durable, ErrorKind, Field, Heap, Object, Options, Session};
 
 #[path = "../../src/scratch.rs"]
 mod scratch;
@@ -34,6 +35,26 @@ pub fn until(what: &str, mut is_so: impl FnMut() -> bool) {
         assert!(begin.elapsed() < Duration::from_secs(240), "not in four minutes: {what}");
         std::thread::sleep(Duration::from_millis(1));
     }
+}
+
+/// Counts how often it wakes.
+#[derive(Default)]
+pub struct Count(pub AtomicUsize);
+
+impl Wake for Count {
+    fn wake(self: Arc<Self>) {
+        self.0.fetch_add(1, SeqCst);
+    }
+}
+
+/// A waker of nobody.
+pub fn nobody() -> Waker {
+    Waker::from(Arc::new(Count::default()))
+}
+
+pub fn poll(durable: &mut Durable, waker: &Waker) -> Poll<Result<(), ErrorKind>> {
+    let answer = Pin::new(durable).poll(&mut Context::from_waker(waker));
+    answer.map(|answer| answer.map_err(|error| error.kind()))
 }
 
 struct Unpark(Thread);
