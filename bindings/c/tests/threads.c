@@ -929,14 +929,18 @@ static void writes_again(void) {
     MUST(zelamiku_heap_close(all) == ZELAMIKU_OK);
 }
 
-/* A wait without room is told of a write that fails. */
+static void begin_a_hanging_round(zelamiku_thread own);
+
+/* A wait without room is told of a write that fails, in the round that would have made some. */
 static void waits_in_vain(void) {
     begin_without_linger(65536, 4096);
     zelamiku_thread own = begin_thread();
+    begin_a_hanging_round(own);
     for (unsigned i = 0; i < 1032; i++) add(own, TOTAL, 0, 1);
     MUST(zelamiku_thread_enter(own, TOTAL) == ZELAMIKU_OK);
     for (unsigned i = 0; i < 990; i++) MUST(zelamiku_thread_store(own, 0, i) == ZELAMIKU_OK);
     __atomic_store_n(&writes_fail, 1, __ATOMIC_SEQ_CST);
+    __atomic_store_n(&syncs_hang, 0, __ATOMIC_SEQ_CST);
     MUST(zelamiku_thread_wait(own, TOTAL) == ZELAMIKU_DEVICE && last_failure().error == ENOSPC);
     __atomic_store_n(&writes_fail, 0, __ATOMIC_SEQ_CST);
     MUST(zelamiku_thread_exit(own, TOTAL) == ZELAMIKU_OK);
@@ -945,8 +949,9 @@ static void waits_in_vain(void) {
 
 /* A write that a thread has asked for though nothing was stored is made again after a second too, also if more such sections end all the time. */
 static void writes_again_of_looks(void) {
-    begin_without_linger(65536, 4096);
+    begin_with(65536);
     zelamiku_thread own = begin_thread();
+    UNTIL(count_sleepers(&its_heap()->helper_bell, sizeof its_heap()->helper_bell, true) == 1);
     __atomic_store_n(&writes_fail, 1, __ATOMIC_SEQ_CST);
     add(own, TOTAL, 0, 0);
     MUST(zelamiku_thread_await(own) == ZELAMIKU_DEVICE);
