@@ -947,6 +947,20 @@ static void waits_in_vain(void) {
     UNTIL(zelamiku_heap_close(all) == ZELAMIKU_OK);
 }
 
+/* Who has led a round of which a write has failed wakes the helper, which doesn't make it again at once. */
+static void waits_a_second(void) {
+    begin_without_linger(4000, 4096);
+    zelamiku_thread own = begin_thread();
+    UNTIL(count_sleepers(&its_heap()->helper_bell, sizeof its_heap()->helper_bell, false) == 1);
+    uint64_t begun = zelamiku_now();
+    __atomic_store_n(&writes_fail, 1, __ATOMIC_SEQ_CST);
+    add(own, TOTAL, 0, 1);
+    MUST(zelamiku_thread_await(own) == ZELAMIKU_DEVICE && usleep(50000) == 0);
+    MUST(stats().rounds == 1 || zelamiku_now() - begun >= SECOND);
+    __atomic_store_n(&writes_fail, 0, __ATOMIC_SEQ_CST);
+    UNTIL(zelamiku_heap_close(all) == ZELAMIKU_OK);
+}
+
 /* A write that a thread has asked for though nothing was stored is made again after a second too, also if more such sections end all the time. */
 static void writes_again_of_looks(void) {
     begin_with(65536);
@@ -2123,6 +2137,7 @@ int main(int argc, char **argv) {
     failing_writes();
     waits_in_vain();
     writes_again();
+    waits_a_second();
     writes_again_of_looks();
     failing_syncs();
     cut_off();
