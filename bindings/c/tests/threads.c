@@ -712,7 +712,7 @@ static void parts(void) {
         MUST(takes < 100);
         were_rung = false;
         seats[2].bell = 0;
-        in_round = look_at_those_behind;
+        __atomic_store_n(&in_round, look_at_those_behind, __ATOMIC_SEQ_CST);
         now = zelamiku_now();
         MUST(take(of, 1000, &records, &time) == ZELAMIKU_NOTHING && were_rung);
         uint64_t took = zelamiku_now() - now;
@@ -1219,12 +1219,12 @@ static void waits_end_what_is_stored(void) {
     MUST(pthread_join(waiter, NULL) == 0 && zelamiku_heap_close(all) == ZELAMIKU_OK);
 }
 
-/* Waits for TOTAL's monitor while it has LIST's, and then with no other. */
+/* Waits for TOTAL's monitor with no other, and then while it has LIST's. */
 static void *wait_twice(void *data) {
-    for (int has_other = 1; has_other >= 0; has_other--) {
+    for (int has_other = 0; has_other < 2; has_other++) {
         if (has_other) MUST(zelamiku_thread_enter(holder, LIST) == ZELAMIKU_OK);
         MUST(zelamiku_thread_enter(holder, TOTAL) == ZELAMIKU_OK && zelamiku_thread_wait(holder, TOTAL) == ZELAMIKU_OK);
-        MUST(progress(holder).sections == (has_other ? 0 : 2) && zelamiku_thread_exit(holder, TOTAL) == ZELAMIKU_OK);
+        MUST(progress(holder).sections == (has_other ? 2 : 1) && zelamiku_thread_exit(holder, TOTAL) == ZELAMIKU_OK);
         if (has_other) MUST(zelamiku_thread_exit(holder, LIST) == ZELAMIKU_OK);
     }
     return data;
@@ -1306,7 +1306,7 @@ static void asks_in_a_round(void) {
         add(own, TOTAL, 0, 1);
         __atomic_store_n(&in_sync, ask_beside, __ATOMIC_SEQ_CST);
         __atomic_store_n(&syncs_fail, fails, __ATOMIC_SEQ_CST);
-        MUST(zelamiku_thread_await(own) == (fails ? ZELAMIKU_LOST : ZELAMIKU_OK) && in_sync == NULL);
+        MUST(zelamiku_thread_await(own) == (fails ? ZELAMIKU_LOST : ZELAMIKU_OK) && __atomic_load_n(&in_sync, __ATOMIC_SEQ_CST) == NULL);
         if (!fails) UNTIL(progress(beside).durable == 1);
         usleep(20000);
         MUST(!fails || (stats().rounds == 1 && __atomic_load_n(&logged[ZELAMIKU_LOG_ERROR], __ATOMIC_SEQ_CST) == errors + 1));
@@ -2013,11 +2013,11 @@ static void one_is_woken(void) {
 static zelamiku_thread late_one;
 static uint64_t late;
 
-/* After its last try, and before it is listed no more, the monitor is given back, and it is woken. */
+/* After its last try, and before it is listed no more, the monitor is given back, and it is woken; the next one sleeps until somebody rings. */
 static void give_back_late(zelamiku_status status) {
     if (status != ZELAMIKU_HELD || seat_of(late_one)->wanted == 0 || zelamiku_now() < late) return;
     after_try = NULL;
-    UNTIL(stats().entering == 2);
+    UNTIL(stats().entering == 2 && count_sleepers(seats, sizeof seats, true) == 1);
     MUST(zelamiku_thread_exit(holder, TOTAL) == ZELAMIKU_OK);
 }
 
