@@ -121,8 +121,8 @@ fn a_write_that_fails_is_told_and_made_again() {
     // It fails again for who asks again, and by the one that wasn't polled yet.
     let mut late = session.durable_async();
     assert_eq!(block_on(&mut late).unwrap_err().kind(), ErrorKind::Write);
-    // By a round of its own, unless the helper's comes right after it.
-    assert!((0..9).any(|_| {
+    // By a round of its own, unless that is over before its waker is there: then by the helper's, a second later. So it often is on a busy machine.
+    assert!((0..40).any(|_| {
         assert_eq!(block_on(&mut late).unwrap_err().kind(), ErrorKind::Write);
         heap.stats().unwrap().last_cause == Cause::Awaited
     }));
