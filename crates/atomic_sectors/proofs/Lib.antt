@@ -1,0 +1,2 @@
+-- The lemmas of this crate and of those above.
+pub mod Calculus

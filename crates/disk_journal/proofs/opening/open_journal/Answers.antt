@@ -1,0 +1,31 @@
+use Rattle.std.specs.Prelude.{IfErr}
+use Rattle.std.proofs.Common.{◌≡◌, sym, subst, arith}
+use Rattle.block_disk.specs.Device.{Device}
+use Rattle.atomic_sectors.specs.Left.{LeavesWhole}
+use Rattle.atomic_sectors.proofs.Calculus.{leaves_same}
+use Rattle.journal_batches.specs.declared.areas.Areas.{Areas}
+use Rattle.disk_journal.specs.Refusals.{IsUntouched}
+use Rattle.disk_journal.specs.Stands.{StandsStill}
+use Rattle.disk_journal.proofs.LabelLemmas.{one_label}
+use Rattle.disk_journal.proofs.opening.open_journal.Goals as goal
+
+pub returns-in_err-areas-clause-left : goal.returns-in_err-areas-clause-left
+returns-in_err-areas-clause-left g c = λ a label room. leaves_same c.find_areas.ensures.same
+
+pub returns-clause-left : goal.returns-clause-left
+returns-clause-left g c = λ a label room.
+    let old = g.D.Disk.device c.args.disk.now in
+    let mid = g.D.Disk.device c.find_areas.new.disk in
+    let new = g.D.Disk.device c.open_areas.new.disk in
+    let one = c.in_ok-areas.areas in
+    let is : a ≡ one =
+    one_label a one old.now.bytes (omega (arith, room, c.find_areas.ensures.size)) (omega (arith, room, c.find_areas.ensures.size))
+    (omega (arith, c.in_ok-areas.ensures.room, c.find_areas.ensures.size)) (omega (arith, c.in_ok-areas.ensures.room, c.find_areas.ensures.size))
+    label c.in_ok-areas.ensures.label in
+    subst (λ (d : Device). LeavesWhole d new (StandsStill a d.now.bytes)) c.in_ok-areas.ensures.ok
+    (subst (λ (b : Areas). LeavesWhole mid new (StandsStill b mid.now.bytes)) (sym is) c.open_areas.ensures.left)
+
+pub returns-clause-untouched : goal.returns-clause-untouched
+returns-clause-untouched g c =
+    subst (λ (d : Device). IfErr c.open_areas.result (λ why. IsUntouched why d (g.D.Disk.device c.open_areas.new.disk)))
+    c.in_ok-areas.ensures.ok c.open_areas.ensures.untouched

@@ -1,0 +1,321 @@
+//! A disk over a device of atomic sectors.
+ghost use Rattle.std.specs.Prelude.{◌≡◌, ◌↔◌, ◌⊎◌, ◌+◌, ◌*◌, ◌/◌, ◌^◌, ◌<◌, ◌≤◌, drop, IfErr, IfOk, IsErrOf, IsOk, IsTrue, OnOk, [], true, false, length, replicate};
+ghost use Rattle.block_disk.specs.Bytes.{part};
+ghost use Rattle.block_disk.specs.Device.{Image, SameMoments, new_device, synced, written};
+ghost use Rattle.block_disk.specs.Since.{CountsOneMore, HasFailedSince, IsSameOrTorn};
+ghost use Rattle.block_disk.specs.declared.error.DiskError.TheVariants.{Fault, OutOfRange};
+ghost use Rattle.atomic_sectors.specs.Left.{AlwaysWhole, LeavesWhole, MakesSyncs};
+ghost use Rattle.journal_batches.specs.Areas.{image_bytes, room_of};
+ghost use Rattle.journal_batches.specs.Shown.{shown};
+ghost use Rattle.disk_journal.specs.Disks.{FitsBatch, IsSettled, SameBelow, ShowsDisk, ShowsOldOrNew};
+ghost use Rattle.disk_journal.specs.Labels.{HasLabel, HasNoLabel};
+ghost use Rattle.disk_journal.specs.Opened.{IsOpened, TellsWhy};
+ghost use Rattle.disk_journal.specs.Refusals.{IsRefused, IsUntouched, LacksRoom, RefusesRead, RefusesWrite, StandsThrough};
+ghost use Rattle.disk_journal.specs.Stands.{IsMadeOrNone, StandsStill};
+ghost use Rattle.disk_journal.specs.declared.error.JournalError.TheVariants.{Fault as JournalFault, NoJournal, TooSmall};
+
+use crate::error::JournalError;
+use crate::label::has_room;
+use crate::making::make_journal;
+use crate::opening::{Opened, open_journal};
+use crate::pages::PAGE;
+use crate::syncing::{go_on, touched_words};
+use crate::touching::touch;
+use atomic_sectors::UntornDisk;
+use block_disk::{Disk, DiskError, Trace, copy_out, fail, lies_within, put};
+use journal_batches::{Areas, Entry, replay_law};
+use std::alloc::Global;
+use std::marker::Model;
+
+// From this stamp on there are no numbers for the two batches that a sync may write.
+const LAST_STAMP: u64 = u64::MAX - 3;
+
+/// A disk over a device of atomic sectors. What a sync has to change goes to the device as one batch of words, and a crash leaves all of it or nothing.
+///
+/// Its bytes are in memory. A sync makes one flush, if the words written since the last one fit into a batch; else three, and then a crash may leave any of them.
+///
+/// A `Fault` is one of the device in a sync, want of memory, or the end of the numbers of batches. After one of the device the disk writes no more: each later
+/// write and sync is a `Fault`, until the device is opened again.
+#[derive(Drop)]
+pub struct Journaled<D: UntornDisk + Drop> {
+    alloc: Global,
+    disk: D,
+    areas: Areas,
+    image: Vec<u8>,
+    // Which half has the newest batch, its stamp, and its words, which aren't at their places yet.
+    second: bool,
+    stamp: u64,
+    last: Vec<Entry>,
+    // Where words were written since.
+    touched: Vec<u64>,
+    is_over: bool,
+    failures: u64,
+    trace: Trace,
+}
+
+impl<D: UntornDisk + Drop> Model for Journaled<D> {
+    ghost use Rattle.std.specs.Prelude.{length};
+    ghost use Rattle.disk_journal.specs.Disks.{Layered};
+    ghost use Rattle.disk_journal.specs.Kept.{IsKept};
+    ghost use Rattle.block_disk.specs.Traced.{failing};
+
+    ghost Value = { Layered };
+
+    ghost view = { λ d. record { device = failing d.failures d.trace.past.device; disk = D.device d.disk; areas = d.areas; waiting = length d.touched.items; is_over = d.is_over } };
+
+    ghost invariant = { λ d. IsKept d.areas d.second d.stamp d.last.items d.touched.items d.is_over d.image.items d.trace.past.device.now (D.device d.disk) };
+}
+
+impl<D: UntornDisk + Drop> Journaled<D> {
+    /// The disk that the device stands for. What was read is made durable first.
+    ///
+    /// Refused, with the device:
+    /// - `NoJournal` where it begins with no label;
+    /// - `TooSmall` where it has fewer bytes than its label says;
+    /// - `Worn` where the numbers of its batches have come to their end. After these and `NoMemory` nothing was written;
+    /// - `Fault`, as it comes. What the device stands for stays.
+    pub fn open(alloc: Global, mut disk: D) -> Result<Journaled<D>, (D, JournalError)>
+        // An opened disk is what the device stands for.
+        ensures ok { IfOk result (λ opened. opened.device ≡ new_device (shown opened.areas (D.device disk).now.bytes)) }
+        ensures label { IfOk result (λ opened. HasLabel opened.areas (D.device disk).now.bytes) }
+        ensures room { IfOk result (λ opened. room_of opened.areas ≤ length (D.device disk).now.bytes) }
+        ensures settled { IfOk result IsSettled }
+        ensures works { IfOk result (λ opened. opened.is_over ≡ false) }
+        // A crash at any moment of an opening leaves what stands for the same image.
+        ensures left { IfOk result (λ opened. StandsThrough (D.device disk) opened.disk) }
+        // So does a crash at any moment of one that is refused.
+        ensures refused { IfErr result (λ back. StandsThrough (D.device disk) (D.device back.0)) }
+        // A refusal says why.
+        ensures why { IfErr result (λ back. TellsWhy back.1 (D.device disk).now.bytes) }
+        // A device without a label isn't opened.
+        ensures unlabelled { HasNoLabel (D.device disk).now.bytes → IsRefused result NoJournal ⊎ IsRefused result JournalFault }
+        // A refusal other than a fault leaves the device as it was.
+        ensures untouched { IfErr result (λ back. IsUntouched back.1 (D.device disk) (D.device back.0)) }
+        ensures cause { IfErr result (λ back. back.1 ≡ JournalFault → HasFailedSince (D.device disk) (D.device back.0)) }
+    {
+        match open_journal(alloc, &mut disk) {
+            Ok(opened) => Ok(Journaled::holding(alloc, disk, opened)),
+            Err(why) => Err((disk, why)),
+        }
+    }
+
+    /// A disk of zeros, durably; the device begins with its label then, which is written last.
+    ///
+    /// Refused, with the device:
+    /// - `TooSmall` exactly where it has fewer bytes than the disk takes, or a half has no page;
+    /// - then `NoMemory`. After either the device is as it was;
+    /// - `Fault`: any bytes may stand in what the disk takes, but for a label.
+    pub fn create(
+        alloc: Global,
+        mut disk: D,
+        areas: Areas,
+    ) -> Result<Journaled<D>, (D, JournalError)>
+        // A new disk has zeros.
+        ensures ok { IfOk result (λ made. made.device ≡ new_device (replicate (image_bytes areas) 0)) }
+        ensures areas { IfOk result (λ made. made.areas ≡ areas) }
+        ensures label { IfOk result (λ made. HasLabel areas made.disk.now.bytes) }
+        ensures settled { IfOk result IsSettled }
+        ensures works { IfOk result (λ made. made.is_over ≡ false) }
+        // A making that is cut off leaves no label, or the disk of zeros, whatever label the device had.
+        ensures left { IfOk result (λ made. (D.device disk).now.pending ≡ [] → LeavesWhole (D.device disk) made.disk (IsMadeOrNone areas)) }
+        ensures refused { IfErr result (λ back. (D.device disk).now.pending ≡ [] → LeavesWhole (D.device disk) (D.device back.0) (IsMadeOrNone areas)) }
+        ensures too_small { IsRefused result TooSmall ↔ LacksRoom areas (D.device disk).now.bytes }
+        // A refusal other than a fault leaves the device as it was.
+        ensures untouched { IfErr result (λ back. IsUntouched back.1 (D.device disk) (D.device back.0)) }
+        // A making changes no byte behind the disk's.
+        ensures past { IfOk result (λ made. drop (room_of areas) made.disk.now.bytes ≡ drop (room_of areas) (D.device disk).now.bytes) }
+        ensures beyond { IfErr result (λ back. drop (room_of areas) (D.device back.0).now.bytes ≡ drop (room_of areas) (D.device disk).now.bytes) }
+        ensures cause { IfErr result (λ back. back.1 ≡ JournalFault → HasFailedSince (D.device disk) (D.device back.0)) }
+    {
+        if !has_room(areas, disk.size()) {
+            return Err((disk, JournalError::TooSmall));
+        }
+        let Ok(image) = vec![in alloc; 0u8; areas.image * PAGE] else {
+            return Err((disk, JournalError::NoMemory));
+        };
+        match make_journal(&mut disk, areas) {
+            Ok(()) => {}
+            Err(_) => {
+                drop(image);
+                return Err((disk, JournalError::Fault));
+            }
+        }
+        let opened = Opened {
+            areas,
+            second: false,
+            stamp: 2,
+            image,
+        };
+        Ok(Journaled::holding(alloc, disk, opened))
+    }
+
+    // The disk that was found or made.
+    fn holding(alloc: Global, disk: D, opened: Opened) -> Journaled<D>
+        requires { IsOpened opened (D.device disk) }
+        ensures device { result.device ≡ new_device opened.image.items }
+        ensures disk { result.disk ≡ D.device disk }
+        ensures areas { result.areas ≡ opened.areas }
+        ensures waiting { result.waiting ≡ 0 }
+        ensures works { result.is_over ≡ false }
+    {
+        let trace = Trace::of(&opened.image);
+        Journaled {
+            alloc,
+            disk,
+            areas: opened.areas,
+            image: opened.image,
+            second: opened.second,
+            stamp: opened.stamp,
+            last: Vec::new(alloc),
+            touched: Vec::new(alloc),
+            is_over: false,
+            failures: 0,
+            trace,
+        }
+    }
+
+    /// The device that it lies on.
+    pub fn disk(&self) -> &D
+        ensures { D.device result.now ≡ self.now.disk }
+    {
+        &self.disk
+    }
+
+    /// The image: what a read gives.
+    pub fn image(&self) -> &[u8]
+        ensures { result.now ≡ self.now.device.now.bytes }
+    {
+        &self.image
+    }
+
+    /// The parts of the device.
+    pub fn areas(&self) -> Areas
+        ensures { result ≡ self.now.areas }
+    {
+        self.areas
+    }
+
+    /// Whatever a crash may leave of the device now stands for what it may leave of the disk.
+    pub fn possible_law(&self)
+        // Whatever a crash may leave of the device now stands for what a crash may leave of the disk now.
+        ensures now { AlwaysWhole self.now.disk (ShowsDisk self.now) }
+        // While no call has failed a crash leaves the image of the last sync.
+        ensures settled { self.now.is_over ≡ false → AlwaysWhole self.now.disk (StandsStill self.now.areas self.now.disk.now.bytes) }
+    {
+        let _ = &self.image;
+    }
+}
+
+impl<D: UntornDisk + Drop> Disk for Journaled<D> {
+    ghost device = { λ d. d.device };
+
+    fn size(&self) -> u64 {
+        self.image.len() as u64
+    }
+
+    /// Reads the memory, and never answers `Fault`.
+    fn read_at(&mut self, at: u64, out: &mut [u8]) -> Result<(), DiskError>
+        ensures in_range { OnOk result (at + length out.old ≤ length self.old.device.now.bytes) }
+        ensures ok { OnOk result (out.new ≡ part at (length out.old) self.old.device.now.bytes) }
+        ensures same { OnOk result (self.new.device ≡ self.old.device) }
+        ensures out_of_range { RefusesRead at out.old out.new self.old.device self.new.device result }
+        ensures fault { IsErrOf result Fault → SameMoments self.old.device self.new.device }
+        ensures cause { IsErrOf result Fault → HasFailedSince self.old.device self.new.device }
+        ensures counted { IsErrOf result Fault → CountsOneMore self.old.device self.new.device }
+        ensures no_fault { ¬ IsErrOf result Fault }
+        ensures below { SameBelow self.old self.new }
+        ensures waiting { self.new.waiting ≡ self.old.waiting }
+    {
+        if !lies_within(at, out.len(), self.image.len()) {
+            return Err(DiskError::OutOfRange);
+        }
+        copy_out(&self.image, at, out);
+        Ok(())
+    }
+
+    /// Writes the memory, and leaves the device as it is. `Fault` is want of memory, or a disk that writes no more.
+    fn write_at(&mut self, at: u64, bytes: &[u8]) -> Result<(), DiskError>
+        ensures in_range { OnOk result (at + length bytes.now ≤ length self.old.device.now.bytes) }
+        ensures ok { OnOk result (self.new.device ≡ written at bytes.now self.old.device) }
+        ensures out_of_range { RefusesWrite at bytes.now self.old.device self.new.device result }
+        ensures fault { IsErrOf result Fault → IsSameOrTorn at (length bytes.now) self.old.device self.new.device }
+        ensures cause { IsErrOf result Fault → HasFailedSince self.old.device self.new.device }
+        ensures counted { IsErrOf result Fault → CountsOneMore self.old.device self.new.device }
+        // A write that fails has written nothing.
+        ensures untorn { IsErrOf result Fault → SameMoments self.old.device self.new.device }
+        // A write leaves the device below as it is.
+        ensures below { SameBelow self.old self.new }
+        // What waits for a sync grows by the words in which the bytes lie, at most.
+        ensures waiting { self.new.waiting ≤ self.old.waiting + (length bytes.now / 8 + 2) }
+        // One that fails leaves what waits.
+        ensures unchanged { ¬ IsOk result → self.new.waiting ≡ self.old.waiting }
+        // A disk that writes no more says so.
+        ensures over { self.old.is_over ≡ true → ¬ IsOk result }
+    {
+        if !lies_within(at, bytes.len(), self.image.len()) {
+            return Err(DiskError::OutOfRange);
+        }
+        if self.is_over {
+            return Err(fail(&mut self.failures));
+        }
+        if !touch(&mut self.touched, at, bytes.len(), self.image.len()) {
+            return Err(fail(&mut self.failures));
+        }
+        put(&mut self.image, at, bytes);
+        self.trace.write(at, bytes);
+        Ok(())
+    }
+
+    /// Makes what was written durable: by one flush, if it fits into a batch.
+    fn sync(&mut self) -> Result<(), DiskError>
+        ensures ok { OnOk result (self.new.device ≡ synced self.old.device) }
+        ensures in_range { ¬ IsErrOf result OutOfRange }
+        ensures fault { IsErrOf result Fault → SameMoments self.old.device self.new.device }
+        ensures cause { IsErrOf result Fault → HasFailedSince self.old.device self.new.device }
+        ensures counted { IsErrOf result Fault → CountsOneMore self.old.device self.new.device }
+        // Whatever a crash leaves at any moment of a sync stands for what a crash of the disk might have left before the sync, whatever the sync answers.
+        ensures any_moment { LeavesWhole self.old.disk self.new.disk (ShowsDisk self.old) }
+        // If what waits fits into a batch, that is the image of the last sync or of this one, and nothing else.
+        ensures old_or_new { FitsBatch self.old → self.old.is_over ≡ false → LeavesWhole self.old.disk self.new.disk (ShowsOldOrNew self.old) }
+        // And then a sync makes one flush.
+        ensures one_sync { FitsBatch self.old → OnOk result (MakesSyncs 1 self.old.disk self.new.disk) }
+        // After a sync all is durable.
+        ensures settled { OnOk result (IsSettled self.new) }
+        // A sync that fails leaves what waits, and has called nothing if the disk writes on.
+        ensures unchanged { ¬ IsOk result → (self.new.waiting ≡ self.old.waiting) × (self.new.is_over ≡ false → SameBelow self.old self.new) }
+        ensures areas { self.new.areas ≡ self.old.areas }
+        // A disk that writes no more says so, and calls the device no more.
+        ensures over { self.old.is_over ≡ true → (¬ IsOk result) × SameBelow self.old self.new }
+        ensures works { OnOk result (self.new.is_over ≡ false) }
+    {
+        if self.is_over || self.stamp >= LAST_STAMP {
+            return Err(fail(&mut self.failures));
+        }
+        let next = match touched_words(self.alloc, &mut self.touched, &self.image) {
+            Ok(next) => next,
+            Err(_) => return Err(fail(&mut self.failures)),
+        };
+        replay_law();
+        match go_on(
+            &mut self.disk,
+            self.areas,
+            &mut self.second,
+            &mut self.stamp,
+            &mut self.last,
+            next,
+        ) {
+            Ok(()) => {}
+            Err(_) => {
+                self.is_over = true;
+                return Err(fail(&mut self.failures));
+            }
+        }
+        self.touched.clear();
+        self.trace.sync();
+        Ok(())
+    }
+
+    fn failures(&self) -> u64 {
+        self.failures
+    }
+}
