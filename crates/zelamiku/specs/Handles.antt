@@ -4,6 +4,7 @@ use Rattle.host_heap.specs.Hosting.{Hosting}
 use Rattle.host_heap.specs.Sessions.{Seated, SeatedWaiting}
 use Rattle.host_heap.specs.Stopping.{Stopping}
 use Rattle.host_heap.specs.declared.closing.Closed.{Closed}
+use Rattle.host_journal.specs.Hosted.{Hosted}
 use Rattle.session.specs.declared.session.Session.{Session}
 use Rattle.zelamiku.specs.Own.{Held}
 use Rattle.zelamiku.specs.declared.state.Open.{Open}
@@ -42,6 +43,10 @@ waiting_held w = holding (kind.Waiting w)
 abbrev pub ended_held : List Session → Held
 ended_held back = holding (kind.Ended back)
 
+-- a journal
+abbrev pub journal_held : Hosted → Held
+journal_held j = holding (kind.Journal j)
+
 -- A call that a heap answers while it runs. One that was closed, or has stopped, and what is no heap stay as they are, and the status says so.
 abbrev pub OfHeap : (Hosting → (after : Held) → (status : ℕ) → Type 0) → Open → (after : Held) → (status : ℕ) → Type 0
 OfHeap p (kind.Heap x) after status = p x after status
@@ -56,6 +61,17 @@ OfDevice p q (kind.Heap x) after status = p x after status
 OfDevice p q (kind.Closed x) after status = q x after status
 OfDevice p q (kind.Stopped word) after status = (status ≡ STOPPED) × (after ≡ stopped_held word)
 OfDevice p q other after status = (status ≡ WRONG_KIND) × (after ≡ holding other)
+
+-- A call that a journal answers. What is no journal stays as it is, and the status says so.
+abbrev pub OfJournal : (Hosted → (after : Held) → (status : ℕ) → Type 0) → Open → (after : Held) → (status : ℕ) → Type 0
+OfJournal p (kind.Journal j) after status = p j after status
+OfJournal p other after status = (status ≡ WRONG_KIND) × (after ≡ holding other)
+
+-- A call of a host, for what hands calls over: a heap that runs (`p`), one that was closed (`q`), or a journal (`r`).
+abbrev pub OfHost : (p : Hosting → (after : Held) → (status : ℕ) → Type 0) (q : Closed → (after : Held) → (status : ℕ) → Type 0)
+    (r : Hosted → (after : Held) → (status : ℕ) → Type 0) → Open → (after : Held) → (status : ℕ) → Type 0
+OfHost p q r (kind.Journal j) after status = r j after status
+OfHost p q r other after status = OfDevice p q other after status
 
 -- A call of a handle: the handle has this before and after, and the status is what C is answered. `p` is the call of what the handle has.
 -- An empty handle stays empty.

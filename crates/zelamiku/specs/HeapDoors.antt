@@ -1,5 +1,5 @@
 -- What C's calls of a heap do to what its handle has, and what they answer, by the kind of what is there (this project's own).
-use Rattle.std.specs.Prelude.{ℕ, ◌≡◌, ◌<◌, ◌≤◌, ◌↔◌, List, [], ◌∷◌, ◌++◌, ◌+◌, ◌==◌, not, if◌then◌else◌, Option, Some, None, Result, Ok, Err, IfOk, IsErrOf, MatchResult, OnOk, drop, length, map, min, take}
+use Rattle.std.specs.Prelude.{ℕ, ◌≡◌, ◌<◌, ◌≤◌, ◌↔◌, List, [], ◌∷◌, ◌++◌, ◌==◌, not, if◌then◌else◌, Option, Some, None, Result, Ok, Err, IfOk, IsErrOf, MatchResult, OnOk, drop, length, map, min, take}
 use Rattle.disk_deferred.specs.Deferred.{stop_of}
 use Rattle.disk_deferred.specs.Host.{Fetches, HasLooked, HaveMet, Host}
 use Rattle.disk_deferred.specs.declared.call.DeviceCall.{DeviceCall}
@@ -21,8 +21,10 @@ use Rattle.host_heap.specs.declared.error.AcknowledgedError.TheVariants.{BadLane
 use Rattle.host_heap.specs.declared.error.HostError.{HostError}
 use Rattle.host_heap.specs.declared.error.RoundError.{RoundError}
 use Rattle.host_heap.specs.declared.lane_end.LaneEnd.{LaneEnd}
+use Rattle.host_journal.specs.Hosted.{Hosted, SameButCalls}
 use Rattle.law_hosted.specs.Safe.{KeepsFrom, KeepsNow}
 use Rattle.image_parts.specs.Layout.{size_of}
+use Rattle.rtrb.specs.Ring.{known_items}
 use Rattle.image_parts.specs.declared.guard_row.GuardRow.{GuardRow}
 use Rattle.recover.specs.declared.report.Report.{Report}
 use Rattle.session.specs.Sessions.{view_of}
@@ -30,7 +32,7 @@ use Rattle.thread_steps.specs.Views.{plan}
 use Rattle.heap_model.specs.Past.{Past}
 use Rattle.trim_helper.specs.Parts.{IsServing}
 use Rattle.zelamiku.specs.Own.{Held}
-use Rattle.zelamiku.specs.Handles.{Answers, OfDevice, OfHeap, nothing_held, heap_held, closed_held, session_held}
+use Rattle.zelamiku.specs.Handles.{Answers, OfDevice, OfHeap, OfHost, nothing_held, heap_held, closed_held, journal_held, session_held}
 use Rattle.zelamiku.specs.HeapStatuses.{acknowledged_status, host_status, not_closed_status, round_status}
 use Rattle.zelamiku.specs.declared.heap_calls.TheConstants.{ALL}
 use Rattle.zelamiku.specs.declared.state.Open.{Open}
@@ -148,9 +150,10 @@ pub record TellsFirst (left : List DeviceCall) (call : Call) (buffer filled : Li
 
 -- `zelamiku_next_call`
 abbrev pub TellsNextAt : (call : Call) (buffer filled : List ℕ) → Open → (after : Held) → (status : ℕ) → Type 0
-TellsNextAt call buffer filled = OfDevice
+TellsNextAt call buffer filled = OfHost
     (λ x after status. (y : Hosting) × SameHeap x y × Fetches x.calls y.calls × TellsFirst y.calls.left call buffer filled status × (after ≡ heap_held y))
     (λ x after status. (y : Closed) × (y.disk ≡ x.disk) × Fetches x.calls y.calls × TellsFirst y.calls.left call buffer filled status × (after ≡ closed_held y))
+    (λ x after status. (y : Hosted) × SameButCalls x y × Fetches x.calls y.calls × TellsFirst y.calls.left call buffer filled status × (after ≡ journal_held y))
 
 -- of the calls that are left, these, the first is made, if there is one
 abbrev pub MakesFirst : (left : List DeviceCall) → (x y : Host) (status : ℕ) → Type 0
@@ -159,9 +162,26 @@ MakesFirst (call ∷ later) x y status = (status ≡ OK) × (y.left ≡ later) �
 
 -- `zelamiku_call_done`
 abbrev pub MakesCallAt : Open → (after : Held) → (status : ℕ) → Type 0
-MakesCallAt = OfDevice
+MakesCallAt = OfHost
     (λ x after status. (y : Hosting) × SameHeap x y × MakesFirst x.calls.left x.calls y.calls status × (after ≡ heap_held y))
     (λ x after status. (y : Closed) × (y.disk ≡ x.disk) × MakesFirst x.calls.left x.calls y.calls status × (after ≡ closed_held y))
+    (λ x after status. (y : Hosted) × SameButCalls x y × MakesFirst x.calls.left x.calls y.calls status × (after ≡ journal_held y))
+
+-- a number as C sees it: more than 2^32 - 1 are told as so many
+abbrev pub counted : ℕ → ℕ
+counted n = min n 4294967295
+
+-- how many groups of calls a look finds handed over, which aren't fetched
+pub record TellsWaiting (count : ℕ) (x y : Host) (status : ℕ) : Type 0 where
+  pub looked : HasLooked x y
+  pub told : count ≡ counted (length (known_items y.ring))
+  pub ok : status ≡ OK
+
+-- `zelamiku_waiting`
+abbrev pub TellsWaitingAt : (count : ℕ) → Open → (after : Held) → (status : ℕ) → Type 0
+TellsWaitingAt count = OfDevice
+    (λ x after status. (y : Hosting) × SameHeap x y × TellsWaiting count x.calls y.calls status × (after ≡ heap_held y))
+    (λ x after status. (y : Closed) × (y.disk ≡ x.disk) × TellsWaiting count x.calls y.calls status × (after ≡ closed_held y))
 
 -- how many records C lets a round apply, or that there is no bound, by `ALL`
 abbrev pub bound_of : (most : ℕ) → Option ℕ

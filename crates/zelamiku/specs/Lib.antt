@@ -17,3 +17,6 @@ pub mod HandleDoors
 pub mod HeadDoors
 pub mod LayoutDoors
 pub mod CopyDoors
+-- What C's calls of a journal answer.
+pub mod JournalStatuses
+pub mod JournalDoors

@@ -21,7 +21,6 @@ use Rattle.session.specs.Sessions.{view_of}
 use Rattle.session.specs.Calls.{AsksToResume, AsksToWait, Enters, Exits, Loads, Looks, Notifies, NotifiesAll, ReadsStable, StoresAs}
 use Rattle.session.specs.declared.error.SessionError.{SessionError}
 use Rattle.session.specs.declared.error.Still.{Still}
-use Rattle.session.specs.declared.session.Session.{Session}
 use Rattle.zelamiku.specs.Handles.{holding, Answers, ended_held, session_held, waiting_held}
 use Rattle.zelamiku.specs.Own.{Held}
 use Rattle.zelamiku.specs.SessionStatuses.{refusal_status, status_of, still_status}

@@ -3,7 +3,7 @@ ghost use Rattle.std.specs.Prelude.{◌≡◌, ◌≢◌, Some, None, IfOk, if�
 ghost use Rattle.std.specs.Option.{option_copied};
 ghost use Rattle.host_heap.specs.Opening.{Opens};
 ghost use Rattle.zelamiku.specs.Handles.{Answers, holding, heap_held, session_held};
-ghost use Rattle.zelamiku.specs.HeapDoors.{AcknowledgesAt, ClosesAt, HandsOne, HandsOutAt, HasAcknowledged, MakesCallAt, MakesHeap, RoundsAt, TellsNextAt, filled_of, found_of, nothing_found, rows_of, told_of, wanted_of};
+ghost use Rattle.zelamiku.specs.HeapDoors.{AcknowledgesAt, ClosesAt, HandsOne, HandsOutAt, HasAcknowledged, MakesCallAt, MakesHeap, RoundsAt, TellsNextAt, TellsWaitingAt, filled_of, found_of, nothing_found, rows_of, told_of, wanted_of};
 ghost use Rattle.zelamiku.specs.HeapDoors as doors;
 ghost use Rattle.zelamiku.specs.declared.status.TheConstants.{NONE_LEFT, OK};
 
@@ -170,6 +170,10 @@ pub fn next_call(state: &mut Inner, bytes: &mut [u8]) -> (Call, u32)
             closed.calls.fetch();
             (tell(closed.calls.next_call(), bytes), status::OK)
         }
+        Open::Journal(journal) => {
+            journal.fetch();
+            (tell(journal.next_call(), bytes), status::OK)
+        }
         Open::Stopped(_) => (no_call(), status::STOPPED),
         _ => (no_call(), status::WRONG_KIND),
     }
@@ -216,6 +220,7 @@ pub fn call_done(state: &mut Inner) -> u32
     match &mut state.open {
         Open::Heap(heap) => of_done(heap.done()),
         Open::Closed(closed) => of_done(closed.calls.done()),
+        Open::Journal(journal) => of_done(journal.done()),
         Open::Stopped(_) => status::STOPPED,
         _ => status::WRONG_KIND,
     }
@@ -229,6 +234,25 @@ fn of_done(is_done: bool) -> u32
     } else {
         status::NONE_LEFT
     }
+}
+
+/// How many groups of calls were handed over and aren't fetched yet, or 0, and the status.
+pub fn waiting(state: &mut Inner) -> (u32, u32)
+    ensures told { Answers (TellsWaitingAt result.0) (Some state.old) (Some state.new) result.1 }
+    ensures refused { result.1 ≢ OK → result.0 ≡ 0 }
+{
+    match &mut state.open {
+        Open::Heap(heap) => (counted(heap.waiting()), status::OK),
+        Open::Closed(closed) => (counted(closed.calls.waiting()), status::OK),
+        Open::Stopped(_) => (0, status::STOPPED),
+        _ => (0, status::WRONG_KIND),
+    }
+}
+
+fn counted(groups: usize) -> u32
+    ensures { result ≡ doors.counted groups }
+{
+    groups.min(u32::MAX as usize) as u32
 }
 
 /// A round of the helper, of at most so many records, or of any number by [`ALL`]: how many it applied, or 0, and the status.

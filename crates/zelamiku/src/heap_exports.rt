@@ -2,7 +2,7 @@
 ghost use Rattle.std.specs.Prelude.{◌≡◌, ◌≢◌, None};
 ghost use Rattle.zelamiku.specs.Ended.{still_held};
 ghost use Rattle.zelamiku.specs.HandleDoors.{AnswersBy, HandsOutBy};
-ghost use Rattle.zelamiku.specs.HeapDoors.{AcknowledgesAt, ClosesAt, MakesCallAt, RoundsAt, TellsNextAt, told_of};
+ghost use Rattle.zelamiku.specs.HeapDoors.{AcknowledgesAt, ClosesAt, MakesCallAt, RoundsAt, TellsNextAt, TellsWaitingAt, told_of};
 ghost use Rattle.zelamiku.specs.declared.status.TheConstants.{OK};
 
 use crate::slot::{Slot, is_taken, let_go};
@@ -60,6 +60,24 @@ pub extern "C" fn zelamiku_call_done(place: &mut Slot) -> u32
         return status::NOTHING;
     }
     heap_calls::call_done(place.handle.as_mut())
+}
+
+/// How many groups of calls were handed over and aren't fetched yet.
+#[unsafe(no_mangle)]
+pub extern "C" fn zelamiku_waiting(place: &mut Slot, count: &mut u32) -> u32
+    // C is told how many groups of calls a heap has handed over, also one that was closed, which aren't fetched yet. A
+    // group is the calls up to a sync. No call is made or fetched.
+    ensures told { AnswersBy (TellsWaitingAt count.new) place.old place.new result }
+    // Where no groups are told the count is 0.
+    ensures refused { result ≢ OK → count.new ≡ 0 }
+{
+    *count = 0;
+    if !place.is_open() {
+        return status::NOTHING;
+    }
+    let (groups, answer) = heap_calls::waiting(place.handle.as_mut());
+    *count = groups;
+    answer
 }
 
 /// A round of the helper, of at most `most` records, or of any number by [`ALL`](heap_calls::ALL).

@@ -10,6 +10,8 @@ mod handle;
 mod head_calls;
 mod heap_calls;
 mod heap_exports;
+mod journal_calls;
+mod journal_exports;
 mod layout_calls;
 mod layout_exports;
 mod loose;
@@ -30,7 +32,11 @@ mod words;
 pub use copy_exports::zelamiku_copy;
 pub use heap_exports::{
     zelamiku_acknowledged, zelamiku_call_done, zelamiku_close, zelamiku_free, zelamiku_next_call,
-    zelamiku_round, zelamiku_session,
+    zelamiku_round, zelamiku_session, zelamiku_waiting,
+};
+pub use journal_exports::{
+    zelamiku_journal_create, zelamiku_journal_open, zelamiku_journal_order, zelamiku_journal_read,
+    zelamiku_journal_sync, zelamiku_journal_write,
 };
 pub use layout_exports::{zelamiku_fields, zelamiku_head};
 pub use opening_exports::{zelamiku_format, zelamiku_open, zelamiku_upgrade};

@@ -1,9 +1,10 @@
-//! What a handle has: a heap, a session, or what is left of one.
+//! What a handle has: a heap, a session, or what is left of one; or a journal.
 ghost use Rattle.std.specs.Prelude.{◌≡◌, IfOk};
 ghost use Rattle.zelamiku.specs.Ended.{is_ended};
 ghost use Rattle.zelamiku.specs.declared.state.Open.TheVariants as kind;
 
 use host_heap::{Closed, HostedHeap, HostedSession, HostedWaiting, Returned, StopWord};
+use host_journal::HostJournal;
 use std::alloc::{AllocError, Global};
 
 /// What a handle has: one kind of handle serves all.
@@ -24,6 +25,8 @@ pub enum Open {
     Waiting(HostedWaiting),
     /// What is left of a session that has ended, until its handle is used again or freed.
     Ended(Returned),
+    /// A journal, on whose image a heap lies.
+    Journal(HostJournal),
 }
 
 /// What a handle has, in its box.

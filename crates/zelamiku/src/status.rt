@@ -1,8 +1,11 @@
 //! Answers as C's numbers, which `zelamiku.h` names.
 ghost use Rattle.std.specs.Prelude.{◌≡◌};
 ghost use Rattle.zelamiku.specs.HeapStatuses.{acknowledged_status, close_status, host_status, image_status, recover_status, round_status, schema_status, store_status};
+ghost use Rattle.zelamiku.specs.JournalStatuses.{call_status, journal_status, turn_status};
 ghost use Rattle.zelamiku.specs.SessionStatuses.{refusal_status, status_of, still_status};
 
+use block_disk::{DiskError, Fault};
+use disk_journal::JournalError;
 use guards::SchemaError;
 use heap_model::{Lane, StoreError};
 use host_heap::{AcknowledgedError, CloseRefusal, HostError, RoundError};
@@ -129,6 +132,10 @@ pub const OLD_VERSION: u32 = 40;
 // 41 to 43 are the host's own (bindings/statuses.csv).
 /// A lane's ring can't have room for as many records as C asks for.
 pub const RING: u32 = 44;
+
+// 45 to 47 are the host's own too.
+/// The stamps of the journal's batches have come to the end of their numbers.
+pub const WORN_JOURNAL: u32 = 48;
 
 /// The status of a session's refusal.
 pub fn of_session(refusal: SessionError) -> u32
@@ -270,5 +277,42 @@ pub fn of_close(refusal: CloseRefusal) -> u32
         CloseRefusal::Close(CloseError::Failed) => FAILED,
         CloseRefusal::Close(CloseError::Worn) => WORN,
         CloseRefusal::Close(CloseError::Fault) => FAULT,
+    }
+}
+
+/// The status of a journal that isn't made or opened.
+pub fn of_journal(refusal: JournalError) -> u32
+    // Each reason of a journal has one number, by a table.
+    ensures { result ≡ journal_status refusal }
+{
+    match refusal {
+        JournalError::NoJournal => NOT_FORMATTED,
+        JournalError::TooSmall => TOO_SMALL,
+        JournalError::Worn => WORN_JOURNAL,
+        JournalError::Fault => FAULT,
+        JournalError::NoMemory => NO_MEMORY,
+    }
+}
+
+/// The status of a journal's read or write.
+pub fn of_call(answer: Result<(), DiskError>) -> u32
+    // Each reason of a journal has one number, by a table.
+    ensures { result ≡ call_status answer }
+{
+    match answer {
+        Ok(()) => OK,
+        Err(DiskError::OutOfRange) => TOO_SMALL,
+        Err(DiskError::Fault) => FAULT,
+    }
+}
+
+/// The status of a journal's order or sync.
+pub fn of_turn(answer: Result<(), Fault>) -> u32
+    // Each reason of a journal has one number, by a table.
+    ensures { result ≡ turn_status answer }
+{
+    match answer {
+        Ok(()) => OK,
+        Err(Fault) => FAULT,
     }
 }

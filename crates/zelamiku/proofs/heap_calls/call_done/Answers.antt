@@ -18,3 +18,14 @@ returns-in-Closed c =
       first_made x.calls.left x.calls host c.done-in-Closed.result c.of_done-in-Closed.result c.done-in-Closed.ensures.none c.done-in-Closed.ensures.one c.of_done-in-Closed.ensures,
       refl,
     )
+
+pub returns-in-Journal : goal.returns-in-Journal
+returns-in-Journal c =
+    let x = c.in-Journal.journal in
+    let y = c.done-in-Journal.new.self in
+    rw c.in-Journal.is (
+      y,
+      c.done-in-Journal.ensures.same,
+      first_made x.calls.left x.calls y.calls c.done-in-Journal.result c.of_done-in-Journal.result c.done-in-Journal.ensures.none c.done-in-Journal.ensures.one c.of_done-in-Journal.ensures,
+      refl,
+    )

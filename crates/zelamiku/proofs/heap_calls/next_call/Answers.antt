@@ -27,3 +27,15 @@ returns-in-Closed-clause-told c =
       record { told = c.tell-in-Closed.ensures.call ∙ ap told_of first; small = subst (λ (call : Call). call.size ≤ MOST_BYTES) (sym c.tell-in-Closed.ensures.call) (small_told c.next_call-in-Closed.result c.next_call-in-Closed.ensures.small); bytes = c.tell-in-Closed.ensures.bytes ∙ ap (λ call. filled_of call c.args.bytes.now) first; ok = refl },
       refl,
     )
+
+pub returns-in-Journal-clause-told : goal.returns-in-Journal-clause-told
+returns-in-Journal-clause-told c =
+    let y = c.fetch-in-Journal.new.self in
+    let first = first_told c.next_call-in-Journal.result y.calls.left c.next_call-in-Journal.ensures.first in
+    rw c.in-Journal.is (
+      y,
+      c.fetch-in-Journal.ensures.same,
+      c.fetch-in-Journal.ensures.fetches,
+      record { told = c.tell-in-Journal.ensures.call ∙ ap told_of first; small = subst (λ (call : Call). call.size ≤ MOST_BYTES) (sym c.tell-in-Journal.ensures.call) (small_told c.next_call-in-Journal.result c.next_call-in-Journal.ensures.small); bytes = c.tell-in-Journal.ensures.bytes ∙ ap (λ call. filled_of call c.args.bytes.now) first; ok = refl },
+      refl,
+    )
