@@ -24,7 +24,7 @@ export CARGO_TARGET_DIR ?= $(OUT)/target
 
 # Each test of C with the flags by which the gate tries it.
 TESTS := altered.plain file.plain pool.plain refused_calls.plain stale.plain threads.plain wrong_calls.asan \
-    revert.asan revert.tsan event.asan event.tsan places.asan places.tsan device.asan device.tsan
+    revert.asan revert.tsan event.asan event.tsan places.asan places.tsan device.asan device.tsan journal.asan
 THREADED := threads.tsan revert.tsan event.tsan places.tsan device.tsan
 FLAGS.plain := -O2
 FLAGS.asan := -O2 -g -fsanitize=address,undefined

@@ -14,7 +14,7 @@
  *     if (zelamiku_heap_close(heap) != ZELAMIKU_OK) ...
  *
  * Threads use the heap as they use mutexes and condition variables. The helper, a thread of the library, makes their sections durable, in rounds
- * of two syncs each. Link with -lzelamiku and -pthread. docs/EMBEDDING.md is the manual.
+ * of two syncs each, or of one on devices that keep sectors whole. Link with -lzelamiku and -pthread. docs/EMBEDDING.md is the manual.
  *
  * Statuses. Every call with a handle returns a status, whatever its arguments. The comment above a call names each status that it can return,
  * except for these, which hold for all calls:
@@ -253,7 +253,14 @@ typedef struct {
     zelamiku_log *log;             /* or NULL */
     void *log_context;             /* handed to it; valid as long as the hook may be called */
     const zelamiku_device *device; /* the heap is on this device, and the path is its name in messages; NULL: in the file at the path */
+    uint32_t atomic_sectors;       /* 1: a heap that is made gets a journal, and rounds take one sync: see "one sync a round". 0: two */
+    uint32_t reserved;             /* 0 */
 } zelamiku_plan;
+
+/* One sync a round. A plan with `atomic_sectors` is for a device that keeps each sector of 512 bytes whole: after a crash the sector has what it had
+ * at the last sync, or what was written to it since. NVMe with power-loss protection and Ceph RBD do (docs/FORMAT.md, "What the device keeps");
+ * disks by ATA or SCSI and parity RAID don't, and there such a heap may lose what was durable. It takes 1.1 MB more on the device and three times
+ * the memory, and an opening finds the journal by itself: a heap that exists keeps what it has, whatever the plan says. */
 
 /* How the file's heap differs from the plan. */
 enum {
@@ -330,7 +337,7 @@ typedef struct {
  *                   zeros over them first
  *   DAMAGED_FILE    something else has written the heap's file, it was cut, or its disk has lost what it had synced: the report says which part
  *                   is damaged, and which record
- *   WORN            the control's sequence has reached its limit, 2^64 - 1: move the values to a new heap
+ *   WORN            the control's sequence has reached its limit, 2^64 - 1, or its journal's numbers have: move the values to a new heap
  *   TOO_SMALL       a device, or a block device, has fewer bytes than the heap takes
  *   DEVICE          the file can't be opened, made, locked, read or written, or its folder can't be synced: the failure has the system's error
  *   NONE_LEFT       255 heaps are open
@@ -420,7 +427,9 @@ typedef struct {
     uint64_t calls_time;    /* spent in the calls of all rounds */
     uint64_t longest_round; /* from its first record to its last call */
     uint64_t two_sync_rounds;  /* rounds with two syncs, all their calls made */
-    uint64_t four_sync_rounds; /* with four: the heap has no lane for the helper, or that lane has no room for what the round changed */
+    uint64_t four_sync_rounds; /* with four: the heap has no lane for the helper, or that lane has no room for what the round changed; or
+                                * it has a journal, and that has no room for it */
+    uint64_t one_sync_rounds;  /* with one: the heap has a journal */
 } zelamiku_stats;
 
 /* Fills in the counts. Returns OK, also after the heap has ended. */
@@ -605,10 +614,10 @@ ZELAMIKU_HAS_SIZE(zelamiku_heap, 8);
 ZELAMIKU_HAS_SIZE(zelamiku_thread, 8);
 ZELAMIKU_HAS_SIZE(zelamiku_failure, 56);
 ZELAMIKU_HAS_SIZE(zelamiku_device, 48);
-ZELAMIKU_HAS_SIZE(zelamiku_plan, 80);
+ZELAMIKU_HAS_SIZE(zelamiku_plan, 88);
 ZELAMIKU_HAS_SIZE(zelamiku_report, 352);
 ZELAMIKU_HAS_SIZE(zelamiku_dropped, 32);
-ZELAMIKU_HAS_SIZE(zelamiku_stats, 104);
+ZELAMIKU_HAS_SIZE(zelamiku_stats, 112);
 ZELAMIKU_HAS_SIZE(zelamiku_wait, 16);
 ZELAMIKU_HAS_SIZE(zelamiku_sight, 16);
 ZELAMIKU_HAS_SIZE(zelamiku_progress, 40);

@@ -74,6 +74,7 @@ extern "C" {
 #define ZELAMIKU_ILLEGAL_LOG ((zelamiku_status)31) /* no threads can have left the image's log */
 #define ZELAMIKU_STOPPED ((zelamiku_status)35)     /* the heap has stopped because the host reported a failed sync */
 #define ZELAMIKU_RING ((zelamiku_status)44)        /* a lane's ring would hold fewer than 4,096 records, or more than 65,536 */
+#define ZELAMIKU_WORN_JOURNAL ((zelamiku_status)48) /* the stamps of the journal's batches have come to the end of their numbers */
 
 /* A handle of the proved library: of a heap, or of a session. One of static storage begins as ZELAMIKU_NONE by itself. */
 typedef struct {
@@ -211,6 +212,10 @@ ZELAMIKU_MUST_USE zelamiku_status zelamiku_call_done(zelamiku_handle *heap);
  * NONE_LEFT: no call was returned. */
 ZELAMIKU_MUST_USE zelamiku_status zelamiku_call_failed(zelamiku_handle *heap);
 
+/* How many groups of calls the heap has handed over that zelamiku_next_call hasn't taken yet, also one that was closed. A group is the calls up to a
+ * sync. After a refusal `count` is 0. */
+ZELAMIKU_MUST_USE zelamiku_status zelamiku_waiting(zelamiku_handle *heap, uint32_t *count);
+
 #define ZELAMIKU_ALL UINT64_MAX /* no bound on a round */
 
 /* Takes what the sessions have done, at most `most` records of it, and writes it to the log. Acknowledges each section that has ended and
@@ -259,6 +264,35 @@ ZELAMIKU_MUST_USE zelamiku_status zelamiku_close(zelamiku_handle *heap);
  * returns the lane that holds an object. If that lane's thread is gone, free the handles and open the heap again. The section that was cut off
  * is dropped then, with those that depend on it. A thread that may be killed, or exit in a section, costs its heap an opening. */
 void zelamiku_free(zelamiku_handle *handle);
+
+/* ---- a journal, for a device that keeps each sector of 512 bytes whole ----
+ *
+ * It lies between a heap and the device: the heap's writes and syncs go to the journal, which works in memory, and the host makes the journal's own
+ * calls on the device. zelamiku_next_call, zelamiku_call_done and zelamiku_free take a journal's handle too; zelamiku_call_failed doesn't. Each call
+ * of a journal also returns NOTHING and WRONG_KIND. docs/FORMAT.md, "A journal in two halves", says what the device holds then. */
+
+/* Opens the journal of a device that begins with these bytes: all that its label counts, durably. `image_size` gets the bytes of its image.
+ * OPEN; NOT_FORMATTED: there is no label. TOO_SMALL: the label counts more bytes. WORN_JOURNAL, NO_MEMORY, FAULT (want of memory too). The handle is
+ * as it was, and `image_size` is 0. */
+ZELAMIKU_MUST_USE zelamiku_status zelamiku_journal_open(zelamiku_handle *journal, const uint8_t *bytes, size_t size, uint64_t *image_size);
+
+/* Makes a journal with halves of so many pages of 4,096 bytes, and an image of so many, which are zeros. OPEN, NO_MEMORY, FAULT (want of memory too);
+ * TOO_SMALL: a half has no page. The handle is as it was. */
+ZELAMIKU_MUST_USE zelamiku_status zelamiku_journal_create(zelamiku_handle *journal, uint32_t half, uint32_t image);
+
+/* Reads bytes of the image, as they were at the last order or sync. TOO_SMALL: they don't all lie in it; `bytes` is as it was. */
+ZELAMIKU_MUST_USE zelamiku_status zelamiku_journal_read(zelamiku_handle *journal, uint64_t at, uint8_t *bytes, size_t size);
+
+/* Writes bytes of the image. TOO_SMALL: they don't all lie in it. FAULT: there is no memory for them. Nothing was written then. */
+ZELAMIKU_MUST_USE zelamiku_status zelamiku_journal_write(zelamiku_handle *journal, uint64_t at, const uint8_t *bytes, size_t size);
+
+/* A sync of the heap's behind which more of its calls wait: nothing that is written later becomes durable before what was written until now. Calls
+ * are handed over only if a batch has no room for it all. FAULT: there is no memory; or there was none in an earlier sync, which can't succeed now. */
+ZELAMIKU_MUST_USE zelamiku_status zelamiku_journal_order(zelamiku_handle *journal);
+
+/* A sync of the heap's: hands over the calls that make all that was written durable, with one sync if it fits into a batch. None, if nothing was
+ * written since the last one. FAULT, as an order. */
+ZELAMIKU_MUST_USE zelamiku_status zelamiku_journal_sync(zelamiku_handle *journal);
 
 /* ---- a session: one thread's use of the heap ---- */
 

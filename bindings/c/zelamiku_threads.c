@@ -21,6 +21,7 @@
 #include "src/slice.c"
 #include "src/file.c"
 #include "src/device.c"
+#include "src/journal.c"
 #include "src/round.c"
 #include "src/handle.c"
 #include "src/beside.c"

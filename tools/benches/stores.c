@@ -59,13 +59,20 @@ static zelamiku_heap heap;
 
 static void z(zelamiku_status status, const char *what) { ask(status == ZELAMIKU_OK, what, zelamiku_status_text(status)); }
 
+static uint32_t atomic_sectors; /* of the plan */
+
 static void z_open(void) {
     zelamiku_field *fields = calloc(count, sizeof *fields);
     must(fields != NULL, "fields");
     for (uint32_t i = 0; i < count; i++) fields[i] = (zelamiku_field){.owner = i, .guard = i};
-    zelamiku_plan plan = {.size = sizeof(zelamiku_plan), .fields = fields, .count = count, .objects = count, .lanes = threads};
+    zelamiku_plan plan = {.size = sizeof(zelamiku_plan), .fields = fields, .count = count, .objects = count, .lanes = threads, .atomic_sectors = atomic_sectors};
     z(zelamiku_heap_open(&heap, path, &plan, NULL), "open");
     free(fields);
+}
+
+static void j_open(void) {
+    atomic_sectors = 1;
+    z_open();
 }
 
 static void *z_begin(void) {
@@ -329,6 +336,7 @@ static const struct engine {
     void (*close)(void);
 } engines[] = {
     {"zelamiku", z_open, z_begin, z_count, z_end, z_close},
+    {"journal", j_open, z_begin, z_count, z_end, z_close},
 #ifdef WITH_SQLITE
     {"sqlite", q_open, q_begin, q_count, q_end, no_close},
 #endif

@@ -45,23 +45,16 @@ static bool has_its_file(const heap *heap) {
 
 /* ---- the proved library's calls ---- */
 
-/* Makes one call. Reports a sync that is LOST to the library, which then stops the heap; the library returns any other failed call again. */
+/* Makes one call, and tells the library, which returns one that has failed again. */
 static zelamiku_status make_call(zelamiku_handle *handle, const zelamiku_device *on, const zelamiku_call *call, const uint8_t *bytes) {
     bool is_sync = call->kind == ZELAMIKU_SYNC;
     assert(is_sync || (call->size > 0 && call->size <= ZELAMIKU_MOST_BYTES));
-    zelamiku_status status = is_sync ? sync_device(on) : write_device(on, call->at, bytes, (size_t)call->size);
+    zelamiku_status status = is_sync ? sync_or_order(handle, on) : write_device(on, call->at, bytes, (size_t)call->size);
     if (status == ZELAMIKU_OK) return zelamiku_call_done(handle);
-    int error = errno;
-    if (is_sync && status == ZELAMIKU_LOST) {
-        zelamiku_status stopped = zelamiku_call_failed(handle);
-        assert(stopped == ZELAMIKU_STOPPED);
-        (void)stopped;
-    }
-    errno = error;
     return status;
 }
 
-/* Makes the pending calls, in order, and counts them and the syncs. DEVICE: the failed call is the first one next time. */
+/* Makes the pending calls of a heap or a journal, in order, and counts them and the syncs. DEVICE: the failed call is the first one next time. */
 static zelamiku_status make_calls_on(zelamiku_handle *handle, const zelamiku_device *on, uint64_t *made, uint64_t *syncs) {
     uint8_t bytes[ZELAMIKU_MOST_BYTES] = {0};
     zelamiku_call call = {ZELAMIKU_NO_CALL, 0, 0};

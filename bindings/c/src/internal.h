@@ -44,6 +44,10 @@
 #ifndef ZELAMIKU_GROUP
 #define ZELAMIKU_GROUP 256
 #endif
+/* Pages of a half of a journal that is made; tests make it small. */
+#ifndef ZELAMIKU_HALF
+#define ZELAMIKU_HALF 133
+#endif
 enum {
     BUCKETS = 64,             /* of the counts of threads that wait for monitors */
     TRIES = 40,               /* before a thread sleeps for a monitor */
@@ -177,6 +181,14 @@ typedef struct {
     uint64_t passed;                     /* own: the last section that has stored to a transient field, if no old values are saved */
 } seat;
 
+/* What lies between a heap and a device that keeps sectors whole (src/journal.c). It belongs to the leader. */
+typedef struct {
+    zelamiku_handle handle; /* open in a heap that has one */
+    zelamiku_device below;  /* the device */
+    uint64_t size;          /* of the image's place, in bytes */
+    uint64_t calls, syncs;  /* made on the device since they were last counted */
+} journal;
+
 struct heap {
     _Atomic uint64_t number; /* the handle, also after the heap has ended; 0: never used, or being opened */
     _Atomic uint32_t underway; /* calls in progress: while there are any the place isn't reused */
@@ -194,7 +206,8 @@ struct heap {
     uint32_t lanes, objects, fields, processors;
     bool reverts;            /* each lane saves the values that its section changes */
     bool *transient;         /* which fields are; NULL: none is */
-    zelamiku_device device;
+    zelamiku_device device;  /* on which the heap's calls are made: the journal, if it has one */
+    journal journal;
     zelamiku_log *log;
     void *log_context;
     zelamiku_dropped_section *dropped;
@@ -305,6 +318,9 @@ static inline bool is_open(const seat *own, zelamiku_thread thread) {
 
 /* What a call's number names: of a pool, its head. */
 typedef enum { OF_OBJECT, OF_FIELD, OF_POOL } kind;
+
+/* In journal.c. */
+static zelamiku_status sync_or_order(zelamiku_handle *handle, const zelamiku_device *on);
 
 /* In event.c. */
 static uint32_t sections_of_loops(heap *heap);

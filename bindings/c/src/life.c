@@ -67,7 +67,7 @@ static void clear_place(heap *heap, const zelamiku_plan *plan) {
     heap->log = plan->log;
     heap->log_context = plan->log_context;
     heap->reverts = plan->reverts != 0;
-    assert(heap->transient == NULL);
+    assert(heap->transient == NULL && !is_journaled(heap));
     heap->last_calls = heap->affordable = heap->syncs_made = heap->syncs_before = heap->turns = 0;
     heap->urgent = heap->waiting_to_lead = heap->sessions_out = heap->sleepers = heap->loops = heap->expected_sections = 0;
     heap->is_led = heap->leader_waits = heap->is_ending = heap->is_troubled = heap->is_being_ended = heap->has_ended = false;
@@ -124,7 +124,7 @@ static zelamiku_status occupy(heap *heap, zelamiku_handle *handle, zelamiku_heap
     }
     if (status == ZELAMIKU_OK) {
         mark_atomics(heap);
-        heap->syncs_made = 0; /* those of the opening aren't counted, nor are its calls */
+        heap->syncs_made = heap->journal.calls = heap->journal.syncs = 0; /* those of the opening aren't counted */
         heap->handle = *handle;
         memset(handle, 0, sizeof *handle);
         begun->number = new_number((size_t)(heap - heaps) << 8 | 1);
@@ -164,6 +164,7 @@ static bool is_inside(const seat *own) {
  * and the last one frees the place. */
 static void release(heap *heap) {
     zelamiku_free(&heap->handle);
+    zelamiku_free(&heap->journal.handle);
     close_file(heap);
     lock(&heap->mutex);
     assert(heap->end_status != 0 && heap->is_settled && !heap->is_led && heap->sessions_out == 0);

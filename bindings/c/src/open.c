@@ -73,6 +73,7 @@ static zelamiku_status check_plan(opening *opening) {
     if (status == ZELAMIKU_OK) status = limit(opening, "lanes", opening->threads, 1, ZELAMIKU_MOST_LANES);
     if (status == ZELAMIKU_OK) status = limit(opening, "ring", opening->ring, ZELAMIKU_LEAST_RING, ZELAMIKU_MOST_RING);
     if (status == ZELAMIKU_OK) status = limit(opening, "capacity", opening->capacity, ZELAMIKU_LEAST_CAPACITY, ZELAMIKU_MOST_CAPACITY);
+    if (status == ZELAMIKU_OK) status = limit(opening, "reserved", plan->reserved, 0, 0);
     for (uint32_t i = 0; status == ZELAMIKU_OK && i < plan->count; i++) {
         const zelamiku_field *field = &plan->fields[i];
         char name[48];
@@ -255,6 +256,18 @@ static zelamiku_status look_for_zeros(opening *opening, uint64_t from, uint64_t 
     return ZELAMIKU_OK;
 }
 
+/* Whether the device has zeros alone up to `size`, or those and what a journal's making has left that was cut off before its label. */
+static zelamiku_status look_for_first_batch(opening *opening, uint64_t size, bool *is_left) {
+    uint8_t page[JOURNAL_PAGE];
+    *is_left = false;
+    if (size < 2 * JOURNAL_PAGE) return ZELAMIKU_OK;
+    if (read_device(&opening->heap->device, JOURNAL_PAGE, page, sizeof page) != ZELAMIKU_OK) return no_device(opening, "it can't be read");
+    zelamiku_status status = look_for_zeros(opening, 0, JOURNAL_PAGE, is_left);
+    if (status == ZELAMIKU_OK && *is_left) status = look_for_zeros(opening, 2 * JOURNAL_PAGE, size, is_left);
+    *is_left &= has_first_batch(page);
+    return status;
+}
+
 /* A device that stands for a making: it compares each write with another device's bytes, and stores nothing. */
 typedef struct {
     const zelamiku_device *with;
@@ -305,22 +318,30 @@ static zelamiku_status must_be_free(opening *opening, uint64_t size) {
     return refuse(opening, ZELAMIKU_NOT_FORMATTED, 0);
 }
 
-/* Writes so many zeros, durably, so space is allocated before anything is stored there. */
-static zelamiku_status write_zeros(const zelamiku_device *to, uint64_t size) {
+/* Writes zeros from there on up to `end`, durably, so space is allocated before anything is stored there. */
+static zelamiku_status write_zeros(const zelamiku_device *to, uint64_t from, uint64_t end) {
     static const uint8_t zeros[1 << 16];
     zelamiku_status status = ZELAMIKU_OK;
-    for (uint64_t at = 0, count; status == ZELAMIKU_OK && at < size; at += count) {
-        count = size - at < sizeof zeros ? size - at : sizeof zeros;
+    for (uint64_t at = from, count; status == ZELAMIKU_OK && at < end; at += count) {
+        count = end - at < sizeof zeros ? end - at : sizeof zeros;
         status = write_device(to, at, zeros, (size_t)count);
     }
     return status == ZELAMIKU_OK ? sync_device(to) : status;
 }
 
-/* Makes the handle's heap on a device of zeros, by all of its first calls. */
+/* Whether the heap is to be made with a journal. One that is there already stays. */
+static bool wants_journal(const opening *opening, const zelamiku_device *to) {
+    return opening->plan.atomic_sectors != 0 && to->sync != sync_journal;
+}
+
+/* Makes the handle's heap on the device, by all of its first calls, on zeros. From now on it is the heap's device, or its journal is. */
 static zelamiku_status make_on(opening *opening, const zelamiku_device *to, uint64_t size) {
+    heap *heap = opening->heap;
     uint64_t calls = 0;
-    zelamiku_status status = write_zeros(to, size);
-    if (status == ZELAMIKU_OK) status = make_calls_on(&opening->handle, to, &calls, &opening->heap->syncs_made);
+    bool is_new = wants_journal(opening, to);
+    zelamiku_status status = is_new ? make_journal(heap, to, size) : write_zeros(to, 0, size);
+    if (status == ZELAMIKU_OK && !is_new) heap->device = *to;
+    if (status == ZELAMIKU_OK) status = make_calls_on(&opening->handle, &heap->device, &calls, &heap->syncs_made);
     if (status == ZELAMIKU_DEVICE || status == ZELAMIKU_LOST) return no_device(opening, "a heap can't be made in it");
     return status == ZELAMIKU_OK ? status : refuse_heap(opening, status);
 }
@@ -343,6 +364,7 @@ static zelamiku_status make_file(opening *opening, draft *draft, uint64_t size) 
     if (status == ZELAMIKU_DEVICE) return no_device(opening, cause);
     if (status != ZELAMIKU_OK) return fail(opening->path, status, 0, cause, "open it again", "open");
     keep_rights(draft);
+    zelamiku_free(&opening->heap->journal.handle); /* of a free file, if it has one */
     zelamiku_device file = device_of_file(draft->file);
     status = make_on(opening, &file, size);
     if (status != ZELAMIKU_OK) return status;
@@ -355,8 +377,7 @@ static zelamiku_status make_file(opening *opening, draft *draft, uint64_t size) 
 /* The draft's file, claimed already, becomes the heap's file. */
 static void adopt(heap *heap, draft *draft) {
     lock(&registry);
-    heap->file = draft->file;
-    heap->device = device_of_file(heap->file);
+    heap->file = draft->file; /* its device has this descriptor */
     draft->file = -1;
     unlock(&registry);
 }
@@ -409,22 +430,39 @@ static zelamiku_status make_at_path(opening *opening) {
     return status;
 }
 
+/* A device of `has` bytes is too small. If it is a journal, a making has left that which was cut off, for a smaller heap. */
+static zelamiku_status too_small(opening *opening, uint64_t has, uint64_t takes) {
+    (void)snprintf(opening->cause, sizeof opening->cause, "the device has %llu bytes, and the heap takes %llu", (unsigned long long)has,
+                   (unsigned long long)takes);
+    if (is_journaled(opening->heap)) (void)snprintf(opening->cure, sizeof opening->cure, "write zeros over all of the device: it holds no heap");
+    return refuse(opening, ZELAMIKU_TOO_SMALL, 0);
+}
+
+/* Another heap's making was cut off on the device: writes zeros over what it has left, before a journal is made. The first bytes tell what it is, so
+ * they go last: whenever this is cut off, the next opening knows what is left. */
+static zelamiku_status clear_for_journal(opening *opening, uint64_t takes) {
+    const zelamiku_device *on = &opening->heap->device;
+    zelamiku_status status = write_zeros(on, JOURNAL_PAGE, takes);
+    if (status == ZELAMIKU_OK) status = write_zeros(on, 0, JOURNAL_PAGE);
+    return status == ZELAMIKU_OK ? status : no_device(opening, "a heap can't be made in it");
+}
+
 /* A device of `has` bytes has no heap: makes one in place, if those bytes are free. */
 static zelamiku_status make_in_place(opening *opening, uint64_t has) {
     uint64_t size = 0;
-    bool is_left = false;
+    bool is_left = false, is_new = wants_journal(opening, &opening->heap->device);
     zelamiku_status status = format(opening, &size);
-    if (status == ZELAMIKU_OK && has >= size) status = compare_with_making(opening, size, &is_left);
-    if (status == ZELAMIKU_OK && !is_left) status = must_be_free(opening, has < size ? has : size);
+    uint64_t takes = is_new ? bytes_of_journal(HALF_PAGES, pages_of(size)) : size;
+    if (status == ZELAMIKU_OK && has >= takes) status = look_for_first_batch(opening, takes, &is_left);
+    bool is_clear = is_left;
+    if (status == ZELAMIKU_OK && !is_left && has >= takes) status = compare_with_making(opening, takes, &is_left);
+    if (status == ZELAMIKU_OK && !is_left) status = must_be_free(opening, has < takes ? has : takes);
     if (status == ZELAMIKU_OK) status = may_make(opening, 0);
     if (status != ZELAMIKU_OK) return status;
-    if (has < size) {
-        (void)snprintf(opening->cause, sizeof opening->cause, "the device has %llu bytes, and the heap takes %llu", (unsigned long long)has,
-                       (unsigned long long)size);
-        return refuse(opening, ZELAMIKU_TOO_SMALL, 0);
-    }
+    if (has < takes) return too_small(opening, has, takes);
     zelamiku_free(&opening->handle); /* its first calls were compared */
     status = format(opening, &size);
+    if (status == ZELAMIKU_OK && is_new && !is_clear) status = clear_for_journal(opening, takes);
     if (status == ZELAMIKU_OK) status = make_on(opening, &opening->heap->device, size);
     if (status == ZELAMIKU_OK) report_made(opening, size);
     return status;
@@ -488,6 +526,42 @@ static bool keep_name(const opening *opening) {
     return find_real_path(opening->path, real) && sync_name(real, opening->heap->file);
 }
 
+/* The device's journal can't be opened: nothing was written. */
+static zelamiku_status refuse_journal(opening *opening, zelamiku_status status) {
+    const char *cause = status == ZELAMIKU_WORN_JOURNAL ? "the numbers of its journal's batches have come to their end"
+                                                        : "its journal's label is damaged, or the bytes are fewer than it says";
+    if (status == ZELAMIKU_NO_MEMORY || status == ZELAMIKU_FAULT) return refuse(opening, ZELAMIKU_NO_MEMORY, 0);
+    (void)snprintf(opening->cause, sizeof opening->cause, "%s", cause);
+    if (status == ZELAMIKU_WORN_JOURNAL) return refuse(opening, ZELAMIKU_WORN, 0);
+    opening->report.damage = ZELAMIKU_DAMAGED_LENGTH;
+    return refuse(opening, ZELAMIKU_DAMAGED_FILE, 0);
+}
+
+/* If the device of `size` bytes begins with a journal's label, the journal takes the device's place, and its image has `size` bytes. Nothing is
+ * written before the heap's first sync: until then the opening may be refused. */
+static zelamiku_status find_journal(opening *opening, uint64_t *size) {
+    heap *heap = opening->heap;
+    uint8_t begun[LABEL_BYTES];
+    uint64_t takes = 0, image = 0;
+    if (*size < sizeof begun) return ZELAMIKU_OK;
+    if (read_device(&heap->device, 0, begun, sizeof begun) != ZELAMIKU_OK) return no_device(opening, "it can't be read");
+    if (!is_label(begun, &takes)) return ZELAMIKU_OK;
+    if (*size < takes) return refuse_journal(opening, ZELAMIKU_TOO_SMALL);
+    uint8_t *bytes = (uint8_t *)malloc((size_t)takes);
+    if (bytes == NULL) return refuse(opening, ZELAMIKU_NO_MEMORY, 0);
+    bool is_read = read_device(&heap->device, 0, bytes, (size_t)takes) == ZELAMIKU_OK;
+    int error = errno;
+    zelamiku_status status = is_read ? zelamiku_journal_open(&heap->journal.handle, bytes, (size_t)takes, &image) : ZELAMIKU_OK;
+    free(bytes);
+    errno = error;
+    if (!is_read) return no_device(opening, "it can't be read");
+    if (status != ZELAMIKU_OK) return refuse_journal(opening, status);
+    zelamiku_device below = heap->device;
+    put_journal(heap, &below, image);
+    *size = image;
+    return ZELAMIKU_OK;
+}
+
 /* The heap of the device, which nobody else writes: recovered, or made. Its first calls are made here. */
 static zelamiku_status recover_or_make(opening *opening) {
     const zelamiku_device *on = &opening->heap->device;
@@ -496,7 +570,8 @@ static zelamiku_status recover_or_make(opening *opening) {
     /* What an earlier process wrote may be in a cache alone: sync it first, then read it from the device. */
     if (sync_device(on) != ZELAMIKU_OK || tell_size(on, &size) != ZELAMIKU_OK) return no_device(opening, "it can't be synced");
     if (opening->heap->file >= 0) (void)posix_fadvise(opening->heap->file, 0, 0, POSIX_FADV_DONTNEED);
-    zelamiku_status status = open_image(opening, size);
+    zelamiku_status status = find_journal(opening, &size);
+    if (status == ZELAMIKU_OK) status = open_image(opening, size);
     if (status == ZELAMIKU_NOT_FORMATTED) {
         if (!is_file) return make_in_place(opening, size);
         status = must_be_free(opening, size);
@@ -570,6 +645,7 @@ static zelamiku_status start_heap(opening *opening, zelamiku_heap *opened) {
 static void drop_heap(opening *opening) {
     heap *heap = opening->heap;
     zelamiku_free(&opening->handle);
+    zelamiku_free(&heap->journal.handle);
     close_file(heap);
     free(heap->dropped);
     heap->dropped = NULL;
@@ -580,8 +656,9 @@ static void log_opening(const opening *opening) {
     const heap *heap = opening->heap;
     const zelamiku_report *report = &opening->report;
     const char *how = report->is_made != 0 ? "made" : report->is_upgraded != 0 ? "upgraded and recovered" : "recovered";
-    tell_log(heap, ZELAMIKU_LOG_INFO, "%s: %llu bytes, %u lanes; %llu sections were dropped", how, (unsigned long long)heap->size, heap->lanes,
-             (unsigned long long)report->dropped);
+    tell_log(heap, ZELAMIKU_LOG_INFO, "%s: %llu bytes, %u lanes; %llu sections were dropped%s", how, (unsigned long long)heap->size, heap->lanes,
+             (unsigned long long)report->dropped, is_journaled(heap) ? "; a round takes one sync" : "");
+    if (is_journaled(heap)) return;
     if (opening->lanes == heap->lanes)
         tell_log(heap, ZELAMIKU_LOG_WARNING, "no lane is the helper's, so a round takes four syncs in place of two; %s",
                  opening->lanes < ZELAMIKU_MOST_LANES ? "heapctl dump, then heapctl format with one lane more" : "open it for 31 threads at most");

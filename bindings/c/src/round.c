@@ -1,6 +1,6 @@
 /* Rounds: how threads' sections become durable. One thread at a time leads (`is_led`, under the heap's mutex). The leader takes records from the
  * lanes' rings into the proved library, and makes the device's calls that the library requests. These include two syncs if the heap has a lane
- * for the helper, else four. The leader holds no lock meanwhile.
+ * for the helper, else four; with a journal, one. The leader holds no lock meanwhile.
  *
  *  1. Who leads. The first thread to wait leads, on behalf of all that join meanwhile. Starting the round then needs no wake-up. A thread with a
  *     deadline leaves the round to the helper, and so does each thread after a failed write. So does one that waits for many sections at once
@@ -130,10 +130,20 @@ static zelamiku_status take(heap *heap, uint64_t most, uint64_t *records, uint64
     return status;
 }
 
+/* Makes the pending calls, and counts those on the device. Reports a call that is LOST to the library, which stops the heap if it was a sync. */
 static zelamiku_status make_calls(heap *heap, uint64_t *calls) {
-    uint64_t made = 0;
-    zelamiku_status status = make_calls_on(&heap->handle, &heap->device, &made, &heap->syncs_made);
+    uint64_t made = 0, syncs = 0;
+    zelamiku_status status = make_calls_on(&heap->handle, &heap->device, &made, &syncs);
+    int error = errno;
+    if (is_journaled(heap)) take_counts(&heap->journal, &made, &syncs);
     *calls += made;
+    heap->syncs_made += syncs;
+    if (status == ZELAMIKU_LOST) {
+        zelamiku_status told = zelamiku_call_failed(&heap->handle);
+        assert(told == ZELAMIKU_STOPPED || told == ZELAMIKU_OK);
+        (void)told;
+    }
+    errno = error;
     return status;
 }
 
@@ -143,6 +153,7 @@ static zelamiku_status make_rounds_calls(heap *heap, zelamiku_stats *count) {
     if (status != ZELAMIKU_OK) return status;
     uint64_t syncs = heap->syncs_made - heap->syncs_before;
     heap->syncs_before = heap->syncs_made;
+    count->one_sync_rounds += syncs == 1;
     count->two_sync_rounds += syncs == 2;
     count->four_sync_rounds += syncs == 4;
     return status;
@@ -202,6 +213,7 @@ static void add_up(zelamiku_stats *all, const zelamiku_stats *round) {
     all->records += round->records;
     all->calls += round->calls;
     all->calls_time += round->calls_time;
+    all->one_sync_rounds += round->one_sync_rounds;
     all->two_sync_rounds += round->two_sync_rounds;
     all->four_sync_rounds += round->four_sync_rounds;
     all->last_cause = round->last_cause;
