@@ -471,6 +471,18 @@ public class Tests {
         }
     }
 
+    /** Also where a later opening doesn't ask for it. */
+    static void a_heap_that_is_made_on_atomic_sectors_takes_one_sync_a_round(Path path) {
+        for (boolean asked : List.of(true, false)) {
+            Bank bank = new Bank();
+            try (Heap heap = Heap.open(path, bank, new Options().atomicSectors(asked).linger(Duration.ofSeconds(3600)))) {
+                heap.synchronizedOn(List.of(bank.alice), () -> bank.alice.balance.set(5));
+                heap.durable();
+                equal(List.of(1L, 1L, 0L), List.of(heap.stats().rounds(), heap.stats().oneSyncRounds(), heap.stats().twoSyncRounds()));
+            }
+        }
+    }
+
     // ---- what the tests use ----
 
     interface Call {

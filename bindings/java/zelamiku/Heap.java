@@ -102,6 +102,7 @@ public final class Heap implements AutoCloseable {
         Library.PLAN.fill(plan, "objects", schema.monitors.size(), "fields", fields.address(), "count", count, "lanes", options.lanes,
             "capacity", options.capacity, "ring", options.ring, "linger", Math.max(1, options.linger.toNanos() / 1000),
             "upgrades", options.upgrades ? 1 : 0, "must_exist", options.mustExist ? 1 : 0, "reverts", options.reverts ? 1 : 0,
+            "atomic_sectors", options.atomicSectors ? 1 : 0,
             // (it takes the place of a field)
             "fingerprint", options.fingerprint.orElse(count < 16_384 ? schema.fingerprint() : 0));
         return plan;
@@ -423,8 +424,8 @@ public final class Heap implements AutoCloseable {
             var causes = Stats.Cause.values();
             return new Stats(row.get(counts, "rounds"), row.get(counts, "sections"), row.get(counts, "records"), row.get(counts, "calls"),
                 row.get(counts, "syncs"), row.get(counts, "troubles"), Duration.ofNanos(row.get(counts, "calls_time")),
-                Duration.ofNanos(row.get(counts, "longest_round")), row.get(counts, "two_sync_rounds"), row.get(counts, "four_sync_rounds"),
-                (int) row.get(counts, "lent"), (int) row.get(counts, "awaiting"), (int) row.get(counts, "entering"),
+                Duration.ofNanos(row.get(counts, "longest_round")), row.get(counts, "one_sync_rounds"), row.get(counts, "two_sync_rounds"),
+                row.get(counts, "four_sync_rounds"), (int) row.get(counts, "lent"), (int) row.get(counts, "awaiting"), (int) row.get(counts, "entering"),
                 causes[(int) Math.min(row.get(counts, "last_cause"), causes.length - 1)], row.get(counts, "is_astray") != 0);
         }
     }

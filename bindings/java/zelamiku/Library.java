@@ -41,12 +41,13 @@ final class Library {
     private static final MethodHandle FAILURE = handle("heap_failure", FunctionDescriptor.of(ADDRESS, ADDRESS));
 
     /** The members of the structs, in order: 4 bytes each, 8 with a {@code :}. */
-    static final Struct PLAN = new Struct("size objects fields: count lanes capacity ring linger upgrades must_exist reverts fingerprint: log: log_context: device:"),
+    static final Struct PLAN = new Struct("size objects fields: count lanes capacity ring linger upgrades must_exist reverts fingerprint: log: log_context: device: "
+            + "atomic_sectors reserved"),
         REPORT = new Struct("size is_made is_upgraded objects fields lanes capacity damage bad_lane difference field reserved has: planned: bad_place: bytes: "
             + "dropped: undone: kept:" + " more:".repeat(MOST_LANES - 1)),
         ONE_DROPPED = new Struct("size why lane other_lane section: other_section:"),
         COUNTS = new Struct("size lent awaiting entering last_cause is_astray rounds: sections: records: calls: syncs: troubles: calls_time: longest_round: "
-            + "two_sync_rounds: four_sync_rounds:"),
+            + "two_sync_rounds: four_sync_rounds: one_sync_rounds:"),
         ONE_WAIT = new Struct("lane object owner in_circle"), FIELD = new Struct("owner guard first: is_transient padding"),
         WHY = new Struct("size status error object field reserved path: call: cause: cure:"),
         HOW_FAR = new Struct("size lane is_open end sections: durable: earlier:");

@@ -7,7 +7,7 @@ import java.util.OptionalLong;
 public final class Options {
     int lanes = 8, capacity, ring = 16_384;
     Duration linger = Duration.ofMillis(5), laneTimeout = Duration.ofSeconds(30);
-    boolean mustExist, upgrades, reverts = true;
+    boolean mustExist, upgrades, reverts = true, atomicSectors;
     OptionalLong fingerprint = OptionalLong.empty();
     System.Logger log = System.getLogger("zelamiku");
 
@@ -17,7 +17,7 @@ public final class Options {
      */
     public Options() {}
 
-    /** How many threads are in sections at once, 1 to 32; with 31 or fewer a round takes two syncs. There may be more threads. */
+    /** How many threads are in sections at once, 1 to 32; with 31 or fewer a round takes two syncs, or one. There may be more threads. */
     public Options lanes(int count) { lanes = count; return this; }
 
     /** Records of a lane's ring in memory, 4,096 to 65,536, and of its log in a new file, 2,000 to 1,048,576; 0 is as the ring. */
@@ -37,6 +37,13 @@ public final class Options {
 
     /** Whether a section that fails is taken back. Otherwise it stops the heap, and a section has room for twice as many stores. */
     public Options reverts(boolean yes) { reverts = yes; return this; }
+
+    /**
+     * Whether a heap that is made gets a journal, and a round takes one sync. Only for storage that keeps each sector of 512 bytes whole when the
+     * power fails, as NVMe with power-loss protection and Ceph RBD do. Elsewhere such a heap may lose what was durable, and nothing notices. A heap
+     * that is there keeps what it has ({@link Stats#oneSyncRounds}).
+     */
+    public Options atomicSectors(boolean yes) { atomicSectors = yes; return this; }
 
     /** The number that a new heap keeps, and that each opening must have, in the place of one that is computed from the names; 0: none. */
     public Options fingerprint(long number) { fingerprint = OptionalLong.of(number); return this; }

@@ -13,8 +13,10 @@ import java.time.Duration;
  * @param troubles rounds with a failed write
  * @param callsTime the time in the calls of all rounds
  * @param longestRound from its first record to its last call
- * @param twoSyncRounds rounds with two syncs
- * @param fourSyncRounds rounds with four: the heap has no lane for the helper, or that lane has no room for what the round changed
+ * @param oneSyncRounds rounds with one sync: the heap has a journal ({@link Options#atomicSectors})
+ * @param twoSyncRounds rounds with two
+ * @param fourSyncRounds rounds with four: the heap has no lane for the helper, or that lane has no room for what the round changed; or the heap's
+ *     journal hasn't
  * @param lent lanes that the heap has handed out
  * @param awaiting threads that wait until their sections are durable, or until there is room
  * @param entering threads that sleep for a monitor
@@ -22,7 +24,8 @@ import java.time.Duration;
  * @param isAstray the path doesn't lead to the heap's file any more: it was removed or replaced
  */
 public record Stats(long rounds, long sections, long records, long calls, long syncs, long troubles, Duration callsTime, Duration longestRound,
-                    long twoSyncRounds, long fourSyncRounds, int lent, int awaiting, int entering, Cause lastCause, boolean isAstray) {
+                    long oneSyncRounds, long twoSyncRounds, long fourSyncRounds, int lent, int awaiting, int entering, Cause lastCause,
+                    boolean isAstray) {
     /** Why a round came. */
     public enum Cause {
         /** There was none yet. */

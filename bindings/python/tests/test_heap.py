@@ -439,6 +439,16 @@ class Living(OnFile):
             with self.assertRaises(dataclasses.FrozenInstanceError):
                 told.lane = 7
 
+    def test_a_heap_that_is_made_on_atomic_sectors_takes_one_sync_a_round(self):
+        # And two where that wasn't asked for when it was made.
+        for path, asked, one in ((self.path, True, 1), (self.path, False, 1), (self.path + ".plain", False, 0), (self.path + ".plain", True, 0)):
+            with zelamiku.open(path, alice=Account, atomic_sectors=asked, linger=3_600) as heap:
+                with heap.synchronized(heap.alice):
+                    heap.alice.balance += 1
+                heap.durable()
+                stats = heap.stats()
+            self.assertEqual((stats.rounds, stats.one_sync_rounds, stats.two_sync_rounds), (1, one, 1 - one), (path, asked))
+
     def test_the_log_is_called_by_whichever_thread(self):
         lines = []
 

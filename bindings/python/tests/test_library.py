@@ -53,10 +53,10 @@ class Structs(unittest.TestCase):
         sizes = {
             library.FieldRow: 24,
             library.WaitRow: 16,
-            library.PlanRow: 80,
+            library.PlanRow: 88,
             library.ReportRow: 352,
             library.DroppedRow: 32,
-            library.StatsRow: 104,
+            library.StatsRow: 112,
             library.ProgressRow: 40,
             library.FailureRow: 56,
         }

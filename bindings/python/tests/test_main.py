@@ -104,7 +104,7 @@ class Words(OnFile):
         self.assertEqual((status, out), (2, ""))
         self.assertIn("arguments are required: word", error)
         out = " ".join(self.run_with("migrate", "--help")[1].split())
-        self.assertIn("usage: python -m zelamiku migrate [-h] [--lanes N] [--drop] FILE MODULE[:NAME] [MODULE[:NAME]]", out)
+        self.assertIn("usage: python -m zelamiku migrate [-h] [--lanes N] [--drop] [--atomic-sectors] FILE MODULE[:NAME] [MODULE[:NAME]]", out)
         for text in ("the new declaration; by default the same one", "for so many threads; by default as many as it has", "lose the fields that the new declaration doesn't have"):
             self.assertIn(text, out)
 
@@ -130,10 +130,15 @@ class Words(OnFile):
             self.assertEqual(heap.report.lanes, 12)
         self.assertEqual(self.run_with("show", "a.heap", "bank"), (0, SHOWN, ""))
 
+    def test_migrate_makes_a_heap_of_one_sync_a_round(self):
+        self.assertEqual(self.run_with("migrate", "a.heap", "bank", "--atomic-sectors")[0], 0)
+        self.assertEqual(Path(self.path).read_bytes()[:8], b"MONIHALF")
+        self.assertEqual(self.run_with("show", "a.heap", "bank"), (0, SHOWN, ""))
+
     def test_migrate_leaves_the_file_if_the_new_heap_cant_be_synced(self):
         close, ends = library().heap_close, iter([33])
         with mock.patch.object(library(), "heap_close", lambda heap: close(heap) or next(ends, 0)), self.assertRaises(zelamiku.SyncFailed):
-            zelamiku_main.migrate(self.path, self.declared["OBJECTS"], self.declared["LAST"], None, False)
+            zelamiku_main.migrate(self.path, self.declared["OBJECTS"], self.declared["LAST"], None, False, False)
         self.assertEqual(sorted(os.listdir(self.folder)), ["a.heap", "a.heap.migrated", "bank.py"])
         self.assertEqual(self.run_with("show", "a.heap", "bank"), (0, SHOWN, ""))
 

@@ -1,7 +1,7 @@
 """Shows a heap by the names that a program declares, and moves its values into another declaration.
 
     python -m zelamiku show FILE MODULE[:NAME]
-    python -m zelamiku migrate FILE MODULE[:NAME] [MODULE[:NAME]] [--lanes N]
+    python -m zelamiku migrate FILE MODULE[:NAME] [MODULE[:NAME]] [--lanes N] [--atomic-sectors]
 
 NAME is a variable of the module with the objects that the program opens, ``dict(alice=Account, accounts=[Account] * 64)``; by default OBJECTS.
 The heap is opened as by the program, so no other process may have it meanwhile.
@@ -103,7 +103,7 @@ def _carried(old: Plan, bits: list[int], new: Plan) -> Iterator[tuple[int, int]]
                 raise _Refused(f"{new.fields[number].name} can't be {other.decode(value)!r}: {error}") from None
 
 
-def migrate(path: str, objects: dict[str, Any], wanted: dict[str, Any], lanes: int | None, drops: bool) -> None:
+def migrate(path: str, objects: dict[str, Any], wanted: dict[str, Any], lanes: int | None, drops: bool, atomic_sectors: bool) -> None:
     """Puts a heap of the wanted objects in the file's place, with the values that it had."""
     path = os.path.realpath(path)
     old, new = Plan(objects), Plan(wanted)
@@ -119,7 +119,7 @@ def migrate(path: str, objects: dict[str, Any], wanted: dict[str, Any], lanes: i
         if os.path.lexists(beside):
             os.remove(beside)
         # The values are the new heap's first ones, so it is made with all of them or not at all.
-        make(beside, new, heap.report.lanes if lanes is None else lanes, heap.report.capacity)
+        make(beside, new, heap.report.lanes if lanes is None else lanes, heap.report.capacity, atomic_sectors)
         os.link(path, kept)
         os.rename(beside, path)
         folder = os.open(os.path.dirname(path), os.O_RDONLY)
@@ -140,13 +140,15 @@ def main() -> None:
     migrates.add_argument("wanted", nargs="?", metavar="MODULE[:NAME]", help="the new declaration; by default the same one")
     migrates.add_argument("--lanes", type=int, metavar="N", help="for so many threads; by default as many as it has")
     migrates.add_argument("--drop", action="store_true", help="lose the fields that the new declaration doesn't have")
+    migrates.add_argument("--atomic-sectors", action="store_true", help="rounds take one sync (see zelamiku.open); by default two")
     chosen = parser.parse_args()
     try:
         objects = _declared(chosen.objects)
         if chosen.word == "show":
             show(chosen.file, objects)
         else:
-            migrate(chosen.file, objects, _declared(chosen.wanted) if chosen.wanted else objects, chosen.lanes, chosen.drop)
+            wanted = _declared(chosen.wanted) if chosen.wanted else objects
+            migrate(chosen.file, objects, wanted, chosen.lanes, chosen.drop, chosen.atomic_sectors)
         print(end="", flush=True)
     except (Error, _Refused, ImportError, OSError) as error:
         # Python writes again at the end what the output hasn't taken.

@@ -33,6 +33,7 @@ def open(
     upgrade: bool = False,
     create: bool = True,
     reverts: bool = True,
+    atomic_sectors: bool = False,
     fingerprint: int | Literal["names"] | None = "names",
     log: Callable[[int, str], object] | None = None,
     **objects: Declared,
@@ -43,8 +44,8 @@ def open(
     They and their fields are numbered in the order in which they are declared. A file with another heap is refused and left as it is.
 
     - ``lanes``: how many threads may use the heap at once, 1 to 32; a heap that is there may have more. A new heap has one lane more, for the
-      helper: a round then takes two syncs. With 32, or if the file has exactly as many as are asked for, the helper has none, and a round
-      takes four.
+      helper: a round then takes two syncs, or one. With 32, or if the file has exactly as many as are asked for, the helper has none, and a
+      round takes four.
     - ``capacity``: records of a lane's log, 2,000 to 1,048,576; by default as many as its ring. A heap that is there keeps its own.
     - ``ring``: records of a lane's ring, 4,096 to 65,536, of 24 bytes of memory each. A thread goes on until its ring or its log is full, while
       a round's calls are made.
@@ -53,6 +54,9 @@ def open(
     - ``create=False``: makes no heap. :class:`NoHeap`: there is none, for example because a volume isn't mounted.
     - ``reverts=False``: keeps no old values. An exception that leaves a section then stops the heap (:meth:`Heap.synchronized`), and a section
       has room for twice as many stores.
+    - ``atomic_sectors=True``: a heap that is made gets a journal, and a round takes one sync. Only for storage that keeps each sector of 512 bytes
+      whole when the power fails, as NVMe with power-loss protection and Ceph RBD do. Elsewhere such a heap may lose what was durable, and
+      nothing notices. A heap that is there keeps what it has (:attr:`Stats.one_sync_rounds`).
     - ``fingerprint``: a number of 64 bits that a new heap keeps, and that each later opening must have. By default it is made from the names of
       objects and fields, in their order: a program that declares them in another order is refused. If you choose a number, choose another
       one whenever fields change their meaning. None: a new heap has none. A heap without one is opened with any number; a heap with one
@@ -81,6 +85,7 @@ def open(
         upgrades=upgrade,
         must_exist=not create,
         reverts=reverts,
+        atomic_sectors=atomic_sectors,
         fingerprint=_fingerprint(text, plan, fingerprint),
     )
     calls = library()
@@ -327,11 +332,12 @@ def _opened(calls: Library, path: str, plan: Plan, wanted: PlanRow) -> tuple[int
     return handle.value, row
 
 
-def make(path: str, plan: Plan, lanes: int, capacity: int) -> None:
+def make(path: str, plan: Plan, lanes: int, capacity: int, atomic_sectors: bool) -> None:
     """Makes a heap that begins with the plan's first values."""
     calls = library()
     lanes = _within(path, "lanes", lanes, 1, MOST_LANES)
-    handle, _ = _opened(calls, path, plan, PlanRow(lanes=lanes, capacity=capacity, ring=4_096, fingerprint=plan.fingerprint()))
+    wanted = PlanRow(lanes=lanes, capacity=capacity, ring=4_096, fingerprint=plan.fingerprint(), atomic_sectors=atomic_sectors)
+    handle, _ = _opened(calls, path, plan, wanted)
     status = calls.heap_close(handle)
     if status != OK:
         raise calls.error(path, calls.failure(status))

@@ -76,6 +76,7 @@ class PlanRow(Sized):
         *_members(c_uint32, "count lanes capacity ring linger upgrades must_exist reverts"),
         ("fingerprint", c_uint64),
         *_members(c_void_p, "log log_context device"),
+        *_members(c_uint32, "atomic_sectors reserved"),
     ]
 
 
@@ -100,7 +101,7 @@ class StatsRow(Sized):
 
     _fields_ = [
         *_members(c_uint32, "size lent awaiting entering last_cause is_astray"),
-        *_members(c_uint64, "rounds sections records calls syncs troubles calls_time longest_round two_sync_rounds four_sync_rounds"),
+        *_members(c_uint64, "rounds sections records calls syncs troubles calls_time longest_round two_sync_rounds four_sync_rounds one_sync_rounds"),
     ]
 
 

@@ -113,10 +113,13 @@ class Stats:
     """In the calls of all rounds."""
     longest_round: float
     """From its first record to its last call."""
+    one_sync_rounds: int
+    """Rounds with one sync, all their calls made: the heap has a journal (``atomic_sectors`` of :func:`open`)."""
     two_sync_rounds: int
-    """Rounds with two syncs, all their calls made."""
+    """With two."""
     four_sync_rounds: int
-    """With four: the heap has no lane for the helper (see :func:`open`), or that lane has no room for what the round changed."""
+    """With four: the heap has no lane for the helper (see :func:`open`), or that lane has no room for what the round changed; or the heap's journal
+    hasn't."""
     lent: int
     """Lanes in use."""
     awaiting: int

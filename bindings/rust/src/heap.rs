@@ -61,6 +61,7 @@ impl Heap {
             must_exist: options.must_exist.into(),
             reverts: options.reverts.into(),
             fingerprint: options.fingerprint,
+            atomic_sectors: options.atomic_sectors.into(),
             ..raw::Plan::default()
         };
         let mut opening = Opening { path, heap: HeapNumber::default(), waiter: Arc::default(), log: options.log.map(Box::new) };

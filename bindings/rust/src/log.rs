@@ -73,10 +73,12 @@ pub struct Stats {
     pub calls_time: Duration,
     /// The longest round, from its first record to its last call.
     pub longest_round: Duration,
-    /// Rounds with two syncs, all their calls made.
+    /// Rounds with one sync, all their calls made: the heap has a journal ([`Options::atomic_sectors`](crate::Options::atomic_sectors)).
+    pub one_sync_rounds: u64,
+    /// Rounds with two.
     pub two_sync_rounds: u64,
     /// Rounds with four: the heap has no lane for its helper ([`Options::lanes`](crate::Options::lanes)), or that lane has no room for what
-    /// the round has changed.
+    /// the round has changed; or the heap's journal hasn't.
     pub four_sync_rounds: u64,
     /// Sessions in use.
     pub sessions: u32,
@@ -93,7 +95,8 @@ pub struct Stats {
 
 impl From<raw::Stats> for Stats {
     fn from(raw: raw::Stats) -> Stats {
-        let [rounds, sections, records, calls, syncs, troubles, calls_time, longest_round, two_sync_rounds, four_sync_rounds] = raw.counts;
+        let [rounds, sections, records, calls, syncs, troubles, calls_time, longest_round, two_sync_rounds, four_sync_rounds, one_sync_rounds] =
+            raw.counts;
         Stats {
             rounds,
             sections,
@@ -103,6 +106,7 @@ impl From<raw::Stats> for Stats {
             troubles,
             calls_time: Duration::from_nanos(calls_time),
             longest_round: Duration::from_nanos(longest_round),
+            one_sync_rounds,
             two_sync_rounds,
             four_sync_rounds,
             sessions: raw.lent,

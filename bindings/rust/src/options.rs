@@ -43,6 +43,7 @@ pub struct Options {
     pub(crate) upgrades: bool,
     pub(crate) must_exist: bool,
     pub(crate) reverts: bool,
+    pub(crate) atomic_sectors: bool,
     pub(crate) fingerprint: u64,
     pub(crate) log: Option<Arc<raw::Log>>,
     // The first mistake that the library can't see.
@@ -67,6 +68,7 @@ impl Options {
             upgrades: false,
             must_exist: false,
             reverts: true,
+            atomic_sectors: false,
             fingerprint: 0,
             log: None,
             mistake: None,
@@ -76,8 +78,8 @@ impl Options {
     /// How many sessions may be in use at once: 1 to 32, by default 8. Each takes 16 bytes a record of the file, about 40 bytes a record of
     /// memory ([`capacity`](Options::capacity)), and its [`ring`](Options::ring).
     ///
-    /// A heap that is made has one lane more, for its helper: with it a round takes two syncs. With 32 sessions the helper has none, and a round
-    /// takes four. A heap that is there keeps its lanes. It is refused if it has fewer; if it has more, the last one is the helper's.
+    /// A heap that is made has one lane more, for its helper: with it a round takes two syncs, or [one](Options::atomic_sectors). With 32 sessions the
+    /// helper has none, and a round takes four. A heap that is there keeps its lanes. It is refused if it has fewer; if it has more, the last one is the helper's.
     pub fn lanes(mut self, lanes: u32) -> Options {
         self.lanes = lanes;
         self
@@ -246,6 +248,25 @@ impl Options {
     /// ```
     pub fn reverts(mut self, reverts: bool) -> Options {
         self.reverts = reverts;
+        self
+    }
+
+    /// Whether a heap that is made gets a journal, so that a round takes one sync in place of two: by default it doesn't. Ask for it only where the
+    /// storage keeps each sector of 512 bytes whole when the power fails, as NVMe with power-loss protection and Ceph RBD do. Elsewhere such a heap
+    /// may lose what was durable, and nothing notices. A heap that is there keeps what it has: [`Stats::one_sync_rounds`](crate::Stats) tells.
+    ///
+    /// ```
+    /// # mod scratch { include!(concat!(env!("CARGO_MANIFEST_DIR"), "/src/scratch.rs")); } use scratch::*;
+    /// # let path = Scratch::new("atomic");
+    /// let heap = Heap::options().objects(1).field(Field(0), Object(0), 100).atomic_sectors(true).open(&path)?;
+    /// let mut session = heap.session()?;
+    /// session.synchronized(Object(0), |s| s.store(Field(0), 90))?;
+    /// session.durable()?;
+    /// assert_eq!(heap.stats()?.one_sync_rounds, 1);
+    /// # Ok::<(), Error>(())
+    /// ```
+    pub fn atomic_sectors(mut self, atomic: bool) -> Options {
+        self.atomic_sectors = atomic;
         self
     }
 

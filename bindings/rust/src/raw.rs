@@ -79,17 +79,17 @@ macro_rules! sized {
 }
 
 sized! {
-    Plan is 80 {
+    Plan is 88 {
         objects: u32, fields: *const Field, count: u32, lanes: u32, capacity: u32, ring: u32, linger: u32, upgrades: u32, must_exist: u32,
         reverts: u32, fingerprint: u64, log: Option<extern "C" fn(*mut c_void, u32, *const c_char)>, log_context: *const c_void,
-        device: *const c_void
+        device: *const c_void, atomic_sectors: u32, reserved: u32
     }
     Report is 352 {
         is_made: u32, is_upgraded: u32, objects: u32, fields: u32, lanes: u32, capacity: u32, damage: u32, bad_lane: u32, difference: u32,
         field: u32, reserved: u32, has: u64, planned: u64, bad_place: u64, bytes: u64, dropped: u64, undone: u64, kept: [u64; MOST_LANES]
     }
     Dropped is 32 { why: u32, lane: u32, other_lane: u32, section: u64, other_section: u64 }
-    Stats is 104 { lent: u32, awaiting: u32, entering: u32, last_cause: u32, is_astray: u32, counts: [u64; 10] }
+    Stats is 112 { lent: u32, awaiting: u32, entering: u32, last_cause: u32, is_astray: u32, counts: [u64; 11] }
     Progress is 40 { lane: u32, is_open: u32, end: u32, sections: u64, durable: u64, earlier: u64 }
     RawFailure is 56 {
         status: u32, error: i32, object: u32, field: u32, reserved: u32, path: *const c_char, call: *const c_char, cause: *const c_char,

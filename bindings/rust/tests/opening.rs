@@ -51,6 +51,20 @@ fn a_heap_has_eight_lanes_of_a_rings_records_unless_it_is_told_otherwise() {
     assert_eq!(report.bytes, std::fs::metadata(&scratch).unwrap().len());
 }
 
+// And two where that wasn't asked for when it was made.
+#[test]
+fn a_heap_that_is_made_on_atomic_sectors_takes_one_sync_a_round() {
+    let (scratch, plain) = (Scratch::new("atomic"), Scratch::new("plain"));
+    for (path, is_asked, one) in [(&scratch, true, 1), (&scratch, false, 1), (&plain, false, 0), (&plain, true, 0)] {
+        let heap = accounts().linger(Duration::from_secs(3_600)).atomic_sectors(is_asked).open(path).unwrap();
+        let mut session = heap.session().unwrap();
+        common::count(&mut session, 0);
+        session.durable().unwrap();
+        let stats = heap.stats().unwrap();
+        assert_eq!((stats.rounds, stats.one_sync_rounds, stats.two_sync_rounds), (1, one, 1 - one), "{stats:?}");
+    }
+}
+
 #[test]
 fn a_section_that_nobody_waits_for_is_durable_after_the_linger() {
     let scratch = Scratch::new("linger");
