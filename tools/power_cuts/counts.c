@@ -7,7 +7,8 @@
  * A section of thread t adds one to its counter, to that of another object and to the total, and puts t and its count beside the total. Once it is
  * durable the thread tells `t COUNT` by the port, which outlives the power cut, and `copyT COUNT` once a copy has all that was told before it began.
  * `made` is told once the heap is there. A look prints `heap` and the values, whether they fit together, and closes the heap. Each value that is
- * counted lies in a page of its own. WITHOUT_SYNC=N leaves out the Nth of each round's two syncs (left_out.h). */
+ * counted lies in a page of its own. WITHOUT_SYNC=N leaves out the Nth of each round's two syncs (left_out.h). With ATOMIC_SECTORS a heap that is
+ * made has a journal, and its rounds take one. */
 #define _GNU_SOURCE
 #include <fcntl.h>
 #include <sys/stat.h>
@@ -110,7 +111,8 @@ static void look(void) {
 static void open_file(const char *path, uint32_t capacity, uint32_t lanes, bool is_look) {
     struct stat info;
     zelamiku_report report = {.size = sizeof report};
-    zelamiku_plan plan = {.size = sizeof(zelamiku_plan), .fields = fields, .count = FIELDS, .objects = OBJECTS, .lanes = lanes, .capacity = capacity, .upgrades = 1};
+    zelamiku_plan plan = {.size = sizeof(zelamiku_plan), .fields = fields, .count = FIELDS, .objects = OBJECTS, .lanes = lanes, .capacity = capacity, .upgrades = 1,
+                          .atomic_sectors = getenv("ATOMIC_SECTORS") != NULL};
     bool is_there = stat(path, &info) == 0 || !is_look;
     if (is_there) must(zelamiku_heap_open(&heap, path, &plan, &report));
     if (is_there && (!is_look || report.is_made == 0)) return;

@@ -251,7 +251,8 @@ static void declare(void) {
 static void open_file(const char *path, bool is_look) {
     struct stat info;
     zelamiku_report report = {.size = sizeof report};
-    zelamiku_plan plan = {.size = sizeof(zelamiku_plan), .fields = fields, .count = FIELDS, .objects = OBJECTS, .lanes = THREADS + 1, .reverts = is_look};
+    zelamiku_plan plan = {.size = sizeof(zelamiku_plan), .fields = fields, .count = FIELDS, .objects = OBJECTS, .lanes = THREADS + 1, .reverts = is_look,
+                          .atomic_sectors = getenv("ATOMIC_SECTORS") != NULL};
     bool is_there = stat(path, &info) == 0 || !is_look;
     if (is_there) must(zelamiku_heap_open(&heap, path, &plan, &report));
     if (is_there && (!is_look || report.is_made == 0)) return;

@@ -55,6 +55,8 @@ HISTORY = (
     "try look 1 sections look /mnt/heap",
     "try recover 43 heapctl recover --image /mnt/heap",
 )
+LOOKS = ("try look 1 counts look /mnt/heap", "try again 1 counts look /mnt/heap")
+ONE_SYNC = "ATOMIC_SECTORS=1"
 EIGHT, FIVES = (8, *8 * [1]), (40, *8 * [5])
 # The schema of a heap of eight workers, with what they have counted.
 SCHEMA = f"{DRIVE} --rounds 5 && heapctl dump --image /mnt/heap >/schema"
@@ -129,6 +131,16 @@ WORKS = {
         adds_up=is_anything,
         has_history=True,
     ),
+    # (their heaps have a journal, for disks that keep sectors whole: others lose something)
+    "threads, one sync": Work(f"{ONE_SYNC} counts count /mnt/heap", LOOKS, tells=True, again=LOOK),
+    "histories, one sync": Work(
+        f"while :; do {ONE_SYNC} sections run /mnt/heap & sleep 0.$((RANDOM % 9)); kill -9 $!; wait; done",
+        tuple(it.replace("counts", "sections") for it in LOOKS),
+        tells=True,
+        adds_up=is_anything,
+        has_history=True,
+        again="try look 1 {} sections look /mnt/heap",
+    ),
     "64 MB": Work("counts count /mnt/heap 667000", COUNTS, tells=True, memory=900),
     "160 MB": Work("counts count /mnt/heap 1000000 9", COUNTS, tells=True, memory=1900),
     "copy": Work("counts copy /mnt/heap", (*COUNTS, "try copy 1 counts look /mnt/heap.copy"), tells=True),
@@ -161,6 +173,7 @@ class Run:
     failures: int = 0  # of the disk, each with states behind it
     fails: tuple = ("write", "flush", "read")  # or "gate": of a write that changes one byte, which a cache has then and the disk hasn't
     mounts: bool = False  # the file system is mounted again after a failure
+    is_unfit: bool = False  # the disk spoils sectors under heaps that have a journal, which has to be seen
     is_unmended: bool = False  # what the opening after a failure writes back is left out, which has to be seen
 
     def fewer(self, by):
@@ -170,25 +183,25 @@ class Run:
 
     def leaves_out(self):
         """Whether something is left out that has to be seen."""
-        return bool(self.without or self.lies or self.is_unmended)
+        return bool(self.without or self.lies or self.is_unfit or self.is_unmended)
 
     def name(self):
         how = ["" if self.system == "none" else self.system, self.mount, "" if self.disk == "virtio" else self.disk]
         how += [self.torn and f"torn {self.torn}", self.without and f"without sync {self.without}", self.lies and "flushes that count for nothing"]
-        how += [self.failures and f"{' '.join(self.fails)} failing", self.mounts and "mounted again", self.is_unmended and "nothing written back"]
+        how += [self.failures and f"{' '.join(self.fails)} failing", self.mounts and "mounted again", self.is_unmended and "nothing written back", self.is_unfit and "unfit"]
         return ", ".join([self.work, *filter(None, how)])
 
 
 FEW = {
     "program": [Run("drive", states=40, in_recovery=10, true=1)],
-    "threads": [Run("histories", states=40, in_recovery=10, true=2)],
-    "control": [Run("threads", without=2)],
+    "threads": [Run("histories", states=40, in_recovery=10, true=2), Run("threads, one sync", states=30, in_recovery=10, true=1)],
+    "control": [Run("threads", without=2), Run("threads, one sync", torn=3, is_unfit=True)],
 }
 FEW_NATIVE = {
     "program": [Run("drive", states=60, in_recovery=16, true=3)],
-    "threads": [Run("histories", states=70, in_recovery=16, true=3), Run("histories, killed", "xfs", states=50, in_recovery=8, true=2)],
+    "threads": [Run("histories", states=70, in_recovery=16, true=3), Run("histories, killed", "xfs", states=50, in_recovery=8, true=2), Run("histories, one sync", states=60, in_recovery=16, true=3)],
     "failures": [Run("drive", failures=6), Run("histories", failures=6), Run("threads", failures=4, fails=("gate",))],
-    "control": [Run("threads", without=2), *(Run(work, failures=60, fails=("gate",), is_unmended=True) for work in ("drive", "threads"))],
+    "control": [Run("threads", without=2), Run("threads, one sync", torn=3, is_unfit=True), *(Run(work, failures=60, fails=("gate",), is_unmended=True) for work in ("drive", "threads"))],
 }
 WHOLE = {
     "machines": [
@@ -210,6 +223,7 @@ WHOLE = {
         Run("threads", "xfs-1k", failures=40),
         Run("threads", failures=60),
         Run("histories", failures=120),
+        Run("threads, one sync", failures=60),
         *(Run(work, failures=30, fails=("gate",)) for work in ("drive", "threads", "histories")),
     ],
     "program": [
@@ -246,8 +260,13 @@ WHOLE = {
         Run("threads", states=40, mount="data=journal"),
         Run("threads", states=40, mount="data=writeback"),
         Run("threads", states=100, in_recovery=32, true=19),
+        Run("threads, one sync", states=60, is_first=True),
+        Run("threads, one sync", "xfs", states=60, in_recovery=16),
+        Run("threads, one sync", states=200, in_recovery=64, true=19),
     ],
     "histories": [
+        Run("histories, one sync", "ext4-4k", states=60),
+        Run("histories, one sync", states=300, in_recovery=64, true=39),
         Run("histories, killed", states=200, in_recovery=64, true=39),
         Run("histories, killed", "xfs", states=100, in_recovery=16),
         Run("histories, killed", "btrfs", states=60, in_recovery=16),
@@ -260,6 +279,7 @@ WHOLE = {
         *(Run(work, without=number) for number in (1, 2) for work in ("threads", "histories")),
         *(Run(work, lies=True) for work in ("threads", "histories", "drive", "set")),
         *(Run(work, failures=60, fails=("gate",), is_unmended=True) for work in ("drive", "threads")),
+        *(Run(work, torn=3, is_unfit=True) for work in ("threads, one sync", "histories, one sync")),
         # (it ends once it is seen, within 60 failures as a rule)
         Run("two places", failures=240, fails=("write",), torn=3, is_unmended=True),
     ],
