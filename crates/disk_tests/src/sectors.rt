@@ -7,6 +7,7 @@ mod again;
 mod chance;
 mod damage;
 mod in_place;
+mod journal;
 mod medium;
 mod on_file;
 mod truth;

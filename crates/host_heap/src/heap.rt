@@ -118,6 +118,16 @@ impl HostedHeap {
         self.calls.fetch();
     }
 
+    /// Looks how many groups of calls were handed over, and aren't fetched yet. A group is the calls up to a sync.
+    pub fn waiting(&mut self) -> usize
+        // The host is told how many groups of calls a look finds handed over.
+        ensures count { result ≡ length (known_items self.new.calls.ring) }
+        ensures looked { HasLooked self.old.calls self.new.calls }
+        ensures heap { SameHeap self.old self.new }
+    {
+        self.calls.waiting()
+    }
+
     /// The call that the host has to make next, of those that were fetched. A write has [`MOST_BYTES`](disk_deferred::MOST_BYTES) at most.
     pub fn next_call(&self) -> Option<&DeviceCall>
         ensures small { IfSome result (λ call. IsSmall call.now) }
