@@ -28,7 +28,7 @@ static atomic_bool stopping;
 static void must(zelamiku_status status) {
     if (status == ZELAMIKU_OK) return;
     fprintf(stderr, "%s\n", zelamiku_heap_failure(NULL));
-    exit(2);
+    _Exit(2); /* exit would write again what another thread prints just then */
 }
 
 /* The transfer of this number of a thread. */
