@@ -193,10 +193,7 @@ fn sync_some(
     damage: Damage,
     chance: &mut Chance,
 ) -> Option<Option<Left>> {
-    let mut is_last = false;
-    let mut count = syncs;
-    while !is_last && count > 0 {
-        count -= 1;
+    for number in 0..syncs {
         let before = disk.disk().stops();
         let mut allowed = Allowed {
             old: image_of(truth),
@@ -205,8 +202,7 @@ fn sync_some(
         };
         allowed.new = image_of(truth);
         let is_ok = disk.sync().is_ok();
-        is_last = count == 0 || !is_ok;
-        if is_last {
+        if !is_ok || syncs.saturating_sub(number) <= 1 {
             return end(alloc, disk, before, allowed, is_ok, damage, chance);
         }
         truth.settle();
