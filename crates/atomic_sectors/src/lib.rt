@@ -9,5 +9,6 @@ mod buffered;
 mod deferred;
 mod memory;
 mod untorn;
+mod volatile;
 
 pub use untorn::UntornDisk;

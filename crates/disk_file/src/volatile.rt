@@ -1,6 +1,6 @@
 //! A disk in memory that forgets.
-ghost use Rattle.std.specs.Prelude.{◌≡◌, replicate, IfOk};
-ghost use Rattle.block_disk.specs.Device.{new_device};
+ghost use Rattle.std.specs.Prelude.{◌≡◌, ◌+◌, ◌≤◌, length, replicate, IfOk};
+ghost use Rattle.block_disk.specs.Device.{new_device, written};
 
 use block_disk::{Disk, DiskError, Fault, Trace, copy_out, lies_within, put};
 use std::alloc::{AllocError, Global};
@@ -41,6 +41,17 @@ impl VolatileDisk {
         let trace = Trace::of(&bytes);
         VolatileDisk { bytes, trace }
     }
+
+    /// Writes these bytes at `at`, within the disk.
+    pub fn write(&mut self, at: u64, bytes: &[u8])
+        requires fits { at + length bytes.now ≤ length self.old.now.bytes }
+        // A write within a disk in memory that forgets doesn't fail.
+        ensures { self.new ≡ written at bytes.now self.old }
+    {
+        let _size = self.bytes.len();
+        put(&mut self.bytes, at, bytes);
+        self.trace.write(at, bytes);
+    }
 }
 
 impl Disk for VolatileDisk {
@@ -62,8 +73,7 @@ impl Disk for VolatileDisk {
         if !lies_within(at, bytes.len(), self.bytes.len()) {
             return Err(DiskError::OutOfRange);
         }
-        put(&mut self.bytes, at, bytes);
-        self.trace.write(at, bytes);
+        self.write(at, bytes);
         Ok(())
     }
 

@@ -1,8 +1,8 @@
 -- What a journaled disk keeps in memory: the words that were touched, and what a crash leaves of the device.
-use Rattle.std.specs.Prelude.{All, Any, map, min, if◌then◌else◌, ◌^◌}
+use Rattle.std.specs.Prelude.{min, if◌then◌else◌, ◌^◌}
 use Rattle.std.specs.List.Sorted.{IsPermutation}
 use Rattle.std.proofs.Common.{◌≡◌, ◌⊎◌, inl, inr, ⊎_elim, Bool, true, false, ℕ, ◌+◌, ◌-◌, ◌*◌, ◌/◌, ◌<◌, ◌≤◌, ◌==◌, List, [], ◌∷◌, length, get_or, take, drop, refl, sym, ◌∙◌, ap, subst, arith}
-use Rattle.std.proofs.lemmas.List.Elements.{All-nil, All-cons, All-head, All-tail, All-weaker}
+use Rattle.std.proofs.lemmas.List.Elements.{All-nil}
 use Rattle.std.proofs.lemmas.List.Sorted.{All-permutation, Contains-permutation}
 use Rattle.std.proofs.lemmas.Bool.{cases_lt}
 use Rattle.block_disk.specs.Bytes.{spliced}
@@ -16,18 +16,18 @@ use Rattle.journal_batches.specs.declared.areas.Areas.{Areas}
 use Rattle.journal_batches.specs.declared.entry.Entry.{Entry}
 use Rattle.journal_batches.specs.Areas.{half_at, half_bytes, half_of, image_bytes}
 use Rattle.journal_batches.specs.Batches.{batch_in}
-use Rattle.journal_batches.specs.Entries.{AreOf, Covers, DifferWithin, IsEither, entered, replayed}
+use Rattle.journal_batches.specs.Entries.{AreOf, Covers, DifferWithin, IsEither, replayed}
 use Rattle.journal_batches.specs.Laws.{ReplayLaw}
 use Rattle.journal_batches.specs.Rests.{Rests}
 use Rattle.journal_batches.specs.Shown.{shown}
 use Rattle.journal_batches.specs.Spelled.{pages_for}
-use Rattle.journal_batches.proofs.EntryLemmas.{any_cases, any_first, any_later, any_none, entered_outside, length_entered, length_replayed}
-use Rattle.disk_journal.specs.Kept.{AreWithin, IsKept, SameButTouched, Touches}
+use Rattle.journal_batches.proofs.EntryLemmas.{any_first, length_replayed}
+use Rattle.disk_journal.specs.Kept.{AreWithin, IsKept, SameButTouched, Touches, words_among}
 use Rattle.disk_journal.specs.declared.opening.Opened.{Opened}
 use Rattle.disk_journal.specs.Opened.{IsOpened}
 use Rattle.disk_journal.specs.Stands.{IsAllHome, IsAtRest, Stands, StandsMixed, StandsStill, StandsTurned}
 use Rattle.disk_journal.specs.Steps.{AreWordPlaces, BringsHome}
-use Rattle.disk_journal.proofs.SettlingLemmas.{rest_brings}
+use Rattle.disk_journal.proofs.SettlingLemmas.{differ_replayed, rest_brings}
 
 -- ---- words that were touched ----
 
@@ -37,30 +37,6 @@ touches_permuted xs ys i order (k, x, within, is, p) = let there = Contains-perm
 
 pub within_permuted : (size : ℕ) (xs ys : List ℕ) → IsPermutation xs ys → AreWithin size xs → AreWithin size ys
 within_permuted size xs ys order within = All-permutation (λ (place : ℕ). (place ≡ place / 8 * 8) × (place + 8 ≤ size)) xs ys order within
-
-any_mapped : {X Y : Type 0} (P : Y → Type 0) (f : X → Y) (xs : List X) → Any P (map f xs) → Any (λ x. P (f x)) xs
-any_mapped P f [] any = absurd (any_none P any)
-any_mapped P f (x ∷ xs) any = elim (any_cases P (f x) (map f xs) any) [
-  | inl here ↦ any_first (λ x. P (f x)) x xs here
-  | inr there ↦ any_later (λ x. P (f x)) x xs (any_mapped P f xs there)
-]
-
-all_mapped : {X Y : Type 0} (P : Y → Type 0) (f : X → Y) (xs : List X) → All P (map f xs) → All (λ x. P (f x)) xs
-all_mapped P f [] all = All-nil (λ x. P (f x))
-all_mapped P f (x ∷ xs) all = All-cons (λ x. P (f x)) x xs (All-head P (f x) (map f xs) all) (all_mapped P f xs (All-tail P (f x) (map f xs) all))
-
--- entries at these places cover what the places do
-pub places_cover : (entries : List Entry) (places : List ℕ) (i : ℕ) → map (λ e. e.at) entries ≡ places → Touches places i → Covers entries i
-places_cover entries places i is touches =
-    any_mapped (λ (place : ℕ). (place ≤ i) × (i < place + 8)) (λ (e : Entry). e.at) entries (subst (λ (ps : List ℕ). Touches ps i) (sym is) touches)
-
--- and are words'
-pub places_words : (entries : List Entry) (places : List ℕ) (size : ℕ) → map (λ e. e.at) entries ≡ places → AreWithin size places → AreWordPlaces entries
-places_words entries places size is within =
-    let words = All-weaker (λ (place : ℕ). (place ≡ place / 8 * 8) × (place + 8 ≤ size)) (λ (place : ℕ). place ≡ place / 8 * 8) (λ place both. both.0) places
-    within in
-    all_mapped (λ (place : ℕ). place ≡ place / 8 * 8) (λ (e : Entry). e.at) entries
-    (subst (λ (ps : List ℕ). All (λ place. place ≡ place / 8 * 8) ps) (sym is) words)
 
 -- images that are the same but for touched words differ within the entries there
 pub touched_differ : (entries : List Entry) (places old new : List ℕ) → length new ≡ length old → ((i : ℕ) → Touches places i → Covers entries i)
@@ -82,27 +58,6 @@ touched_written places places' old new at content fits all same i = elim (cases_
   where
     stays : get_or (spliced new at content) i 0 ≡ get_or new i 0 → (get_or (spliced new at content) i 0 ≡ get_or old i 0) ⊎ Touches places' i
     stays is = ⊎_elim (λ was. inl (is ∙ was)) (λ touched. inr (all i (inl touched))) (same i)
-
--- ---- entries ----
-
--- what entries make of an image differs from it within them
-pub replayed_differ : (entries : List Entry) (image : List ℕ) → DifferWithin entries image (replayed entries image)
-replayed_differ [] image = record { size = refl; same = λ i. inl refl }
-replayed_differ (e ∷ later) image =
-    let rest = replayed_differ later (entered e image) in
-    record {
-      size = rest.size ∙ length_entered e image;
-      same = λ i. elim (rest.same i) [
-        | inl same ↦ elim (cases_lt i e.at) [
-          | inl below ↦ inl (same ∙ entered_outside e image i (inl below))
-          | inr from ↦ elim (cases_lt i (e.at + 8)) [
-            | inl within ↦ inr (any_first (λ (e : Entry). (e.at ≤ i) × (i < e.at + 8)) e later (from, within))
-            | inr above ↦ inl (same ∙ entered_outside e image i (inr above))
-          ]
-        ]
-        | inr covers ↦ inr (any_later (λ (e : Entry). (e.at ≤ i) × (i < e.at + 8)) e later covers)
-      ];
-    }
 
 -- ---- what the device stands for ----
 
@@ -200,26 +155,6 @@ opened_kept opened d o =
     rest
     (All-nil (λ (e : Entry). e.at ≡ e.at / 8 * 8)) o.image
 
--- the words that were touched are in another order
-pub kept_ordered : (a : Areas) (second : Bool) (stamp : ℕ) (last : List Entry) (touched touched' : List ℕ) (is_over : Bool) (image : List ℕ) (m : Moment)
-    (d : Device)
-    → AreWithin (image_bytes a) touched' → ((i : ℕ) → Touches touched i → Touches touched' i)
-    → IsKept a second stamp last touched is_over image m d → IsKept a second stamp last touched' is_over image m d
-kept_ordered a second stamp last touched touched' is_over image m d within all k = record {
-  bytes = k.bytes;
-  size = k.size;
-  room = k.room;
-  crash = k.crash;
-  works = λ works.
-      let o = k.works works in record {
-        rest = o.rest;
-        places = o.places;
-        within = within;
-        differs = λ i. ⊎_elim (λ is. inl is) (λ touched. inr (all i touched)) (o.differs i);
-        possible = o.possible;
-      };
-}
-
 -- a call has failed
 pub kept_failed : (a : Areas) (second second' : Bool) (stamp stamp' : ℕ) (last last' : List Entry) (touched touched' : List ℕ) (is_over : Bool)
     (image : List ℕ) (m : Moment) (old new : Device)
@@ -271,30 +206,50 @@ kept_written a second stamp last touched touched' is_over image m d at content f
 
 -- ---- a sync ----
 
--- the entries that were made of touched words make the memory's image of what the device stands for
-pub sync_image : ReplayLaw → (a : Areas) (second : Bool) (stamp : ℕ) (last : List Entry) (touched : List ℕ) (is_over : Bool) (image : List ℕ) (m : Moment)
-    (d : Device) (next : List Entry)
-    (read : List ℕ) → read ≡ image → IsKept a second stamp last touched is_over image m d → is_over ≡ false → AreOf read next →
-    ((i : ℕ) → Touches touched i → Covers next i)
-    → replayed next (shown a d.now.bytes) ≡ image
-sync_image law a second stamp last touched is_over image m d next read is k works own covers =
-    let o = k.works works in
-    let old = shown a d.now.bytes in
-    law next old image (subst (λ (xs : List ℕ). AreOf xs next) is own) (touched_differ next touched old image (ap length (sym k.bytes) ∙ sym o.possible.size)
-    covers o.differs)
+-- the entries that were made of the words that were touched, and each once
+module _ {a : Areas} {second : Bool} {stamp : ℕ} {last : List Entry} {touched : List ℕ} {is_over : Bool} {image : List ℕ} {m : Moment} {d : Device}
+    (k : IsKept a second stamp last touched is_over image m d) (works : is_over ≡ false) (next : List Entry) {read : List ℕ} (law : ReplayLaw)
+    (is : read ≡ image) (own : AreOf read next) (covers : (i : ℕ) → Touches touched i → Covers next i) where
+  -- they make the memory's image of what the device stands for
+  pub sync_image : replayed next (shown a d.now.bytes) ≡ image
+  sync_image =
+      let o = k.works works in
+      let old = shown a d.now.bytes in
+      law next old image (subst (λ (xs : List ℕ). AreOf xs next) is own)
+      (touched_differ next touched old image (ap length (sym k.bytes) ∙ sym o.possible.size) covers o.differs)
 
--- whatever it leaves is what the disk may
-pub sync_possible : (a : Areas) (second : Bool) (stamp : ℕ) (last : List Entry) (touched : List ℕ) (is_over : Bool) (image : List ℕ) (m : Moment)
-    (old new : Device) (next : List Entry)
-    → IsKept a second stamp last touched is_over image m old → is_over ≡ false → replayed next (shown a old.now.bytes) ≡ image
-    → LeavesWhole old new (StandsMixed a (replayed next (shown a old.now.bytes)) old.now.bytes)
-    → LeavesWhole old new (Stands a old.now.bytes (λ left. Image m left))
-sync_possible a second stamp last touched is_over image m old new next k works is leaves =
-    leaves_possible a m image old new k.bytes (k.works works).possible (subst (λ (xs : List ℕ). LeavesWhole old new (StandsMixed a xs old.now.bytes)) is leaves)
+  -- and are the own ones of what they make
+  pub sync_own : AreOf (replayed next (shown a d.now.bytes)) next
+  sync_own = subst (λ (xs : List ℕ). AreOf xs next) (is ∙ sym sync_image) own
 
--- so few words fit into a half
-pub fits_half : (n k half : ℕ) → n ≡ k → pages_for k * 4096 ≤ half * 4096 → pages_for n ≤ half
-fits_half n k half is fits = subst (λ (m : ℕ). pages_for m ≤ half) (sym is) (omega arith)
+  -- whatever a sync leaves is what the disk may
+  pub sync_possible : {new : Device} → LeavesWhole d new (StandsMixed a (replayed next (shown a d.now.bytes)) d.now.bytes)
+      → LeavesWhole d new (Stands a d.now.bytes (λ left. Image m left))
+  sync_possible {new = new} leaves =
+      leaves_possible a m image d new k.bytes (k.works works).possible
+      (subst (λ (xs : List ℕ). LeavesWhole d new (StandsMixed a xs d.now.bytes)) sync_image leaves)
+
+  -- where it makes a turn, that is the image of before or the disk's
+  pub sync_turned : {new : Device} → LeavesWhole d new (StandsTurned a next d.now.bytes)
+      → LeavesWhole d new (Stands a d.now.bytes (λ left. (left ≡ shown a d.now.bytes) ⊎ (left ≡ m.bytes)))
+  sync_turned {new = new} leaves =
+      subst (λ (xs : List ℕ). LeavesWhole d new (Stands a d.now.bytes (λ left. (left ≡ shown a d.now.bytes) ⊎ (left ≡ xs)))) (sync_image ∙ sym k.bytes) leaves
+
+  module _ (count : length next ≡ words_among (length read / 8) touched) where
+    many : length next ≡ words_among (a.image * 512) touched
+    many =
+        let words : length read / 8 ≡ a.image * 512 = omega (arith, ap length is, k.size) in
+        count ∙ ap (λ (n : ℕ). words_among n touched) words
+
+    -- what waits fits into a half, or doesn't
+    pub sync_fits : pages_for (words_among (a.image * 512) touched) * 4096 ≤ half_bytes a → pages_for (length next) ≤ a.half
+    sync_fits fits = subst (λ (n : ℕ). pages_for n ≤ a.half) (sym many) (omega (arith, fits))
+
+    pub sync_past : ¬ (pages_for (words_among (a.image * 512) touched) * 4096 ≤ half_bytes a) → a.half < pages_for (length next)
+    sync_past not_fits = elim (cases_lt a.half (pages_for (words_among (a.image * 512) touched))) [
+      | inl less ↦ subst (λ (n : ℕ). a.half < pages_for n) (sym many) less
+      | inr fits ↦ absurd (not_fits (omega (arith, fits)))
+    ]
 
 -- one failure more
 pub failed_more : (n m : ℕ) → n < 2 ^ 64 → m ≡ min (n + 1) (2 ^ 64 - 1) → HasFailed n m
@@ -321,7 +276,7 @@ next_brings a second stamp next image d home is own =
     let rest : IsAtRest a second stamp [] d = record { durable = home.durable; rests = home.cleared.rests } in record {
       size = length_replayed next image ∙ ap length (sym is) ∙ (rest_brings rest).size;
       own = own;
-      rest = subst (λ (xs : List ℕ). DifferWithin next xs (replayed next image)) (sym is ∙ rest.rests.alone) (replayed_differ next image);
+      rest = subst (λ (xs : List ℕ). DifferWithin next xs (replayed next image)) (sym is ∙ rest.rests.alone) (differ_replayed next image);
     }
 
 -- an image that stays is one of bytes of both

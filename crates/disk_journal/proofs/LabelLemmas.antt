@@ -1,6 +1,6 @@
 -- What bytes are a label, and of which parts.
 use Rattle.std.specs.Int.{to_be_bytes, from_be_bytes, w64}
-use Rattle.std.proofs.Common.{◌≡◌, inl, inr, ◌<◌, ◌≤◌, ◌^◌, ℕ, List, ◌∷◌, ◌++◌, Bool, true, false, not, length, take, sym, ◌∙◌, ap, arith, length-take}
+use Rattle.std.proofs.Common.{◌≡◌, inl, inr, ◌<◌, ◌≤◌, ◌^◌, ℕ, List, ◌∷◌, ◌++◌, Bool, true, false, not, length, take, sym, ◌∙◌, ap, arith}
 use Rattle.std.proofs.Math.Dec.{eqb}
 use Rattle.std.specs.Cmp.Lexicographic.{pointwise, bytes_decides}
 use Rattle.std.proofs.lemmas.List.{take-take}
@@ -10,7 +10,7 @@ use Rattle.block_disk.specs.Bytes.{part}
 use Rattle.block_disk.proofs.Bytes.{part_part}
 use Rattle.journal_batches.specs.declared.areas.Areas.{Areas}
 use Rattle.journal_batches.specs.Areas.{room_of}
-use Rattle.disk_journal.specs.Labels.{HasLabel, HasNoLabel}
+use Rattle.disk_journal.specs.Labels.{HasLabel}
 use Rattle.disk_journal.specs.Refusals.{LacksRoom}
 
 not_true : (b : Bool) → b ≡ true → not b ≡ true → ⊥
@@ -47,10 +47,6 @@ one_label a b bytes ah ai bh bi one two =
     let half = same_number a.half b.half ah bh (sym (half_told a bytes one) ∙ half_told b bytes two) in
     let image = same_number a.image b.image ai bi (sym (image_told a bytes one) ∙ image_told b bytes two) in
     λ i. record { half = half i; image = image i }
-
--- fewer bytes than a label has are none
-pub none_in_few : (bytes : List ℕ) → length bytes < 24 → HasNoLabel bytes
-none_in_few bytes few a half image same = absurd (omega (arith, length-take 24 bytes, ap length same))
 
 -- a label of the first 24 bytes is the label of all
 pub begins_with : (a : Areas) (head bytes : List ℕ) → head ≡ take 24 bytes → HasLabel a head → HasLabel a bytes

@@ -5,3 +5,4 @@ pub mod SettlingLemmas
 pub mod OpeningLemmas
 pub mod MakingLemmas
 pub mod KeptLemmas
+pub mod WordLemmas

@@ -1,5 +1,5 @@
 -- What writes to a journaled device keep, page by page, and which words are noted.
-use Rattle.std.proofs.Common.{◌≡◌, ◌⊎◌, inl, inr, ⊎_elim, All, Bool, true, false, ℕ, ◌+◌, ◌-◌, ◌*◌, ◌/◌, ◌<◌, ◌≤◌, List, [], ◌∷◌, ◌++◌, length, get_or, take, drop, Result, Ok, Err, OnOk, OnErr, refl, sym, ◌∙◌, ap, subst, append_assoc, arith, length-append, length-take}
+use Rattle.std.proofs.Common.{◌≡◌, ◌⊎◌, inl, inr, ⊎_elim, All, Any, Bool, true, false, ℕ, ◌+◌, ◌-◌, ◌*◌, ◌/◌, ◌<◌, ◌≤◌, List, [], ◌∷◌, ◌++◌, length, get_or, take, drop, Result, Ok, Err, OnOk, OnErr, refl, sym, ◌∙◌, ap, subst, append_assoc, arith, length-append, length-take}
 use Rattle.std.proofs.lemmas.List.{ext_get_or, drop-drop, get_or_append_left, get_or-append_right, take_all, take_more}
 use Rattle.std.proofs.lemmas.List.Elements.{All-head, All-tail, All-take, All-drop}
 use Rattle.std.proofs.lemmas.Bool.{cases_lt}
@@ -8,20 +8,20 @@ use Rattle.std.proofs.Math.Seq.{take-add, take-append_seam, drop-append_seam}
 use Rattle.std.specs.Int.{to_be_bytes, w64}
 use Rattle.block_disk.specs.declared.error.Fault.{Fault}
 use Rattle.block_disk.specs.Bytes.{part, spliced}
-use Rattle.block_disk.specs.Device.{Moment, Device, written}
+use Rattle.block_disk.specs.Device.{Moment, Device, Range, written}
 use Rattle.block_disk.proofs.Bytes.{length_part, get_or_part, part_part, length_spliced, spliced_below, spliced_at, spliced_above, part_spliced}
 use Rattle.atomic_sectors.specs.Left.{MakesSyncs, Reads}
 use Rattle.atomic_sectors.specs.Untorn.{IsUntorn}
-use Rattle.atomic_sectors.proofs.Calculus.{reads_begin, reads_then, reads_written, reads_untorn, reads_is, syncs_begin, syncs_then, syncs_is, syncs_torn, syncs_written}
+use Rattle.atomic_sectors.proofs.Calculus.{reads_begin, reads_then, reads_weaker, reads_written, reads_untorn, reads_is, syncs_begin, syncs_then, syncs_is, syncs_torn, syncs_written}
 use Rattle.journal_batches.specs.declared.areas.Areas.{Areas}
 use Rattle.journal_batches.specs.declared.entry.Entry.{Entry}
 use Rattle.journal_batches.specs.Areas.{half_at, half_bytes, home_of, image_at, image_bytes, room_of, with_home}
 use Rattle.journal_batches.specs.Entries.{AreOf, Covers, IsOf, entered, replayed}
 use Rattle.journal_batches.specs.Mixed.{IsBetween}
-use Rattle.journal_batches.proofs.EntryLemmas.{entered_else, entered_fitting, entered_outside, entered_own, length_entered, length_replayed, length_word, replay, replayed_append, replayed_uncovered}
+use Rattle.journal_batches.proofs.EntryLemmas.{any_first, any_later, entered_else, entered_fitting, entered_outside, entered_own, length_entered, length_replayed, length_word, replay, replayed_append, replayed_uncovered}
 use Rattle.journal_batches.proofs.MixLemmas.{behind_between, page_between, part_spliced_around}
 use Rattle.disk_journal.specs.Kept.{Touches}
-use Rattle.disk_journal.specs.Steps.{AreWordPlaces, BringsHome, HasHome, HasInHalf, StaysBetween}
+use Rattle.disk_journal.specs.Steps.{ArePending, AreWordPlaces, BringsHome, HasHome, HasInHalf, IsPending, StaysBetween}
 
 -- ---- splices ----
 
@@ -113,6 +113,34 @@ module _ (old new : Device) (at : ℕ) (bytes : List ℕ) where
   syncs_write (Ok u) ok err = syncs_is (syncs_written at bytes syncs_begin) ok
   syncs_write (Err e) ok err = syncs_torn at (length bytes) syncs_begin err.0
 
+-- ---- pages that are written again ----
+
+-- what is written as it reads changes nothing, whatever the write answers
+pub again_reads : (old new : Device) (at : ℕ) (bytes : List ℕ) (r : Result (Unit {0}) Fault) → spliced old.now.bytes at bytes ≡ old.now.bytes
+    → OnOk r (new ≡ written at bytes old) → OnErr r (IsUntorn at (length bytes) old new) → Reads (λ b. b ≡ old.now.bytes) old new
+again_reads old new at bytes (Ok u) same ok err = reads_is (reads_written at bytes reads_begin same) ok
+again_reads old new at bytes (Err e) same ok err = reads_untorn reads_begin refl err
+
+-- calls that change nothing, and then others
+pub again_then : {old mid new : Device} → Reads (λ b. b ≡ old.now.bytes) old mid → Reads (λ b. b ≡ mid.now.bytes) mid new → Reads (λ b. b ≡ old.now.bytes) old new
+again_then a b = let same = reads_now a refl in reads_then a (reads_weaker (λ bytes is. is ∙ same) b)
+
+-- a range more is pending: what was pending still is
+pub still_pending : (old new : Device) (r : Range) → new.now.pending ≡ r ∷ old.now.pending → (i : ℕ) → IsPending i old → IsPending i new
+still_pending old new r is i was =
+    let P = λ (r : Range). (r.start ≤ i) × (i < r.start + r.len) in subst (λ (rs : List Range). Any P rs) (sym is) (any_later P r old.now.pending was)
+
+-- and one page more is
+pub pages_pending : (at pages : ℕ) (old new : Device) → ArePending at (pages * 4096) old
+    → new.now.pending ≡ record { start = at + pages * 4096; len = 4096 } ∷ old.now.pending → ArePending at ((pages + 1) * 4096) new
+pages_pending at pages old new was is = λ i from within.
+    let r : Range = record { start = at + pages * 4096; len = 4096 } in
+    let P = λ (r : Range). (r.start ≤ i) × (i < r.start + r.len) in
+    elim (cases_lt i (at + pages * 4096)) [
+      | inl before ↦ still_pending old new r is i (was i from before)
+      | inr here ↦ subst (λ (rs : List Range). Any P rs) (sym is) (any_first P r old.now.pending (here, omega (arith, within)))
+    ]
+
 -- ---- a batch ----
 
 -- where a page of a half lies
@@ -148,16 +176,6 @@ module _ (a : Areas) (second : Bool) (content : List ℕ) (page at : ℕ) (bytes
       subst (λ (n : ℕ). IsBetween a before after (spliced old.now.bytes n bytes)) (sym place)
       (subst (λ (ys : List ℕ). IsBetween a before after (spliced old.now.bytes (half_at a second + page * 4096) ys)) (sym is)
       (half_page_between a second content old.now.bytes page within fits before after size room has between)))
-
-  -- a page of what a half holds, written there, changes nothing
-  pub half_page_again : (image : List ℕ) → room_of a ≤ length image → content ≡ part (half_at a second) (half_bytes a) image → bytes ≡ part (page * 4096) 4096 content
-      → page * 4096 + 4096 ≤ length content → spliced image at bytes ≡ image
-  half_page_again image room had is within =
-      let ends = half_in_room a second in
-      let long : length content ≡ half_bytes a = ap length had ∙ length_part (half_at a second) (half_bytes a) image (omega arith) in
-      let there : bytes ≡ part (half_at a second + page * 4096) 4096 image =
-      is ∙ ap (part (page * 4096) 4096) had ∙ part_part (page * 4096) 4096 (half_at a second) (half_bytes a) image (omega arith) in
-      (λ i. spliced image (place i) (there i)) ∙ spliced_again image (half_at a second + page * 4096) 4096 (omega arith)
 
 -- the first pages of a batch are written
 pub record Batched (a : Areas) (second : Bool) (content : List ℕ) (pages : ℕ) (old new : Device) : Type 0 where

@@ -146,7 +146,7 @@ replayed_within (e ∷ later) image i = elim (replayed_within later (entered e i
 ]
 
 -- what entries make of an image differs from it within them
-differ_replayed : (entries : List Entry) (image : List ℕ) → DifferWithin entries image (replayed entries image)
+pub differ_replayed : (entries : List Entry) (image : List ℕ) → DifferWithin entries image (replayed entries image)
 differ_replayed entries image = record { size = length_replayed entries image; same = λ i. replayed_within entries image i }
 
 -- the entries of a device at rest bring its image to its place

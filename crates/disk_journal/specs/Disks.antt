@@ -1,5 +1,5 @@
 -- A disk over a journaled device, as clauses see it (this project's own).
-use Rattle.std.specs.Prelude.{◌≡◌, ◌⊎◌, ℕ, ◌*◌, ◌≤◌, Bool, List, []}
+use Rattle.std.specs.Prelude.{◌≡◌, ◌⊎◌, ℕ, ◌-◌, ◌*◌, ◌^◌, ◌≤◌, Bool, List, []}
 use Rattle.block_disk.specs.Device.{Device, Image}
 use Rattle.journal_batches.specs.declared.areas.Areas.{Areas}
 use Rattle.journal_batches.specs.Areas.{half_bytes}
@@ -7,18 +7,23 @@ use Rattle.journal_batches.specs.Shown.{shown}
 use Rattle.journal_batches.specs.Spelled.{pages_for}
 use Rattle.disk_journal.specs.Stands.{Stands}
 
--- the disk: the device that it is, the device that it lies on, its parts, how many words were written since the last sync, and whether a call has failed
--- after which it writes no more
+-- the disk: the device that it is, the device that it lies on, its parts, how many words were written since the last sync, each counted once, the stamp of its
+-- newest batch, and whether a call has failed after which it writes no more
 pub record Layered : Type 0 where
   pub device : Device
   pub disk : Device
   pub areas : Areas
   pub waiting : ℕ
+  pub stamp : ℕ
   pub is_over : Bool
 
 -- the words that wait fit into one batch
 abbrev pub FitsBatch : Layered → Type 0
 FitsBatch d = pages_for d.waiting * 4096 ≤ half_bytes d.areas
+
+-- the numbers of batches have come to their end
+abbrev pub IsSpent : Layered → Type 0
+IsSpent d = 2 ^ 64 - 4 ≤ d.stamp
 
 -- an image that stands for one which a crash of the disk may leave now
 abbrev pub ShowsDisk : Layered → List ℕ → Type 0

@@ -1,5 +1,6 @@
 -- What a journaled disk keeps in memory, beside its device (this project's own).
-use Rattle.std.specs.Prelude.{◌≡◌, ◌⊎◌, ℕ, ◌+◌, ◌*◌, ◌/◌, ◌<◌, ◌≤◌, Bool, false, List, length, slice_index, All, Any}
+use Rattle.std.specs.Prelude.{◌≡◌, ◌⊎◌, ℕ, zero, suc, ◌+◌, ◌*◌, ◌/◌, ◌<◌, ◌≤◌, ◌==◌, if◌then◌else◌, Bool, false, List, [], length, slice_index, All, Any}
+use Rattle.std.specs.List.{list_any}
 use Rattle.block_disk.specs.Device.{Device, Image, Moment}
 use Rattle.atomic_sectors.specs.Left.{AlwaysWhole}
 use Rattle.journal_batches.specs.declared.areas.Areas.{Areas}
@@ -12,6 +13,17 @@ use Rattle.disk_journal.specs.Steps.{AreWordPlaces}
 -- byte i lies in the word at one of these places
 abbrev pub Touches : List ℕ → (i : ℕ) → Type 0
 Touches places i = Any (λ place. (place ≤ i) × (i < place + 8)) places
+
+-- how many of an image's first n words are at these places, each counted once
+abbrev pub words_among : (n : ℕ) → List ℕ → ℕ
+words_among zero places = 0
+words_among (suc n) places = (if list_any (λ place. place == n * 8) places then 1 else 0) + words_among n places
+
+-- no entry is there yet, of so many for which there is memory, and those are enough
+pub record HasRoom (enough : ℕ) (entries : List Entry) (count capacity : ℕ) : Type 0 where
+  pub none : entries ≡ []
+  pub zero : count ≡ 0
+  pub room : enough ≤ capacity
 
 -- each of them is a word's place within the image
 abbrev pub AreWithin : (size : ℕ) → List ℕ → Type 0

@@ -11,6 +11,12 @@ label_bytes a = (77 ∷ 79 ∷ 78 ∷ 73 ∷ 72 ∷ 65 ∷ 76 ∷ 70 ∷ []) ++ 
 abbrev pub HasLabel : Areas → List ℕ → Type 0
 HasLabel a bytes = take 24 bytes ≡ label_bytes a
 
+-- with this label, whose numbers have eight bytes
+pub record IsLabelled (a : Areas) (bytes : List ℕ) : Type 0 where
+  pub half : a.half < 2 ^ 64
+  pub image : a.image < 2 ^ 64
+  pub label : HasLabel a bytes
+
 -- they begin with no label
 abbrev pub HasNoLabel : List ℕ → Type 0
 HasNoLabel bytes = (a : Areas) → a.half < 2 ^ 64 → a.image < 2 ^ 64 → take 24 bytes ≢ label_bytes a

@@ -1,5 +1,5 @@
 -- What writes to a journaled device keep, whatever they are a part of (this project's own).
-use Rattle.std.specs.Prelude.{◌≡◌, ℕ, ◌*◌, ◌/◌, ◌≤◌, Bool, List, length, All}
+use Rattle.std.specs.Prelude.{◌≡◌, ℕ, ◌+◌, ◌*◌, ◌/◌, ◌<◌, ◌≤◌, Bool, List, length, All, Any}
 use Rattle.block_disk.specs.Bytes.{part}
 use Rattle.block_disk.specs.Device.{Device}
 use Rattle.atomic_sectors.specs.Left.{Reads}
@@ -21,6 +21,14 @@ HasInHalf a second content bytes = part (half_at a second) (length content) byte
 -- it has this image in the image's place
 abbrev pub HasHome : Areas → (image bytes : List ℕ) → Type 0
 HasHome a image bytes = home_of a bytes ≡ image
+
+-- byte i was written since the last sync that succeeded
+abbrev pub IsPending : (i : ℕ) → Device → Type 0
+IsPending i d = Any (λ r. (r.start ≤ i) × (i < r.start + r.len)) d.now.pending
+
+-- each of these n bytes was
+abbrev pub ArePending : (at n : ℕ) → Device → Type 0
+ArePending at n d = (i : ℕ) → at ≤ i → i < at + n → IsPending i d
 
 -- each of these places is a word's: a multiple of eight
 abbrev pub AreWordPlaces : List Entry → Type 0

@@ -7,9 +7,9 @@ ghost use Rattle.block_disk.specs.declared.error.DiskError.TheVariants.{Fault, O
 ghost use Rattle.atomic_sectors.specs.Left.{AlwaysWhole, LeavesWhole, MakesSyncs};
 ghost use Rattle.journal_batches.specs.Areas.{image_bytes, room_of};
 ghost use Rattle.journal_batches.specs.Shown.{shown};
-ghost use Rattle.disk_journal.specs.Disks.{FitsBatch, IsSettled, SameBelow, ShowsDisk, ShowsOldOrNew};
+ghost use Rattle.disk_journal.specs.Disks.{FitsBatch, IsSettled, IsSpent, SameBelow, ShowsDisk, ShowsOldOrNew};
 ghost use Rattle.disk_journal.specs.Labels.{HasLabel, HasNoLabel};
-ghost use Rattle.disk_journal.specs.Opened.{IsOpened, TellsWhy};
+ghost use Rattle.disk_journal.specs.Opened.{IsOpened, TellsWhy, WritesAgain, WritesAgainFirst};
 ghost use Rattle.disk_journal.specs.Refusals.{IsRefused, IsUntouched, LacksRoom, RefusesRead, RefusesWrite, StandsThrough};
 ghost use Rattle.disk_journal.specs.Stands.{IsMadeOrNone, StandsStill};
 ghost use Rattle.disk_journal.specs.declared.error.JournalError.TheVariants.{Fault as JournalFault, NoJournal, TooSmall};
@@ -19,8 +19,8 @@ use crate::label::has_room;
 use crate::making::make_journal;
 use crate::opening::{Opened, open_journal};
 use crate::pages::PAGE;
-use crate::syncing::{go_on, touched_words};
-use crate::touching::touch;
+use crate::syncing::{gather, go_on};
+use crate::touching::note_write;
 use atomic_sectors::UntornDisk;
 use block_disk::{Disk, DiskError, Trace, copy_out, fail, lies_within, put};
 use journal_batches::{Areas, Entry, replay_law};
@@ -34,11 +34,10 @@ const LAST_STAMP: u64 = u64::MAX - 3;
 ///
 /// Its bytes are in memory. A sync makes one flush, if the words written since the last one fit into a batch; else three, and then a crash may leave any of them.
 ///
-/// A `Fault` is one of the device in a sync, want of memory, or the end of the numbers of batches. After one of the device the disk writes no more: each later
-/// write and sync is a `Fault`, until the device is opened again.
+/// A `Fault` of a write is want of memory, and one of a sync a fault of the device, or the end of the numbers of batches after 2^62 syncs or more. After one of
+/// the device the disk writes no more: each later write and sync is a `Fault`, until the device is opened again.
 #[derive(Drop)]
 pub struct Journaled<D: UntornDisk + Drop> {
-    alloc: Global,
     disk: D,
     areas: Areas,
     image: Vec<u8>,
@@ -46,24 +45,27 @@ pub struct Journaled<D: UntornDisk + Drop> {
     second: bool,
     stamp: u64,
     last: Vec<Entry>,
-    // Where words were written since.
+    // Where words were written since, and memory for as many entries.
     touched: Vec<u64>,
+    next: Vec<Entry>,
     is_over: bool,
     failures: u64,
     trace: Trace,
 }
 
 impl<D: UntornDisk + Drop> Model for Journaled<D> {
-    ghost use Rattle.std.specs.Prelude.{length};
+    ghost use Rattle.std.specs.Prelude.{◌≡◌, ◌*◌, false};
+    ghost use Rattle.std.specs.Vec.{vec_capacity, vec_len};
     ghost use Rattle.disk_journal.specs.Disks.{Layered};
-    ghost use Rattle.disk_journal.specs.Kept.{IsKept};
+    ghost use Rattle.disk_journal.specs.Kept.{HasRoom, IsKept, words_among};
     ghost use Rattle.block_disk.specs.Traced.{failing};
 
     ghost Value = { Layered };
 
-    ghost view = { λ d. record { device = failing d.failures d.trace.past.device; disk = D.device d.disk; areas = d.areas; waiting = length d.touched.items; is_over = d.is_over } };
+    ghost view = { λ d. record { device = failing d.failures d.trace.past.device; disk = D.device d.disk; areas = d.areas; waiting = words_among (d.areas.image * 512) d.touched.items; stamp = d.stamp; is_over = d.is_over } };
 
-    ghost invariant = { λ d. IsKept d.areas d.second d.stamp d.last.items d.touched.items d.is_over d.image.items d.trace.past.device.now (D.device d.disk) };
+    ghost invariant = { λ d. IsKept d.areas d.second d.stamp d.last.items d.touched.items d.is_over d.image.items d.trace.past.device.now (D.device d.disk)
+        × (d.is_over ≡ false → HasRoom (vec_len d.touched) d.next.items (vec_len d.next) (vec_capacity d.next)) };
 }
 
 impl<D: UntornDisk + Drop> Journaled<D> {
@@ -81,10 +83,17 @@ impl<D: UntornDisk + Drop> Journaled<D> {
         ensures room { IfOk result (λ opened. room_of opened.areas ≤ length (D.device disk).now.bytes) }
         ensures settled { IfOk result IsSettled }
         ensures works { IfOk result (λ opened. opened.is_over ≡ false) }
+        ensures stamp { IfOk result (λ opened. opened.stamp < 2 ^ 63 + 2) }
         // A crash at any moment of an opening leaves what stands for the same image.
         ensures left { IfOk result (λ opened. StandsThrough (D.device disk) opened.disk) }
         // So does a crash at any moment of one that is refused.
         ensures refused { IfErr result (λ back. StandsThrough (D.device disk) (D.device back.0)) }
+        // Before its first flush an opening has written again what it trusts, for a flush that has failed before may have left that in a cache alone.
+        ensures again { IfOk result (λ opened. WritesAgain opened.areas (D.device disk) opened.disk) }
+        // So has one that is refused, if it came to a flush.
+        ensures first { IfErr result (λ back. WritesAgainFirst (D.device disk) (D.device back.0)) }
+        // An opening makes three flushes.
+        ensures three_syncs { IfOk result (λ opened. MakesSyncs 3 (D.device disk) opened.disk) }
         // A refusal says why.
         ensures why { IfErr result (λ back. TellsWhy back.1 (D.device disk).now.bytes) }
         // A device without a label isn't opened.
@@ -116,6 +125,7 @@ impl<D: UntornDisk + Drop> Journaled<D> {
         ensures label { IfOk result (λ made. HasLabel areas made.disk.now.bytes) }
         ensures settled { IfOk result IsSettled }
         ensures works { IfOk result (λ made. made.is_over ≡ false) }
+        ensures stamp { IfOk result (λ made. made.stamp ≡ 2) }
         // A making that is cut off leaves no label, or the disk of zeros, whatever label the device had.
         ensures left { IfOk result (λ made. (D.device disk).now.pending ≡ [] → LeavesWhole (D.device disk) made.disk (IsMadeOrNone areas)) }
         ensures refused { IfErr result (λ back. (D.device disk).now.pending ≡ [] → LeavesWhole (D.device disk) (D.device back.0) (IsMadeOrNone areas)) }
@@ -157,10 +167,10 @@ impl<D: UntornDisk + Drop> Journaled<D> {
         ensures areas { result.areas ≡ opened.areas }
         ensures waiting { result.waiting ≡ 0 }
         ensures works { result.is_over ≡ false }
+        ensures stamp { result.stamp ≡ opened.stamp }
     {
         let trace = Trace::of(&opened.image);
         Journaled {
-            alloc,
             disk,
             areas: opened.areas,
             image: opened.image,
@@ -168,6 +178,7 @@ impl<D: UntornDisk + Drop> Journaled<D> {
             stamp: opened.stamp,
             last: Vec::new(alloc),
             touched: Vec::new(alloc),
+            next: Vec::new(alloc),
             is_over: false,
             failures: 0,
             trace,
@@ -225,6 +236,7 @@ impl<D: UntornDisk + Drop> Disk for Journaled<D> {
         ensures no_fault { ¬ IsErrOf result Fault }
         ensures below { SameBelow self.old self.new }
         ensures waiting { self.new.waiting ≡ self.old.waiting }
+        ensures stamp { self.new.stamp ≡ self.old.stamp }
     {
         if !lies_within(at, out.len(), self.image.len()) {
             return Err(DiskError::OutOfRange);
@@ -249,6 +261,7 @@ impl<D: UntornDisk + Drop> Disk for Journaled<D> {
         ensures waiting { self.new.waiting ≤ self.old.waiting + (length bytes.now / 8 + 2) }
         // One that fails leaves what waits.
         ensures unchanged { ¬ IsOk result → self.new.waiting ≡ self.old.waiting }
+        ensures stamp { self.new.stamp ≡ self.old.stamp }
         // A disk that writes no more says so.
         ensures over { self.old.is_over ≡ true → ¬ IsOk result }
     {
@@ -258,7 +271,14 @@ impl<D: UntornDisk + Drop> Disk for Journaled<D> {
         if self.is_over {
             return Err(fail(&mut self.failures));
         }
-        if !touch(&mut self.touched, at, bytes.len(), self.image.len()) {
+        let is_noted = note_write(
+            &mut self.touched,
+            &mut self.next,
+            at,
+            bytes.len(),
+            self.image.len(),
+        );
+        if !is_noted {
             return Err(fail(&mut self.failures));
         }
         put(&mut self.image, at, bytes);
@@ -279,8 +299,18 @@ impl<D: UntornDisk + Drop> Disk for Journaled<D> {
         ensures old_or_new { FitsBatch self.old → self.old.is_over ≡ false → LeavesWhole self.old.disk self.new.disk (ShowsOldOrNew self.old) }
         // And then a sync makes one flush.
         ensures one_sync { FitsBatch self.old → OnOk result (MakesSyncs 1 self.old.disk self.new.disk) }
+        // Else it makes three.
+        ensures three_syncs { ¬ FitsBatch self.old → OnOk result (MakesSyncs 3 self.old.disk self.new.disk) }
+        // No call of a sync that succeeds has failed.
+        ensures steady { OnOk result (self.new.disk.failures ≡ self.old.disk.failures) }
         // After a sync all is durable.
         ensures settled { OnOk result (IsSettled self.new) }
+        // A sync fails only where a call of the device has failed, in it or before, or once the numbers of batches have come to their end.
+        ensures why { ¬ IsOk result → (self.old.is_over ≡ true) ⊎ HasFailedSince self.old.disk self.new.disk ⊎ IsSpent self.old }
+        // The disk writes no more only after a call of the device has failed.
+        ensures ends { self.old.is_over ≡ false → self.new.is_over ≡ true → HasFailedSince self.old.disk self.new.disk }
+        // A sync takes two numbers of batches at most.
+        ensures stamp { self.new.stamp ≤ self.old.stamp + 2 }
         // A sync that fails leaves what waits, and has called nothing if the disk writes on.
         ensures unchanged { ¬ IsOk result → (self.new.waiting ≡ self.old.waiting) × (self.new.is_over ≡ false → SameBelow self.old self.new) }
         ensures areas { self.new.areas ≡ self.old.areas }
@@ -291,10 +321,7 @@ impl<D: UntornDisk + Drop> Disk for Journaled<D> {
         if self.is_over || self.stamp >= LAST_STAMP {
             return Err(fail(&mut self.failures));
         }
-        let next = match touched_words(self.alloc, &mut self.touched, &self.image) {
-            Ok(next) => next,
-            Err(_) => return Err(fail(&mut self.failures)),
-        };
+        gather(&mut self.touched, &self.image, &mut self.next);
         replay_law();
         match go_on(
             &mut self.disk,
@@ -302,7 +329,7 @@ impl<D: UntornDisk + Drop> Disk for Journaled<D> {
             &mut self.second,
             &mut self.stamp,
             &mut self.last,
-            next,
+            &mut self.next,
         ) {
             Ok(()) => {}
             Err(_) => {

@@ -28,7 +28,7 @@ pub fn label_areas(bytes: &[u8]) -> Option<Areas>
 }
 
 // The number in the eight bytes from `at` on.
-fn number_at(bytes: &[u8], at: usize) -> u64
+pub(crate) fn number_at(bytes: &[u8], at: usize) -> u64
     requires { at + 8 ≤ length bytes.now }
     ensures { to_be_bytes w64 result ≡ part at 8 bytes.now }
 {
@@ -59,7 +59,7 @@ pub(crate) fn sector_of(areas: Areas) -> [u8; 512]
 }
 
 /// Whether a device of so many bytes has room for these parts, and a half a page.
-pub(crate) fn has_room(areas: Areas, size: u64) -> bool
+pub fn has_room(areas: Areas, size: u64) -> bool
     ensures { IsTrue result ↔ ((room_of areas ≤ size) × (1 ≤ areas.half)) }
 {
     let pages = size / 4096;

@@ -16,4 +16,4 @@ mod touching;
 
 pub use error::JournalError;
 pub use journaled::Journaled;
-pub use label::{LABEL_BYTES, label_areas};
+pub use label::{LABEL_BYTES, has_room, label_areas};

@@ -1,9 +1,9 @@
 //! Finding what a journaled device stands for.
-ghost use Rattle.std.specs.Prelude.{◌≡◌, ◌⊎◌, ◌+◌, ◌*◌, ◌/◌, ◌^◌, ◌<◌, ◌≤◌, ℕ, List, All, IfErr, IfOk, IfSome, IsErrOf, IsFalse, IsTrue, OnErr, OnOk, if◌then◌else◌, length, not};
+ghost use Rattle.std.specs.Prelude.{◌≡◌, ◌⊎◌, ◌+◌, ◌*◌, ◌/◌, ◌^◌, ◌<◌, ◌≤◌, ℕ, List, All, IfErr, IfOk, IfSome, IsErrOf, IsFalse, IsTrue, OnErr, OnOk, if◌then◌else◌, length, not, true};
 ghost use Rattle.block_disk.specs.Bytes.{part};
 ghost use Rattle.block_disk.specs.Device.{SameMoments};
 ghost use Rattle.block_disk.specs.Since.{HasFailedSince};
-ghost use Rattle.atomic_sectors.specs.Left.{LeavesWhole};
+ghost use Rattle.atomic_sectors.specs.Left.{LeavesWhole, MakesSyncs, Reads};
 ghost use Rattle.journal_batches.specs.Areas.{half_bytes, half_of, home_of, image_bytes, room_of};
 ghost use Rattle.journal_batches.specs.Batches.{StampsUpTo, batch_in};
 ghost use Rattle.journal_batches.specs.Coded.{HasStamp, IsBatchOf, batch_of};
@@ -11,7 +11,7 @@ ghost use Rattle.journal_batches.specs.Entries.{AreOf, DifferWithin};
 ghost use Rattle.journal_batches.specs.Shown.{is_second_newest, shown, under, under_both};
 ghost use Rattle.disk_journal.specs.Kept.{AreWithin, Touches};
 ghost use Rattle.disk_journal.specs.Labels.{HasLabel, HasNoLabel};
-ghost use Rattle.disk_journal.specs.Opened.{AreRead, IsChosen, IsOpened, IsUnchosen, LiesInBatch, LiesWithin, TellsWhy, batch_of_found};
+ghost use Rattle.disk_journal.specs.Opened.{AreRead, HasNoWords, IsChosen, IsOpened, IsPlanned, IsUnchosen, LiesInBatch, LiesWithin, TellsWhy, WritesAgain, WritesAgainFirst, batch_bytes, batch_of_found};
 ghost use Rattle.disk_journal.specs.Refusals.{IsUntouched, StandsThrough};
 ghost use Rattle.disk_journal.specs.Stands.{IsAllHome, StandsStill};
 ghost use Rattle.disk_journal.specs.Steps.{AreWordPlaces};
@@ -19,7 +19,7 @@ ghost use Rattle.disk_journal.specs.declared.error.JournalError.TheVariants.{Fau
 
 use crate::error::JournalError;
 use crate::label::{LABEL_BYTES, has_room, label_areas};
-use crate::pages::{PAGE, flush, half_place, write_again};
+use crate::pages::{PAGE, flush, half_place, image_place, write_again};
 use crate::settling::clear;
 use crate::touching::touch;
 use atomic_sectors::UntornDisk;
@@ -52,11 +52,13 @@ pub(crate) struct Batches {
     pub second: Option<Found>,
 }
 
-// What is to be done: which half has the newest batch, and how many pages of it; the latest stamp; and the words to bring to their places.
+// What is to be done: which half has the newest batch, how many pages of it, and whether it has no words; the latest stamp; and the words to bring to their
+// places.
 #[derive(Drop)]
 pub(crate) struct Choice {
     pub second: bool,
     pub pages: usize,
+    pub is_empty: bool,
     pub top: u64,
     pub entries: Vec<Entry>,
 }
@@ -64,8 +66,8 @@ pub(crate) struct Choice {
 // From this stamp on a journal is worn out.
 const WORN: u64 = 1 << 63;
 
-/// Finds the image, brings it to its place, and clears the journal: by three flushes. The newest batch is written again before the first one, for what
-/// was read of it the device may lack, if a flush has failed in another process. Memory is taken before anything is written.
+/// Finds the image, brings it to its place, and clears the journal: by three flushes. What is trusted is written again before the first one, for the device
+/// may lack what was read, if a flush has failed in another process. Memory is taken before anything is written.
 pub(crate) fn open_journal<D: UntornDisk>(
     alloc: Global,
     disk: &mut D,
@@ -74,6 +76,10 @@ pub(crate) fn open_journal<D: UntornDisk>(
     ensures room { IfOk result (λ opened. room_of opened.areas ≤ length (D.device disk.old).now.bytes) }
     ensures image { IfOk result (λ opened. opened.image.items ≡ shown opened.areas (D.device disk.old).now.bytes) }
     ensures home { IfOk result (λ opened. IsOpened opened (D.device disk.new)) }
+    ensures again { IfOk result (λ opened. WritesAgain opened.areas (D.device disk.old) (D.device disk.new)) }
+    ensures stamp { IfOk result (λ opened. opened.stamp < 2 ^ 63 + 2) }
+    ensures first { WritesAgainFirst (D.device disk.old) (D.device disk.new) }
+    ensures syncs { OnOk result (MakesSyncs 3 (D.device disk.old) (D.device disk.new)) }
     // An opening's device stands for the same image at each moment, however the opening ends.
     ensures left { StandsThrough (D.device disk.old) (D.device disk.new) }
     // A refusal says why.
@@ -130,6 +136,10 @@ fn open_areas<D: UntornDisk>(
     ensures areas { IfOk result (λ opened. opened.areas ≡ areas) }
     ensures image { IfOk result (λ opened. opened.image.items ≡ shown areas (D.device disk.old).now.bytes) }
     ensures home { IfOk result (λ opened. IsOpened opened (D.device disk.new)) }
+    ensures again { IfOk result (λ opened. WritesAgain opened.areas (D.device disk.old) (D.device disk.new)) }
+    ensures stamp { IfOk result (λ opened. opened.stamp < 2 ^ 63 + 2) }
+    ensures first { MakesSyncs 0 (D.device disk.old) (D.device disk.new) ⊎ WritesAgain areas (D.device disk.old) (D.device disk.new) }
+    ensures syncs { OnOk result (MakesSyncs 3 (D.device disk.old) (D.device disk.new)) }
     ensures left { LeavesWhole (D.device disk.old) (D.device disk.new) (StandsStill areas (D.device disk.old).now.bytes) }
     ensures why { IfErr result (λ why. TellsWhy why (D.device disk.old).now.bytes) }
     ensures untouched { IfErr result (λ why. IsUntouched why (D.device disk.old) (D.device disk.new)) }
@@ -150,7 +160,7 @@ fn open_areas<D: UntornDisk>(
         Ok(choice) => choice,
         Err(why) => return Err(why),
     };
-    match bring(disk, areas, &halves, &choice) {
+    match bring(disk, areas, &choice) {
         Ok(()) => {}
         Err(_) => return Err(JournalError::Fault),
     }
@@ -234,14 +244,11 @@ fn choose(alloc: Global, halves: &Halves, image: &mut Vec<u8>) -> Result<Choice,
         return Err(JournalError::NoMemory);
     };
     let second = is_second(&batches);
-    let pages = if second {
-        pages_in(&batches.second)
-    } else {
-        pages_in(&batches.first)
-    };
+    let newest = batch_held(&batches, second);
     Ok(Choice {
         second,
-        pages,
+        pages: pages_in(newest),
+        is_empty: has_no_words(newest),
         top,
         entries,
     })
@@ -270,13 +277,35 @@ fn is_second(batches: &Batches) -> bool
     }
 }
 
+// The batch of a half.
+fn batch_held(batches: &Batches, second: bool) -> &Option<Found>
+    ensures { result.now ≡ (if second then batches.now.second else batches.now.first) }
+{
+    if second {
+        &batches.second
+    } else {
+        &batches.first
+    }
+}
+
 // How many pages a batch takes; none, if there is none.
 fn pages_in(found: &Option<Found>) -> usize
-    ensures { (half : List ℕ) (n : ℕ) → length half ≡ n * 4096 → IsBatchOf half found.now → result ≤ n }
+    ensures is { result * 4096 ≡ batch_bytes (batch_of_found found.now) }
+    ensures fits { (half : List ℕ) (n : ℕ) → length half ≡ n * 4096 → IsBatchOf half found.now → result ≤ n }
 {
     match found {
         None => 0,
         Some(batch) => pages_of(batch.entries.len()),
+    }
+}
+
+// Whether there is no batch, or it has no words.
+fn has_no_words(found: &Option<Found>) -> bool
+    ensures { HasNoWords (batch_of_found found.now) → result ≡ true }
+{
+    match found {
+        None => true,
+        Some(batch) => batch.entries.len() == 0,
     }
 }
 
@@ -374,40 +403,46 @@ fn note_word(places: &mut Vec<u64>, entry: Entry, size: usize) -> bool
     touch(places, entry.at, 8, size)
 }
 
-// Brings the image to its place, and clears the journal. What was read of the newest batch is written again first.
+// Brings the image to its place, and clears the journal. What is trusted is written again first.
 fn bring<D: UntornDisk>(
     disk: &mut D,
     areas: Areas,
-    halves: &Halves,
     choice: &Choice,
 ) -> Result<(), block_disk::Fault>
     requires room { room_of areas ≤ length (D.device disk.old).now.bytes }
     requires half { 1 ≤ areas.half }
-    requires read { AreRead areas halves.now (home_of areas (D.device disk.old).now.bytes) (D.device disk.old).now.bytes }
-    requires chosen { IsChosen halves.now (home_of areas (D.device disk.old).now.bytes) (shown areas (D.device disk.old).now.bytes) choice.now }
+    requires planned { IsPlanned areas (D.device disk.old).now.bytes choice.now }
+    ensures again { OnOk result (WritesAgain areas (D.device disk.old) (D.device disk.new)) }
+    ensures first { MakesSyncs 0 (D.device disk.old) (D.device disk.new) ⊎ WritesAgain areas (D.device disk.old) (D.device disk.new) }
+    ensures syncs { OnOk result (MakesSyncs 3 (D.device disk.old) (D.device disk.new)) }
     ensures left { LeavesWhole (D.device disk.old) (D.device disk.new) (StandsStill areas (D.device disk.old).now.bytes) }
     ensures image { OnOk result (shown areas (D.device disk.new).now.bytes ≡ shown areas (D.device disk.old).now.bytes) }
     ensures home { OnOk result (IsAllHome areas (not choice.now.second) (choice.now.top + 2) (D.device disk.new)) }
     ensures cause { OnErr result (HasFailedSince (D.device disk.old) (D.device disk.new)) }
 {
-    write_again(
-        disk,
-        areas,
-        choice.second,
-        half_held(halves, choice.second),
-        choice.pages,
-    )?;
+    write_trusted(disk, areas, choice)?;
     flush(disk)?;
     clear(disk, areas, choice.second, choice.top, &choice.entries)
 }
 
-// What a half holds.
-fn half_held(halves: &Halves, second: bool) -> &[u8]
-    ensures { result.now ≡ (if second then halves.now.second.items else halves.now.first.items) }
+// Writes again what is trusted, as it reads: the label, the newest batch, and the image if that batch has no words. A batch with words is written only while
+// the image is durable, but for words that the batches replay. After an empty batch words may have gone to the image past the journal.
+fn write_trusted<D: UntornDisk>(
+    disk: &mut D,
+    areas: Areas,
+    choice: &Choice,
+) -> Result<(), block_disk::Fault>
+    requires room { room_of areas ≤ length (D.device disk.old).now.bytes }
+    requires planned { IsPlanned areas (D.device disk.old).now.bytes choice.now }
+    ensures again { OnOk result (WritesAgain areas (D.device disk.old) (D.device disk.new)) }
+    ensures reads { Reads (λ bytes. bytes ≡ (D.device disk.old).now.bytes) (D.device disk.old) (D.device disk.new) }
+    ensures syncs { MakesSyncs 0 (D.device disk.old) (D.device disk.new) }
+    ensures steady { OnOk result ((D.device disk.new).failures ≡ (D.device disk.old).failures) }
+    ensures cause { OnErr result (HasFailedSince (D.device disk.old) (D.device disk.new)) }
 {
-    if second {
-        &halves.second
-    } else {
-        &halves.first
-    }
+    let _size = disk.size();
+    write_again(disk, 0, 1)?;
+    write_again(disk, half_place(areas, choice.second), choice.pages)?;
+    let pages = if choice.is_empty { areas.image } else { 0 };
+    write_again(disk, image_place(areas), pages)
 }

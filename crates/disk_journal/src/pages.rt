@@ -1,13 +1,13 @@
 //! The pages of a journaled device: each is written whole, by one call.
-ghost use Rattle.std.specs.Prelude.{◌≡◌, ◌+◌, ◌*◌, ◌/◌, ◌^◌, ◌<◌, ◌≤◌, All, List, ℕ, length, take, OnErr, OnOk};
+ghost use Rattle.std.specs.Prelude.{◌≡◌, ◌+◌, ◌*◌, ◌/◌, ◌^◌, ◌<◌, ◌≤◌, ◌∷◌, All, List, ℕ, length, take, OnErr, OnOk};
 ghost use Rattle.block_disk.specs.Bytes.{part, spliced};
 ghost use Rattle.block_disk.specs.Device.{SameMoments, synced};
 ghost use Rattle.block_disk.specs.Since.{HasFailedSince};
 ghost use Rattle.atomic_sectors.specs.Left.{MakesSyncs, Reads};
-ghost use Rattle.journal_batches.specs.Areas.{half_at, half_of, home_of, image_at, image_bytes, room_of, with_half, with_home};
+ghost use Rattle.journal_batches.specs.Areas.{half_at, home_of, image_at, image_bytes, room_of, with_half, with_home};
 ghost use Rattle.journal_batches.specs.Entries.{AreOf, replayed};
 ghost use Rattle.journal_batches.specs.Spelled.{CanSpell, pages_for, spelled};
-ghost use Rattle.disk_journal.specs.Steps.{AreWordPlaces, BringsHome, HasHome, HasInHalf, StaysBetween};
+ghost use Rattle.disk_journal.specs.Steps.{ArePending, AreWordPlaces, BringsHome, HasHome, HasInHalf, IsPending, StaysBetween};
 
 use atomic_sectors::UntornDisk;
 use block_disk::{Disk, Fault, overwrite, read_within};
@@ -88,35 +88,35 @@ fn write_page<D: UntornDisk>(
     disk.write_untorn(half_place(areas, second) + (page * PAGE) as u64, &bytes)
 }
 
-/// Writes these pages of a half again, as they were read.
-pub(crate) fn write_again<D: UntornDisk>(
-    disk: &mut D,
-    areas: Areas,
-    second: bool,
-    half: &[u8],
-    pages: usize,
-) -> Result<(), Fault>
-    requires room { room_of areas ≤ length (D.device disk.old).now.bytes }
-    requires within { pages * 4096 ≤ length half.now }
-    requires same { half.now ≡ half_of areas second (D.device disk.old).now.bytes }
+/// Writes so many pages from `at` on again, as they read.
+pub(crate) fn write_again<D: UntornDisk>(disk: &mut D, at: u64, pages: usize) -> Result<(), Fault>
+    requires fits { at + pages * 4096 ≤ length (D.device disk.old).now.bytes }
     ensures reads { Reads (λ bytes. bytes ≡ (D.device disk.old).now.bytes) (D.device disk.old) (D.device disk.new) }
+    ensures pending { OnOk result (ArePending at (pages * 4096) (D.device disk.new)) }
+    ensures others { OnOk result ((i : ℕ) → IsPending i (D.device disk.old) → IsPending i (D.device disk.new)) }
+    ensures syncs { MakesSyncs 0 (D.device disk.old) (D.device disk.new) }
     ensures steady { OnOk result ((D.device disk.new).failures ≡ (D.device disk.old).failures) }
     ensures cause { OnErr result (HasFailedSince (D.device disk.old) (D.device disk.new)) }
 {
     let _size = disk.size();
-    let at = half_place(areas, second);
     for page in 0..pages {
-        disk.write_untorn(at + (page * PAGE) as u64, page_in(half, page))?;
+        write_page_again(disk, at + (page * PAGE) as u64)?;
     }
     Ok(())
 }
 
-// A page of a half.
-fn page_in(half: &[u8], page: usize) -> &[u8]
-    requires { page * 4096 + 4096 ≤ length half.now }
-    ensures { result.now ≡ part (page * 4096) 4096 half.now }
+// Writes a page again, as it reads.
+fn write_page_again<D: UntornDisk>(disk: &mut D, at: u64) -> Result<(), Fault>
+    requires fits { at + 4096 ≤ length (D.device disk.old).now.bytes }
+    ensures reads { Reads (λ bytes. bytes ≡ (D.device disk.old).now.bytes) (D.device disk.old) (D.device disk.new) }
+    ensures pending { OnOk result ((D.device disk.new).now.pending ≡ record { start = at; len = 4096 } ∷ (D.device disk.old).now.pending) }
+    ensures syncs { MakesSyncs 0 (D.device disk.old) (D.device disk.new) }
+    ensures steady { OnOk result ((D.device disk.new).failures ≡ (D.device disk.old).failures) }
+    ensures cause { OnErr result (HasFailedSince (D.device disk.old) (D.device disk.new)) }
 {
-    &half[page * PAGE..page * PAGE + PAGE]
+    let mut bytes = [0u8; PAGE];
+    read_within(disk, at, &mut bytes)?;
+    disk.write_untorn(at, &bytes)
 }
 
 /// Puts the words of these entries, which are in the order of their places, to where the image lies: each page is read, and written once.
@@ -191,8 +191,8 @@ fn bring_page<D: UntornDisk>(
     disk.write_untorn(at, &bytes)
 }
 
-// Where the image begins.
-fn image_place(areas: Areas) -> u64
+/// Where the image begins.
+pub(crate) fn image_place(areas: Areas) -> u64
     requires { room_of areas < 2 ^ 64 }
     ensures { result ≡ image_at areas }
 {

@@ -34,6 +34,8 @@ pub(crate) fn turn<D: UntornDisk>(
     ensures rest { OnOk result (IsAtRest areas (not second) (suc stamp) next.now (D.device disk.new)) }
     // A turn makes one flush.
     ensures one_sync { OnOk result (MakesSyncs 1 (D.device disk.old) (D.device disk.new)) }
+    // No call of one that succeeds has failed.
+    ensures steady { OnOk result ((D.device disk.new).failures ≡ (D.device disk.old).failures) }
     ensures cause { OnErr result (HasFailedSince (D.device disk.old) (D.device disk.new)) }
 {
     write_batch(disk, areas, !second, stamp + 1, next)?;
@@ -60,6 +62,7 @@ pub(crate) fn clear<D: UntornDisk>(
     ensures left { LeavesWhole (D.device disk.old) (D.device disk.new) (StandsStill areas (D.device disk.old).now.bytes) }
     ensures image { OnOk result (shown areas (D.device disk.new).now.bytes ≡ shown areas (D.device disk.old).now.bytes) }
     ensures home { OnOk result (IsAllHome areas (not second) (top + 2) (D.device disk.new)) }
+    ensures two_syncs { OnOk result (MakesSyncs 2 (D.device disk.old) (D.device disk.new)) }
     ensures steady { OnOk result ((D.device disk.new).failures ≡ (D.device disk.old).failures) }
     ensures cause { OnErr result (HasFailedSince (D.device disk.old) (D.device disk.new)) }
 {
@@ -86,6 +89,8 @@ pub(crate) fn pass<D: UntornDisk>(
         → OnOk result (shown areas (D.device disk.new).now.bytes ≡ image) }
     ensures home { (image : List ℕ) → BringsHome areas image entries.now (D.device disk.old)
         → OnOk result (IsAllHome areas second stamp (D.device disk.new)) }
+    ensures one_sync { OnOk result (MakesSyncs 1 (D.device disk.old) (D.device disk.new)) }
+    ensures steady { OnOk result ((D.device disk.new).failures ≡ (D.device disk.old).failures) }
     ensures cause { OnErr result (HasFailedSince (D.device disk.old) (D.device disk.new)) }
 {
     bring_home(disk, areas, entries)?;

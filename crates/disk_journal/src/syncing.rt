@@ -1,42 +1,70 @@
 //! A sync of a journaled disk, over its parts.
-ghost use Rattle.std.specs.Prelude.{◌≡◌, ◌+◌, ◌^◌, ◌<◌, ◌≤◌, not, [], ℕ, length, IfOk, OnErr, OnOk};
+ghost use Rattle.std.specs.Prelude.{◌≡◌, ◌+◌, ◌/◌, ◌^◌, ◌<◌, ◌≤◌, ◌==◌, not, [], ℕ, length, slice_index, take, OnErr, OnOk};
+ghost use Rattle.std.specs.List.{list_any};
+ghost use Rattle.std.specs.List.Sorted.{IsNonDecreasing};
+ghost use Rattle.std.specs.Vec.{vec_capacity, vec_len};
 ghost use Rattle.block_disk.specs.Since.{HasFailedSince};
 ghost use Rattle.atomic_sectors.specs.Left.{LeavesWhole, MakesSyncs};
 ghost use Rattle.journal_batches.specs.Entries.{AreOf, Covers, replayed};
 ghost use Rattle.journal_batches.specs.Shown.{shown};
 ghost use Rattle.journal_batches.specs.Spelled.{AreWords, pages_for};
-ghost use Rattle.disk_journal.specs.Kept.{AreWithin, Touches};
+ghost use Rattle.disk_journal.specs.Kept.{AreWithin, HasRoom, Touches, words_among};
 ghost use Rattle.disk_journal.specs.Stands.{IsAtRest, StandsMixed, StandsTurned};
 ghost use Rattle.disk_journal.specs.Steps.{AreWordPlaces};
 
+use crate::label::number_at;
 use crate::settling::{clear, pass, turn};
 use atomic_sectors::UntornDisk;
 use block_disk::Fault;
-use journal_batches::{Areas, Entry, entries_at, pages_of, replay_law, rests_law};
-use std::alloc::{AllocError, Global};
+use journal_batches::{Areas, Entry, pages_of, rests_law};
 use std::mem;
 
-/// Puts the places of touched words in order, and gives the image's words there.
-pub(crate) fn touched_words(
-    alloc: Global,
-    touched: &mut Vec<u64>,
-    image: &[u8],
-) -> Result<Vec<Entry>, AllocError>
-    requires { AreWithin (length image.now) touched.old.items }
+/// Puts the places of touched words in order, and the image's words there into a list that has room for them: each word once.
+pub(crate) fn gather(touched: &mut Vec<u64>, image: &[u8], next: &mut Vec<Entry>)
+    requires within { AreWithin (length image.now) touched.old.items }
+    requires room { HasRoom (vec_len touched.old) next.old.items (vec_len next.old) (vec_capacity next.old) }
     ensures within { AreWithin (length image.now) touched.new.items }
     // The same words are touched.
     ensures same { (i : ℕ) → Touches touched.old.items i → Touches touched.new.items i }
-    ensures many { length touched.new.items ≡ length touched.old.items }
-    ensures own { IfOk result (λ next. AreOf image.now next.items) }
-    ensures places { IfOk result (λ next. AreWordPlaces next.items) }
-    ensures all { IfOk result (λ next. (i : ℕ) → Touches touched.old.items i → Covers next.items i) }
-    ensures count { IfOk result (λ next. length next.items ≡ length touched.old.items) }
-    ensures words { IfOk result (λ next. AreWords next.items) }
+    ensures many { (n : ℕ) → words_among n touched.new.items ≡ words_among n touched.old.items }
+    ensures own { AreOf image.now next.new.items }
+    ensures places { AreWordPlaces next.new.items }
+    ensures all { (i : ℕ) → Touches touched.old.items i → Covers next.new.items i }
+    // A word that was written twice waits once.
+    ensures count { length next.new.items ≡ words_among (length image.now / 8) touched.old.items }
+    ensures words { AreWords next.new.items }
 {
     touched.sort_unstable();
-    let words = entries_at(alloc, image, touched)?;
-    words_law(&words);
-    Ok(words)
+    take_words(image, touched, next);
+    words_law(next);
+}
+
+// Puts the image's words at these places into a list that has room for them: each once.
+fn take_words(image: &[u8], places: &[u64], next: &mut Vec<Entry>)
+    requires sorted { IsNonDecreasing places.now }
+    requires within { AreWithin (length image.now) places.now }
+    requires room { HasRoom (length places.now) next.old.items (vec_len next.old) (vec_capacity next.old) }
+    ensures own { AreOf image.now next.new.items }
+    ensures places { AreWordPlaces next.new.items }
+    ensures all { (i : ℕ) → Touches places.now i → Covers next.new.items i }
+    ensures count { length next.new.items ≡ words_among (length image.now / 8) places.now }
+{
+    for i in 0..places.len() {
+        if is_new(places, i) {
+            let at = places[i];
+            let word = number_at(image, at as usize);
+            next.push_reserved(Entry { at, word });
+        }
+    }
+}
+
+// Whether the place isn't among those before it, which are in order.
+fn is_new(places: &[u64], i: usize) -> bool
+    requires within { i < length places.now }
+    requires sorted { IsNonDecreasing places.now }
+    ensures { list_any (λ place. place == slice_index places.now i) (take i places.now) ≡ not result }
+{
+    i == 0 || places[i - 1] != places[i]
 }
 
 // The numbers of entries are ones of eight bytes. Their type says so of each, and no clause of all, so this goes to each of them, and does nothing there.
@@ -71,6 +99,8 @@ fn go_past<D: UntornDisk>(
         (StandsMixed areas (replayed next.now (shown areas (D.device disk.old).now.bytes)) (D.device disk.old).now.bytes) }
     ensures image { OnOk result (shown areas (D.device disk.new).now.bytes ≡ replayed next.now (shown areas (D.device disk.old).now.bytes)) }
     ensures rest { OnOk result (IsAtRest areas (not second) (stamp + 2) [] (D.device disk.new)) }
+    ensures three_syncs { OnOk result (MakesSyncs 3 (D.device disk.old) (D.device disk.new)) }
+    ensures steady { OnOk result ((D.device disk.new).failures ≡ (D.device disk.old).failures) }
     ensures cause { OnErr result (HasFailedSince (D.device disk.old) (D.device disk.new)) }
 {
     rests_law();
@@ -85,43 +115,51 @@ pub(crate) fn go_on<D: UntornDisk>(
     second: &mut bool,
     stamp: &mut u64,
     last: &mut Vec<Entry>,
-    next: Vec<Entry>,
+    next: &mut Vec<Entry>,
 ) -> Result<(), Fault>
     requires rest { IsAtRest areas second.old stamp.old last.old.items (D.device disk.old) }
     requires places { AreWordPlaces last.old.items }
-    requires next { AreWordPlaces next.items }
-    requires own { AreOf (replayed next.items (shown areas (D.device disk.old).now.bytes)) next.items }
-    requires words { AreWords next.items }
+    requires next { AreWordPlaces next.old.items }
+    requires own { AreOf (replayed next.old.items (shown areas (D.device disk.old).now.bytes)) next.old.items }
+    requires words { AreWords next.old.items }
     requires stamp { stamp.old + 2 < 2 ^ 64 }
     // A crash at any moment of it leaves what stands for bytes of both images.
     ensures left { LeavesWhole (D.device disk.old) (D.device disk.new)
-        (StandsMixed areas (replayed next.items (shown areas (D.device disk.old).now.bytes)) (D.device disk.old).now.bytes) }
+        (StandsMixed areas (replayed next.old.items (shown areas (D.device disk.old).now.bytes)) (D.device disk.old).now.bytes) }
     // Where the words fit into a batch, it leaves what stands for the one image or for the other.
-    ensures turned { pages_for (length next.items) ≤ areas.half
-        → LeavesWhole (D.device disk.old) (D.device disk.new) (StandsTurned areas next.items (D.device disk.old).now.bytes) }
+    ensures turned { pages_for (length next.old.items) ≤ areas.half
+        → LeavesWhole (D.device disk.old) (D.device disk.new) (StandsTurned areas next.old.items (D.device disk.old).now.bytes) }
     // And then it makes one flush.
-    ensures one_sync { pages_for (length next.items) ≤ areas.half → OnOk result (MakesSyncs 1 (D.device disk.old) (D.device disk.new)) }
-    ensures image { OnOk result (shown areas (D.device disk.new).now.bytes ≡ replayed next.items (shown areas (D.device disk.old).now.bytes)) }
+    ensures one_sync { pages_for (length next.old.items) ≤ areas.half → OnOk result (MakesSyncs 1 (D.device disk.old) (D.device disk.new)) }
+    // Else it makes three.
+    ensures three_syncs { areas.half < pages_for (length next.old.items) → OnOk result (MakesSyncs 3 (D.device disk.old) (D.device disk.new)) }
+    ensures image { OnOk result (shown areas (D.device disk.new).now.bytes ≡ replayed next.old.items (shown areas (D.device disk.old).now.bytes)) }
     ensures rest { OnOk result (IsAtRest areas second.new stamp.new last.new.items (D.device disk.new)) }
     ensures places { OnOk result (AreWordPlaces last.new.items) }
+    // The next words become the last ones, and none is left.
+    ensures none { OnOk result ((next.new.items ≡ []) × (vec_len next.new ≡ 0)) }
+    ensures stamp { stamp.new ≤ stamp.old + 2 }
+    ensures steady { OnOk result ((D.device disk.new).failures ≡ (D.device disk.old).failures) }
     ensures cause { OnErr result (HasFailedSince (D.device disk.old) (D.device disk.new)) }
 {
     if pages_of(next.len()) <= areas.half {
-        match turn(disk, areas, *second, *stamp, last, &next) {
+        match turn(disk, areas, *second, *stamp, last, next) {
             Ok(()) => {}
             Err(_) => return Err(Fault),
         }
         *second = !*second;
         *stamp += 1;
-        *last = next;
+        mem::swap(last, next);
+        next.clear();
         return Ok(());
     }
-    match go_past(disk, areas, *second, *stamp, last, &next) {
+    match go_past(disk, areas, *second, *stamp, last, next) {
         Ok(()) => {}
         Err(_) => return Err(Fault),
     }
     *second = !*second;
     *stamp += 2;
     last.clear();
+    next.clear();
     Ok(())
 }

@@ -1,10 +1,9 @@
-use Rattle.std.proofs.Common.{◌≤◌, ◌∙◌, inr, ap, subst, List, ℕ, refl, length, arith}
+use Rattle.std.proofs.Common.{◌≤◌, ◌∙◌, inr, sym, ap, subst, List, ℕ, refl, length, arith}
 use Rattle.journal_batches.specs.Entries.{AreOf, DifferWithin}
 use Rattle.journal_batches.specs.Shown.{is_second_newest, under_both}
-use Rattle.disk_journal.specs.Opened.{batch_of_found}
-use Rattle.disk_journal.proofs.OpeningLemmas.{later_stamp, length_under, stamp_held, stamps_up}
+use Rattle.disk_journal.specs.Opened.{HasNoWords, batch_bytes, batch_of_found}
+use Rattle.disk_journal.proofs.OpeningLemmas.{found_held, held_fits, later_stamp, length_under, stamp_held, stamps_up}
 use Rattle.disk_journal.proofs.opening.choose.Goals as goal
-use Rattle.disk_journal.proofs.opening.choose.Goals.{then-second, else-second}
 
 pub returns-then-top-ge-WORN-clause-err : goal.returns-then-top-ge-WORN-clause-err
 returns-then-top-ge-WORN-clause-err c =
@@ -28,12 +27,15 @@ returns-clause-ok c =
     let n = c.requires.first in
     let one = c.in-Ok.ensures.first in
     let two = c.in-Ok.ensures.second in
+    let held = ap batch_of_found c.batch_held-newest.ensures ∙ found_held c.args.halves.now c.in-Ok.batches one two c.is_second-second.result in
     record {
       newest = c.is_second-second.ensures ∙ (λ i. is_second_newest (one i) (two i));
-      pages = elim c.if-second.branch [
-        | then-second w ↦ omega (arith, w.pages-is, w.pages_in-pages.ensures c.args.halves.now.second.items n.0 (c.requires.second ∙ n.1) two, n.1)
-        | else-second w ↦ omega (arith, w.pages-is, w.pages_in-pages-else-second.ensures c.args.halves.now.first.items n.0 n.1 one, n.1)
-      ];
+      pages = c.pages_in.ensures.is ∙ ap batch_bytes held;
+      fits =
+          let few = held_fits c.args.halves.now c.in-Ok.batches n.0 c.pages_in.result one two n.1 (c.requires.second ∙ n.1) c.is_second-second.result
+          c.batch_held-newest.result.now c.batch_held-newest.ensures c.pages_in.ensures.fits in
+          omega (arith, few, n.1);
+      empty = λ none. c.has_no_words.ensures (subst HasNoWords (sym held) none);
       first = stamps_up c.max-top.result c.deref.ensures.value (omega (arith, c.max-top.ensures)) c.latest_stamp.ensures.most;
       second = stamps_up c.max-top.result c.deref-2.ensures.value (omega (arith, c.max-top.ensures)) c.latest_stamp-2.ensures.most;
       top = omega (arith, c.if-top-ge-WORN.false);

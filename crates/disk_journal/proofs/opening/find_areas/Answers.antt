@@ -18,7 +18,11 @@ returns-then-not-has_room-clause-unlabelled g c = λ none.
 pub returns-then-not-has_room-clause-why : goal.returns-then-not-has_room-clause-why
 returns-then-not-has_room-clause-why g c = (
   c.in-Some.areas,
-  begins_with c.in-Some.areas c.read_within.new.out (g.D.Disk.device c.args.disk.now).now.bytes c.in-Ok.ensures.ok c.in-Some.ensures.some,
+  record {
+    half = omega arith;
+    image = omega arith;
+    label = begins_with c.in-Some.areas c.read_within.new.out (g.D.Disk.device c.args.disk.now).now.bytes c.in-Ok.ensures.ok c.in-Some.ensures.some;
+  },
   lacks_room c.in-Some.areas (g.D.Disk.device c.args.disk.now).now.bytes
       (λ both. let h : false ≡ true = c.if-not-has_room.ensures.1 (omega (arith, both.0, c.size-size.ensures), both.1) in cc),
 )

@@ -1,8 +1,9 @@
-use Rattle.std.proofs.Common.{◌∙◌, sym, ap, subst}
+use Rattle.std.proofs.Common.{◌⊎◌, inl, ◌∙◌, sym, ap, subst, arith}
 use Rattle.block_disk.specs.Device.{Device}
-use Rattle.journal_batches.specs.Areas.{home_of}
+use Rattle.atomic_sectors.specs.Left.{MakesSyncs}
+use Rattle.atomic_sectors.proofs.Calculus.{syncs_begin, syncs_same}
 use Rattle.journal_batches.specs.Shown.{shown}
-use Rattle.disk_journal.specs.Opened.{IsChosen}
+use Rattle.disk_journal.specs.Opened.{IsPlanned, WritesAgain}
 use Rattle.disk_journal.proofs.OpeningLemmas.{chosen_here, half_read, unchosen_tells}
 use Rattle.disk_journal.proofs.opening.open_areas.Goals as goal
 
@@ -18,21 +19,47 @@ choose-requires-clause-second g c =
 
 pub returns-in-Err-choose-clause-why : goal.returns-in-Err-choose-clause-why
 returns-in-Err-choose-clause-why g c =
-    unchosen_tells c.in-Err-choose.why c.in-Ok-read_parts.ensures.ok c.requires.label c.in-Err-choose.ensures.err
+    unchosen_tells c.in-Err-choose.why c.in-Ok-read_parts.ensures.ok (record { half = omega arith; image = omega arith; label = c.requires.label }) c.requires.room
+    c.in-Err-choose.ensures.err
 
-pub bring-requires-clause-chosen : goal.bring-requires-clause-chosen
-bring-requires-clause-chosen g c =
-    let here = chosen_here c.in-Ok-read_parts.ensures.ok c.in-Ok-choose.ensures.ok in
-    subst (λ (d : Device). IsChosen c.read_parts.new.halves (home_of c.args.areas d.now.bytes) (shown c.args.areas d.now.bytes) c.in-Ok-choose.choice)
-    (sym c.in-Ok-read_parts.ensures.untouched) here.0
+pub bring-requires-clause-planned : goal.bring-requires-clause-planned
+bring-requires-clause-planned g c =
+    let here = chosen_here c.in-Ok-read_parts.ensures.ok c.in-Ok-choose.ensures.ok c.requires.room in
+    subst (λ (d : Device). IsPlanned c.args.areas d.now.bytes c.in-Ok-choose.choice) (sym c.in-Ok-read_parts.ensures.untouched) here.0
 
 pub returns-clause-image : goal.returns-clause-image
-returns-clause-image g c = (chosen_here c.in-Ok-read_parts.ensures.ok c.in-Ok-choose.ensures.ok).1
+returns-clause-image g c = (chosen_here c.in-Ok-read_parts.ensures.ok c.in-Ok-choose.ensures.ok c.requires.room).1
 
 pub returns-clause-home : goal.returns-clause-home
 returns-clause-home g c =
-    let here = chosen_here c.in-Ok-read_parts.ensures.ok c.in-Ok-choose.ensures.ok in record {
+    let here = chosen_here c.in-Ok-read_parts.ensures.ok c.in-Ok-choose.ensures.ok c.requires.room in record {
       room = c.in-Ok-bring.ensures.home.cleared.rests.room;
       home = c.in-Ok-bring.ensures.home;
       image = c.in-Ok-bring.ensures.image ∙ ap (λ (d : Device). shown c.args.areas d.now.bytes) c.in-Ok-read_parts.ensures.untouched ∙ sym here.1;
     }
+
+-- ---- what is trusted ----
+
+pub returns-in-Err-clause-first : goal.returns-in-Err-clause-first
+returns-in-Err-clause-first g c = inl (syncs_same syncs_begin c.in-Err.ensures.same)
+
+pub returns-in-Err-choose-clause-first : goal.returns-in-Err-choose-clause-first
+returns-in-Err-choose-clause-first g c = inl (syncs_same syncs_begin c.in-Ok-read_parts.ensures.same)
+
+pub returns-in-Err-bring-clause-first : goal.returns-in-Err-bring-clause-first
+returns-in-Err-bring-clause-first g c =
+    let new = g.D.Disk.device c.bring.new.disk in
+    subst (λ (d : Device). MakesSyncs 0 d new ⊎ WritesAgain c.args.areas d new) c.in-Ok-read_parts.ensures.untouched c.in-Err-bring.ensures.first
+
+pub returns-clause-first : goal.returns-clause-first
+returns-clause-first g c =
+    let new = g.D.Disk.device c.bring.new.disk in
+    subst (λ (d : Device). MakesSyncs 0 d new ⊎ WritesAgain c.args.areas d new) c.in-Ok-read_parts.ensures.untouched c.in-Ok-bring.ensures.first
+
+pub returns-clause-again : goal.returns-clause-again
+returns-clause-again g c =
+    subst (λ (d : Device). WritesAgain c.args.areas d (g.D.Disk.device c.bring.new.disk)) c.in-Ok-read_parts.ensures.untouched c.in-Ok-bring.ensures.again
+
+pub returns-clause-syncs : goal.returns-clause-syncs
+returns-clause-syncs g c =
+    subst (λ (d : Device). MakesSyncs 3 d (g.D.Disk.device c.bring.new.disk)) c.in-Ok-read_parts.ensures.untouched c.in-Ok-bring.ensures.syncs

@@ -1,6 +1,6 @@
 use Rattle.std.proofs.Common.{◌+◌, not, []}
 use Rattle.std.proofs.lemmas.Result.{on_ok_weaker}
-use Rattle.atomic_sectors.proofs.Calculus.{leaves_then}
+use Rattle.atomic_sectors.proofs.Calculus.{leaves_then, syncs_is, syncs_synced, syncs_then}
 use Rattle.journal_batches.specs.Shown.{shown}
 use Rattle.journal_batches.specs.Spelled.{spelled}
 use Rattle.journal_batches.proofs.MixLemmas.{old_between}
@@ -76,3 +76,8 @@ returns-clause-home g c =
     let brought = c.in_ok-bring_home.ensures.ok image c.requires.brings in
     let b = bring_done c.requires.brings c.requires.room mid c.requires.newest c.requires.top c.in_ok-flush.ensures.ok brought in
     on_ok_weaker c.flush-2.result (λ ok. (clear_home b c.requires.spells late ok c.in_ok-write_batch.ensures.ok).1) c.flush-2.ensures.ok
+
+pub returns-clause-two_syncs : goal.returns-clause-two_syncs
+returns-clause-two_syncs g c =
+    let one = syncs_is (syncs_synced c.bring_home.ensures.syncs) c.in_ok-flush.ensures.ok in
+    on_ok_weaker c.flush-2.result (λ ok. syncs_is (syncs_synced (syncs_then one c.write_batch.ensures.syncs)) ok) c.flush-2.ensures.ok

@@ -1,8 +1,8 @@
 use Rattle.std.proofs.Common.{◌+◌, not, [], arith}
 use Rattle.journal_batches.specs.Entries.{replayed}
 use Rattle.journal_batches.specs.Shown.{shown}
-use Rattle.atomic_sectors.proofs.Calculus.{leaves_weaker}
-use Rattle.std.proofs.lemmas.Result.{IfOk-weaker}
+use Rattle.atomic_sectors.proofs.Calculus.{leaves_weaker, syncs_then}
+use Rattle.std.proofs.lemmas.Result.{IfOk-weaker, on_ok_weaker}
 use Rattle.disk_journal.specs.Stands.{IsAllHome, IsAtRest}
 use Rattle.disk_journal.proofs.KeptLemmas.{has_page, next_brings, past_leaves, still_mixed}
 use Rattle.disk_journal.proofs.SettlingLemmas.{rest_brings}
@@ -58,3 +58,6 @@ returns-clause-rest g c =
     IfOk-weaker c.pass.result (λ u. IsAllHome c.args.areas (not c.args.second) (c.args.stamp + 2) new)
     (λ u. IsAtRest c.args.areas (not c.args.second) (c.args.stamp + 2) [] new)
     (λ u home. record { durable = home.durable; rests = home.cleared.rests }) home
+
+pub returns-clause-three_syncs : goal.returns-clause-three_syncs
+returns-clause-three_syncs g c = on_ok_weaker c.pass.result (λ one. syncs_then c.in_ok-clear.ensures.two_syncs one) c.pass.ensures.one_sync

@@ -1,7 +1,8 @@
-use Rattle.std.proofs.Common.{◌≡◌, ◌+◌, ◌*◌, ◌/◌, ◌≤◌, List, ℕ, [], ◌∷◌, inl, inr, length, ap, subst, sym, ◌∙◌, arith, length-append}
+use Rattle.std.proofs.Common.{◌≡◌, ◌+◌, ◌*◌, ◌/◌, ◌≤◌, List, ℕ, [], ◌∷◌, ◌++◌, inl, inr, ap, subst, sym, ◌∙◌, arith}
 use Rattle.std.proofs.lemmas.Bool.{cases_lt}
 use Rattle.std.proofs.lemmas.List.Elements.{All-append, All-cons, All-nil}
-use Rattle.disk_journal.specs.Kept.{AreWithin, Touches}
+use Rattle.disk_journal.specs.Kept.{AreWithin, Touches, words_among}
+use Rattle.disk_journal.proofs.WordLemmas.{one_pushed, one_word}
 use Rattle.disk_journal.proofs.PageLemmas.{touches_last, touches_old}
 use Rattle.disk_journal.proofs.touching.note.Goals as goal
 
@@ -19,7 +20,9 @@ loop-word-preserved c =
         | inl below ↦ touches_old was place i (c.loop-word.invariant.these i low below)
         | inr from ↦ touches_last was place i from (omega arith)
       ]);
-      count = omega (arith, ap length items, length-append was (place ∷ []));
+      few = λ n.
+          let one = one_word was (was ++ (place ∷ [])) place (one_pushed was place) n in
+          omega (arith, ap (words_among n) items, one, c.loop-word.invariant.few n);
       len = omega arith;
       capacity = c.push_reserved.ensures.capacity ∙ c.loop-word.invariant.capacity;
     }

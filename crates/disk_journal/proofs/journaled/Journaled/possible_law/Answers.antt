@@ -9,4 +9,4 @@ pub returns-clause-settled : goal.returns-clause-settled
 returns-clause-settled g c =
     let d = c.self.inside in
     subst (λ (l : Layered). l.is_over ≡ false → AlwaysWhole l.disk (StandsStill l.areas l.disk.now.bytes)) c.self.view_is
-    (λ works. stands_durable d.areas (g.D.Disk.device d.disk) (c.self.invariant.works works).rest.durable)
+    (λ works. stands_durable d.areas (g.D.Disk.device d.disk) (c.self.invariant.0.works works).rest.durable)
