@@ -1,0 +1,6 @@
+mod Joined
+mod Earlier
+mod Front
+mod Left
+mod Kept
+mod Steps
