@@ -1,40 +1,54 @@
-//! The bytes of an image file of either kind, to be read from their beginning on.
+//! The bytes of an image file of each kind, to be read from their beginning on.
+ghost use Rattle.std.specs.Prelude.{◌≡◌, IfOk, IfSome};
+ghost use Rattle.disk_file.specs.Backing.{GivesPart};
+ghost use Rattle.disk_sector_file.specs.ImageDisks.{IsLookedBehind, IsReadBehind};
 
 use crate::file_sectors::FileSectors;
 use crate::image_disk::open_places;
-use crate::labels::label_of;
+use crate::journals::look_behind_journal;
+use crate::labels::{FileLabel, label_of};
 use block_disk::{Disk, DiskError};
-use disk_file::BackingFile;
+use disk_file::{BackingFile, VolatileDisk};
+use disk_journal::Journaled;
 use disk_sectors::{PlacesError, TwoPlaces};
 use std::alloc::Global;
 use std::io;
 use std::io::{ErrorKind, Read};
 
-/// The bytes of an image file: its own, or those of the disk in two places that it is.
+/// The bytes of an image file: its own, or those of the disk in two places or behind a journal that it is.
 #[derive(Drop)]
 pub enum ImageBytes<F: BackingFile + Drop> {
     /// The file's own.
     Plain(F),
-    /// Those of the disk.
-    Placed(PlacedBytes<F>),
+    /// Those of the disk in two places.
+    Placed(DiskBytes<TwoPlaces<FileSectors<F>>>),
+    /// Those of the disk behind a journal.
+    Journaled(DiskBytes<Journaled<VolatileDisk>>),
 }
 
-/// The bytes of a disk in two places.
+/// The bytes of a disk.
 #[derive(Drop)]
-pub struct PlacedBytes<F: BackingFile + Drop> {
-    disk: TwoPlaces<FileSectors<F>>,
+pub struct DiskBytes<D: Disk + Drop> {
+    disk: D,
     // Where the next read begins.
     at: u64,
 }
 
 impl<F: BackingFile + Drop> ImageBytes<F> {
-    /// The bytes of this file, which is a disk in two places where it begins with a label and has all its sectors. Nothing is written.
+    /// The bytes of this file, of the kind that its label says, if it has one and all that this counts. Nothing is written.
     ///
     /// `Fault` and `NoMemory`, as they come.
-    pub fn found(alloc: Global, mut file: F) -> Result<ImageBytes<F>, PlacesError> {
+    pub fn found(alloc: Global, mut file: F) -> Result<ImageBytes<F>, PlacesError>
+        // Of a file that begins with a journal's label, and has all that it counts, the bytes are those of the image that it stands for.
+        ensures { IfOk result (λ bytes. IfSome (F.holds file) (λ h. IsLookedBehind h.reads bytes)) }
+    {
         match label_of(&mut file) {
-            Ok(Some(label)) => match open_places(alloc, file, label) {
-                Ok(disk) => Ok(ImageBytes::Placed(PlacedBytes { disk, at: 0 })),
+            Ok(Some(FileLabel::Places(label))) => match open_places(alloc, file, label) {
+                Ok(disk) => Ok(ImageBytes::Placed(DiskBytes { disk, at: 0 })),
+                Err(why) => Err(why),
+            },
+            Ok(Some(FileLabel::Journal(areas))) => match look_behind_journal(alloc, file, areas) {
+                Ok(disk) => Ok(ImageBytes::Journaled(DiskBytes { disk, at: 0 })),
                 Err(why) => Err(why),
             },
             Ok(None) => Ok(ImageBytes::Plain(file)),
@@ -50,6 +64,7 @@ impl<F: BackingFile + Drop> ImageBytes<F> {
         match self {
             ImageBytes::Plain(file) => file.len(),
             ImageBytes::Placed(bytes) => Ok(bytes.disk.size()),
+            ImageBytes::Journaled(bytes) => Ok(bytes.disk.size()),
         }
     }
 }
@@ -59,11 +74,12 @@ impl<F: BackingFile + Read + Drop> Read for ImageBytes<F> {
         match self {
             ImageBytes::Plain(file) => file.read(buf),
             ImageBytes::Placed(bytes) => bytes.read(buf),
+            ImageBytes::Journaled(bytes) => bytes.read(buf),
         }
     }
 }
 
-impl<F: BackingFile + Drop> Read for PlacedBytes<F> {
+impl<D: Disk + Drop> Read for DiskBytes<D> {
     fn read(&mut self, buf: &mut [u8]) -> io::Result<usize> {
         let rest = self.disk.size().saturating_sub(self.at);
         let len = rest.min(buf.len() as u64) as usize;
@@ -73,16 +89,22 @@ impl<F: BackingFile + Drop> Read for PlacedBytes<F> {
     }
 }
 
-/// All bytes of the image in this file: its own, or those of the disk in two places that it is. The file needs no right to be written, and
-/// nothing is.
+/// All bytes of the image in this file, of each kind. The file needs no right to be written, and nothing is.
 ///
 /// `Fault` and `NoMemory`, as they come.
 pub fn whole_image<F: BackingFile + Drop>(
     alloc: Global,
     mut file: F,
-) -> Result<Vec<u8>, PlacesError> {
+) -> Result<Vec<u8>, PlacesError>
+    // Of a file that begins with a journal's label, and has all that it counts, the image is read that it stands for.
+    ensures { IfOk result (λ image. IfSome (F.holds file) (λ h. IsReadBehind h.reads image.items)) }
+{
     match label_of(&mut file) {
-        Ok(Some(label)) => match open_places(alloc, file, label) {
+        Ok(Some(FileLabel::Places(label))) => match open_places(alloc, file, label) {
+            Ok(disk) => whole_disk(alloc, disk),
+            Err(why) => Err(why),
+        },
+        Ok(Some(FileLabel::Journal(areas))) => match look_behind_journal(alloc, file, areas) {
             Ok(disk) => whole_disk(alloc, disk),
             Err(why) => Err(why),
         },
@@ -94,7 +116,9 @@ pub fn whole_image<F: BackingFile + Drop>(
     }
 }
 
-fn whole_disk<D: Disk + Drop>(alloc: Global, mut disk: D) -> Result<Vec<u8>, PlacesError> {
+fn whole_disk<D: Disk + Drop>(alloc: Global, mut disk: D) -> Result<Vec<u8>, PlacesError>
+    ensures { IfOk result (λ bytes. bytes.items ≡ (D.device disk).now.bytes) }
+{
     let Ok(mut bytes) = vec![in alloc; 0u8; disk.size() as usize] else {
         drop(disk);
         return Err(PlacesError::NoMemory);
@@ -107,12 +131,23 @@ fn whole_disk<D: Disk + Drop>(alloc: Global, mut disk: D) -> Result<Vec<u8>, Pla
     }
 }
 
-fn whole_file<F: BackingFile + Drop>(alloc: Global, mut file: F) -> Result<Vec<u8>, PlacesError> {
+fn whole_file<F: BackingFile + Drop>(alloc: Global, file: F) -> Result<Vec<u8>, PlacesError> {
     let Ok(len) = file.len() else {
         drop(file);
         return Err(PlacesError::Fault);
     };
-    let Ok(mut bytes) = vec![in alloc; 0u8; len as usize] else {
+    first_bytes(alloc, file, len)
+}
+
+/// So many bytes, with which this file begins.
+pub(crate) fn first_bytes<F: BackingFile + Drop>(
+    alloc: Global,
+    mut file: F,
+    count: u64,
+) -> Result<Vec<u8>, PlacesError>
+    ensures { IfOk result (λ bytes. GivesPart 0 count bytes.items (F.holds file)) }
+{
+    let Ok(mut bytes) = vec![in alloc; 0u8; count as usize] else {
         drop(file);
         return Err(PlacesError::NoMemory);
     };

@@ -1,29 +1,35 @@
-//! The disk of an image file of either kind.
-ghost use Rattle.std.specs.Prelude.{◌≡◌, IfOk};
+//! The disk of an image file of each kind.
+ghost use Rattle.std.specs.Prelude.{◌≡◌, IfOk, IfSome};
 ghost use Rattle.block_disk.specs.Device.{new_device};
-ghost use Rattle.disk_sector_file.specs.ImageDisks.{IsFoundBy, LacksAsFound, device_on, sectors_for, sectors_on, zeros_for};
+ghost use Rattle.disk_sector_file.specs.ImageDisks.{IsFoundBehind, IsFoundBy, LacksAsFound, device_on, kind_on, sectors_for, zeros_for};
 ghost use Rattle.disk_file.specs.Backing.{bytes_at};
 ghost use Rattle.disk_sectors.specs.Size.{zeros_in};
 
 use crate::file_sectors::FileSectors;
-use crate::labels::label_of;
+use crate::image_kind::ImageKind;
+use crate::journals::{make_journal, open_journal, told_of};
+use crate::labels::{FileLabel, label_of};
 use block_disk::{Disk, DiskError, Fault};
-use disk_file::{BackingFile, BufferedDisk, FileError};
+use disk_file::{BackingFile, BufferedDisk};
+use disk_journal::Journaled;
 use disk_sectors::{Label, PlacesError, SectorSize, TwoPlaces};
 use std::alloc::Global;
 
-/// The disk of an image file: of the file's own bytes, or the one in two places that lies on its sectors.
+/// The disk of an image file: of the file's own bytes, the one in two places that lies on its sectors, or the one behind its journal.
 #[derive(Drop)]
 pub enum ImageDisk<F: BackingFile + Drop> {
     /// That of the file's own bytes, which reach it at each sync.
     Plain(BufferedDisk<F>),
     /// The one in two places.
     Placed(TwoPlaces<FileSectors<F>>),
+    /// The one behind a journal.
+    Journaled(Journaled<BufferedDisk<F>>),
 }
 
 impl<F: BackingFile + Drop> ImageDisk<F> {
-    /// The disk of this file, which is one in two places where it begins with a label and has all its sectors; then nothing is written. Of
-    /// the file's own bytes those at the places are written again, each with its own value, and synced.
+    /// The disk of this file, of the kind that its label says, if it has one and all that this counts. In two places nothing is written; the
+    /// newest batch of a journal is brought to its place. Of a file without a label the bytes at the places are written again, each with its own
+    /// value, and synced.
     ///
     /// `Fault` and `NoMemory`, as they come.
     pub fn found(alloc: Global, mut file: F, places: &[u64]) -> Result<ImageDisk<F>, PlacesError>
@@ -33,10 +39,17 @@ impl<F: BackingFile + Drop> ImageDisk<F> {
         ensures lacks { IfOk result (λ disk. LacksAsFound (bytes_at places.now) (F.holds file) disk) }
         // Opening an image in one place writes the bytes at the places, each with its own value, and no others.
         ensures found { IfOk result (λ disk. IsFoundBy (bytes_at places.now) (F.holds file) disk) }
+        // A file that begins with a journal's label, and has all that it counts, is opened as the image that it stands for; no other is
+        // opened as one behind a journal.
+        ensures journal { IfOk result (λ disk. IfSome (F.holds file) (λ h. IsFoundBehind h.reads disk)) }
     {
         match label_of(&mut file) {
-            Ok(Some(label)) => match open_places(alloc, file, label) {
+            Ok(Some(FileLabel::Places(label))) => match open_places(alloc, file, label) {
                 Ok(disk) => Ok(ImageDisk::Placed(disk)),
+                Err(why) => Err(why),
+            },
+            Ok(Some(FileLabel::Journal(_))) => match open_journal(alloc, file) {
+                Ok(disk) => Ok(ImageDisk::Journaled(disk)),
                 Err(why) => Err(why),
             },
             Ok(None) => match BufferedDisk::found(alloc, file, places) {
@@ -50,37 +63,33 @@ impl<F: BackingFile + Drop> ImageDisk<F> {
         }
     }
 
-    /// A disk of zeros in this file, whatever it had, of so many bytes; or, where sectors are named, one in two places on them, of as many
-    /// more bytes as its last sector takes.
+    /// A disk of zeros of this kind in this file, whatever it had, of so many bytes; in two places and behind a journal of as many more as the
+    /// last sector or page takes.
     ///
     /// `TooSmall` says that no file has so many bytes; then `NoMemory` and `Fault`, as they come.
     pub fn blank(
         alloc: Global,
         file: F,
-        sectors: Option<SectorSize>,
+        kind: ImageKind,
         len: u64,
     ) -> Result<ImageDisk<F>, PlacesError>
-        ensures ok { IfOk result (λ disk. device_on disk ≡ new_device (zeros_for sectors len)) }
-        ensures lies { IfOk result (λ disk. sectors_on disk ≡ sectors) }
+        ensures ok { IfOk result (λ disk. device_on disk ≡ new_device (zeros_for kind len)) }
+        ensures lies { IfOk result (λ disk. kind_on disk ≡ kind) }
     {
-        match sectors {
-            Some(size) => match make_places(alloc, file, size, len) {
+        match kind {
+            ImageKind::Placed(size) => match make_places(alloc, file, size, len) {
                 Ok(disk) => Ok(ImageDisk::Placed(disk)),
                 Err(why) => Err(why),
             },
-            None => match BufferedDisk::filled(alloc, file, len) {
+            ImageKind::Journaled => match make_journal(alloc, file, len) {
+                Ok(disk) => Ok(ImageDisk::Journaled(disk)),
+                Err(why) => Err(why),
+            },
+            ImageKind::Plain => match BufferedDisk::filled(alloc, file, len) {
                 Ok(disk) => Ok(ImageDisk::Plain(disk)),
                 Err(error) => Err(told_of(error)),
             },
         }
-    }
-}
-
-// That there is no disk over a file's own bytes.
-fn told_of(error: FileError) -> PlacesError {
-    match error {
-        FileError::Fault => PlacesError::Fault,
-        FileError::NoMemory => PlacesError::NoMemory,
     }
 }
 
@@ -147,6 +156,7 @@ impl<F: BackingFile + Drop> Disk for ImageDisk<F> {
         match self {
             ImageDisk::Plain(disk) => disk.size(),
             ImageDisk::Placed(disk) => disk.size(),
+            ImageDisk::Journaled(disk) => disk.size(),
         }
     }
 
@@ -154,6 +164,7 @@ impl<F: BackingFile + Drop> Disk for ImageDisk<F> {
         match self {
             ImageDisk::Plain(disk) => disk.read_at(at, out),
             ImageDisk::Placed(disk) => disk.read_at(at, out),
+            ImageDisk::Journaled(disk) => disk.read_at(at, out),
         }
     }
 
@@ -161,6 +172,7 @@ impl<F: BackingFile + Drop> Disk for ImageDisk<F> {
         match self {
             ImageDisk::Plain(disk) => disk.write_at(at, bytes),
             ImageDisk::Placed(disk) => disk.write_at(at, bytes),
+            ImageDisk::Journaled(disk) => disk.write_at(at, bytes),
         }
     }
 
@@ -168,6 +180,7 @@ impl<F: BackingFile + Drop> Disk for ImageDisk<F> {
         match self {
             ImageDisk::Plain(disk) => disk.write_units(at, units, count),
             ImageDisk::Placed(disk) => disk.write_units(at, units, count),
+            ImageDisk::Journaled(disk) => disk.write_units(at, units, count),
         }
     }
 
@@ -175,6 +188,7 @@ impl<F: BackingFile + Drop> Disk for ImageDisk<F> {
         match self {
             ImageDisk::Plain(disk) => disk.sync(),
             ImageDisk::Placed(disk) => disk.sync(),
+            ImageDisk::Journaled(disk) => disk.sync(),
         }
     }
 
@@ -182,6 +196,7 @@ impl<F: BackingFile + Drop> Disk for ImageDisk<F> {
         match self {
             ImageDisk::Plain(disk) => disk.failures(),
             ImageDisk::Placed(disk) => disk.failures(),
+            ImageDisk::Journaled(disk) => disk.failures(),
         }
     }
 }

@@ -1,4 +1,4 @@
-//! Tests of: block_disk, disk_file, disk_sectors, disk_sector_file, disk_deferred.
+//! Tests of: block_disk, disk_file, disk_sectors, disk_sector_file, disk_deferred, atomic_sectors, journal_batches, disk_journal.
 //!
 //! Tests of disks, by public calls.
 //!

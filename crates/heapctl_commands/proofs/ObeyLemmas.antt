@@ -6,7 +6,7 @@ use Rattle.script_lines.specs.Endings.{OfScript}
 use Rattle.script_lines.specs.declared.error.ScriptError.{ScriptError}
 use Rattle.script_play.specs.Runs.{Ends}
 use Rattle.image_file.specs.declared.error.FormatError.{FormatError}
-use Rattle.disk_sectors.specs.declared.size.SectorSize.{SectorSize}
+use Rattle.disk_sector_file.specs.declared.image_kind.ImageKind.{ImageKind}
 use Rattle.recover_heap.specs.declared.error.RecoverError.TheVariants.{Fault}
 use Rattle.image_file.specs.Beside.{MakesBeside}
 use Rattle.image_file.specs.Formatting.{IsSilent, MakesAt, MayBeMade, MayBlameNumbers, PrintsLess}
@@ -25,10 +25,10 @@ played (Ok done) read unread written now plays = plays
 played (Err error) read unread written now plays = plays
 
 -- an image that lies so, as words ask for one
-abbrev pub on : (lanes capacity : ℕ) (is_forced : Bool) (sectors : Option SectorSize) → NewImage
-on lanes capacity is_forced sectors = record { lanes = lanes; capacity = capacity; sectors = sectors; is_kept = not is_forced }
+abbrev pub on : (lanes capacity : ℕ) (is_forced : Bool) (kind : ImageKind) → NewImage
+on lanes capacity is_forced kind = record { lanes = lanes; capacity = capacity; kind = kind; is_kept = not is_forced }
 
-pub made : (asked : NewImage) (r : Result (Unit {0}) FormatError) (had has : Option (List ℕ)) (lies : Option (Option SectorSize)) (written now : Option (List ℕ)) → OnOk r (MakesAt asked has lies written now)
+pub made : (asked : NewImage) (r : Result (Unit {0}) FormatError) (had has : Option (List ℕ)) (lies : Option ImageKind) (written now : Option (List ℕ)) → OnOk r (MakesAt asked has lies written now)
     → OnErr r (MayBeMade asked had has) → IfErr r (MayBlameNumbers asked.lanes asked.capacity) → IfErr r (λ error. IsSilent error → Appends written now [])
     → OnErr r (PrintsLess asked.lanes asked.capacity written now) → Formats asked (told_of_format r) had has lies written now
 made asked (Ok done) had has lies written now makes left numbers silent part = makes

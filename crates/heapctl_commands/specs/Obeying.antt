@@ -2,8 +2,9 @@
 use Rattle.std.specs.Prelude.{◌≡◌, ◌≢◌, ℕ, Bool, true, false, not, List, [], Option, None, Some, Result, Ok, Err}
 use Rattle.std.specs.Borrow.{Bor}
 use Rattle.block_disk.specs.Device.{Device}
-use Rattle.disk_sectors.specs.declared.size.SectorSize.{SectorSize}
 use Rattle.disk_sectors.specs.declared.size.SectorSize.TheVariants.{Bytes4096}
+use Rattle.disk_sector_file.specs.declared.image_kind.ImageKind.{ImageKind}
+use Rattle.disk_sector_file.specs.declared.image_kind.ImageKind.TheVariants as lying
 use Rattle.std.specs.Io.KnownBytes.{Appends}
 use Rattle.script_lines.specs.Endings.{OfScript}
 use Rattle.script_play.specs.Runs.{Ends}
@@ -43,6 +44,8 @@ use Rattle.script_images.specs.declared.error.ValueFault.{ValueFault}
 use Rattle.heapctl_commands.specs.declared.fault.WorkFault.{WorkFault}
 use Rattle.heapctl_commands.specs.declared.fault.WorkFault.TheVariants as fault
 use Rattle.heapctl_commands.specs.Driving.{DrivesWith}
+use Rattle.heapctl_words.specs.declared.words.Kind.{Kind}
+use Rattle.heapctl_words.specs.declared.words.Kind.TheVariants as kinds
 use Rattle.heapctl_words.specs.declared.words.Part.{Part}
 use Rattle.heapctl_words.specs.declared.words.Part.TheVariants as parts
 use Rattle.heapctl_words.specs.declared.words.Words.{Words}
@@ -133,15 +136,18 @@ abbrev pub Sets : {P : Type 0} (schema : Option P) (texts : List (Bor (List ℕ)
 Sets schema texts result had has written now =
     (r : Result (Unit {0}) SetFault) × (result ≡ told_of_set r) × SetsAt schema texts r had has written now
 
--- how the image lies that words ask for: in two places where they name sectors, of which they take one size
-abbrev pub sectors_asked : Option ℕ → Option SectorSize
-sectors_asked None = None
-sectors_asked (Some bytes) = Some Bytes4096
+-- how the image lies that words ask for; they take none of no kind
+abbrev pub kind_asked : Kind → ImageKind
+kind_asked kinds.Plain = lying.Plain
+kind_asked kinds.Placed = lying.Placed Bytes4096
+kind_asked kinds.OtherSectors = lying.Placed Bytes4096
+kind_asked kinds.Journaled = lying.Journaled
+kind_asked kinds.Both = lying.Journaled
 
 -- the image that they ask for
-abbrev pub asked_of : (lanes capacity : ℕ) (sectors : Option ℕ) (is_forced : Bool) → NewImage
-asked_of lanes capacity sectors is_forced =
-    record { lanes = lanes; capacity = capacity; sectors = sectors_asked sectors; is_kept = not is_forced }
+abbrev pub asked_of : (lanes capacity : ℕ) (kind : Kind) (is_forced : Bool) → NewImage
+asked_of lanes capacity kind is_forced =
+    record { lanes = lanes; capacity = capacity; kind = kind_asked kind; is_kept = not is_forced }
 
 -- why no such image is made, or its size isn't told; what is there then, and what was written
 pub record IsNotFormatted (asked : NewImage) (had has : Option (List ℕ)) (error : FormatError)
@@ -152,7 +158,7 @@ pub record IsNotFormatted (asked : NewImage) (had has : Option (List ℕ)) (erro
   pub part : PrintsLess asked.lanes asked.capacity written now
 
 -- such an image is there now, and its size is told
-abbrev pub Formats : (asked : NewImage) → Result (Unit {0}) WorkFault → (had has : Option (List ℕ)) (lies : Option (Option SectorSize))
+abbrev pub Formats : (asked : NewImage) → Result (Unit {0}) WorkFault → (had has : Option (List ℕ)) (lies : Option ImageKind)
     (written now : Option (List ℕ)) → Type 0
 Formats asked (Ok done) had has lies written now = MakesAt asked has lies written now
 Formats asked (Err (fault.Format error)) had has lies written now = IsNotFormatted asked had has error written now
@@ -214,7 +220,7 @@ Recovers versions (Err _) had has written now = ⊥
 -- What the words ask for is done, with this result: by the images that were there before and are now and how they lie, by what
 -- the reader had before and has now, and by what was written before and is now. Who is asked for no script reads none
 abbrev pub Obeys : {D : Type 0} (device : D → Device) → Words → (names : List (Bor (List ℕ))) → Result (Unit {0}) WorkFault
-    → (had has : List ℕ → Option (List ℕ)) (lies : List ℕ → Option (Option SectorSize))
+    → (had has : List ℕ → Option (List ℕ)) (lies : List ℕ → Option ImageKind)
     → (read unread written now : Option (List ℕ)) → Type 0
 Obeys device (words.Run image schema is_strict) names result had has lies read unread written now =
     PlaysAt image schema is_strict result had has read unread written now
@@ -222,9 +228,9 @@ Obeys device (words.Get image schema) names result had has lies read unread writ
     (unread ≡ read) × Gets schema names result (had image.now) (has image.now) written now
 Obeys device (words.Set image schema) names result had has lies read unread written now =
     (unread ≡ read) × Sets schema names result (had image.now) (has image.now) written now
-Obeys device (words.Format image schema lanes capacity sectors is_forced) names result had has lies read unread written now =
+Obeys device (words.Format image schema lanes capacity kind is_forced) names result had has lies read unread written now =
     (unread ≡ read)
-    × Formats (asked_of lanes capacity sectors is_forced) result (had image.now) (has image.now) (lies image.now) written now
+    × Formats (asked_of lanes capacity kind is_forced) result (had image.now) (has image.now) (lies image.now) written now
 Obeys device (words.Show image last schema) names result had has lies read unread written now =
     (unread ≡ read) × TellsOf study_text result (had image.now) (has image.now) written now
 Obeys device (words.Draw image last schema) names result had has lies read unread written now =

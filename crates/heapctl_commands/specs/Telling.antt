@@ -11,6 +11,7 @@ use Rattle.image_parts.specs.Recovered.{Parts}
 use Rattle.image_parts.specs.declared.layout.Layout.{Layout}
 use Rattle.image_file.specs.Formatting.{IsImageFor}
 use Rattle.image_file.specs.Images.{IsThere}
+use Rattle.disk_sector_file.specs.declared.image_kind.ImageKind.TheVariants.{Plain}
 use Rattle.image_file.specs.declared.new_image.NewImage.{NewImage}
 use Rattle.inspect.specs.Written.{AppendsPart}
 use Rattle.heapctl_commands.specs.DrivenText.{driven_text}
@@ -24,7 +25,7 @@ pub record IsOpenedAt (had : Option (List ℕ)) (d : Device) : Type 0 where
 
 -- what is asked for where workers have no image yet: their own, in one place
 abbrev pub asked_by : (workers : ℕ) → NewImage
-asked_by workers = record { lanes = workers; capacity = 4000; sectors = None; is_kept = false }
+asked_by workers = record { lanes = workers; capacity = 4000; kind = Plain; is_kept = false }
 
 -- the disk of an image that was made for so many workers
 abbrev pub IsMadeAt : (workers : ℕ) → Device → Type 0

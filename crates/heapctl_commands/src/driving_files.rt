@@ -6,6 +6,7 @@ ghost use Rattle.heapctl_commands.specs.Telling.{BeginsAt, DrivesAt, IsMadeAt, L
 
 use crate::fault::WorkFault;
 use block_disk::Disk;
+use disk_sector_file::ImageKind;
 use image::Recovered;
 use image_file::{FormatError, Images, NewImage, make_image};
 use std::alloc::Global;
@@ -115,7 +116,7 @@ where
     let new = NewImage {
         lanes: workers,
         capacity: CAPACITY,
-        sectors: None,
+        kind: ImageKind::Plain,
         is_kept: false,
     };
     let made = make_image(images, alloc, path, &schema, new);

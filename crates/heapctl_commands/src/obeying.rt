@@ -2,15 +2,16 @@
 ghost use Rattle.std.specs.Prelude.{◌≡◌};
 ghost use Rattle.heapctl_commands.specs.Beside.{PlaysBeside, Spares};
 ghost use Rattle.image_file.specs.Beside.{LeavesBesideIt};
-ghost use Rattle.heapctl_commands.specs.Obeying.{DumpsPartOf, Obeys, PlaysAt, PlaysInMemory, sectors_asked, told_of_format, told_of_image, told_of_named, told_of_run, told_of_script, told_of_set, told_of_strict, told_of_values};
+ghost use Rattle.heapctl_commands.specs.Obeying.{DumpsPartOf, Obeys, PlaysAt, PlaysInMemory, kind_asked, told_of_format, told_of_image, told_of_named, told_of_run, told_of_script, told_of_set, told_of_strict, told_of_values};
 
 use crate::driving::drive;
 use crate::fault::WorkFault;
 use crate::progress::{Progress, rounds_for};
 use block_disk::Disk;
 use disk_file::BackingFile;
+use disk_sector_file::ImageKind;
 use disk_sectors::SectorSize;
-use heapctl_words::{Part, Words};
+use heapctl_words::{Kind, Part, Words};
 use image::Slot;
 use image_file::{
     FormatError, ImageFault, Images, NamedFault, NewImage, Trouble, draw_named_at, dump_at,
@@ -57,8 +58,7 @@ where
         (P.lies images.new) (S.remaining reader.old) (S.remaining reader.new)
         (W.contents writer.old) (W.contents writer.new) }
     // Beside the path that words name nothing is lost: `format` keeps there the image that it replaces, unless it is forced,
-    // and all else that was there remains. An image over which a script is played, or whose fields are set, lies as it did,
-    // in one place or in two.
+    // and all else that was there remains. An image over which a script is played, or whose fields are set, lies as it did.
     ensures beside { Spares words.entry result (P.holds images.old) (P.holds images.new) (P.lies images.old)
         (P.lies images.new) }
 {
@@ -82,13 +82,13 @@ where
             schema,
             lanes,
             capacity,
-            sectors,
+            kind,
             is_forced,
         } => {
             let new = NewImage {
                 lanes,
                 capacity,
-                sectors: size_of(sectors),
+                kind: kind_for(kind),
                 is_kept: !is_forced,
             };
             on_format(format_at(rt, images, alloc, trouble, image, schema, new, writer))
@@ -125,13 +125,14 @@ where
     }
 }
 
-// How many bytes each sector has, where the words name some: they take 4,096 alone.
-fn size_of(sectors: Option<u32>) -> Option<SectorSize>
-    ensures { result ≡ sectors_asked sectors }
+// How an image lies that words ask for. They take none of no kind.
+fn kind_for(asked: Kind) -> ImageKind
+    ensures { result ≡ kind_asked asked }
 {
-    match sectors {
-        Some(_) => Some(SectorSize::Bytes4096),
-        None => None,
+    match asked {
+        Kind::Plain => ImageKind::Plain,
+        Kind::Placed | Kind::OtherSectors => ImageKind::Placed(SectorSize::Bytes4096),
+        Kind::Journaled | Kind::Both => ImageKind::Journaled,
     }
 }
 

@@ -1,7 +1,7 @@
 //! Images whose long calls are told of on standard error.
 
 use block_disk::Disk;
-use disk_sectors::SectorSize;
+use disk_sector_file::ImageKind;
 use image_file::{FileFault, Images};
 use std::alloc::Global;
 use std::rt::Files;
@@ -58,7 +58,7 @@ where
         self.inner.is_vacant(path)
     }
 
-    fn shape(&mut self, path: &str) -> Result<(u64, Option<SectorSize>), FileFault> {
+    fn shape(&mut self, path: &str) -> Result<(u64, ImageKind), FileFault> {
         self.inner.shape(path)
     }
 
@@ -85,22 +85,22 @@ where
         &mut self,
         alloc: Global,
         path: &str,
-        sectors: Option<SectorSize>,
+        kind: ImageKind,
         size: u64,
     ) -> Result<D, FileFault> {
         self.tell(path, "makes a new image", size);
-        self.inner.make(alloc, path, sectors, size)
+        self.inner.make(alloc, path, kind, size)
     }
 
     fn replace(
         &mut self,
         path: &str,
-        sectors: Option<SectorSize>,
+        kind: ImageKind,
         disk: &D,
         is_kept: bool,
     ) -> Result<(), FileFault> {
         self.tell(path, "puts the new image in its place", disk.size());
-        self.inner.replace(path, sectors, disk, is_kept)
+        self.inner.replace(path, kind, disk, is_kept)
     }
 
     fn give_up(&mut self, path: &str) {

@@ -1,6 +1,6 @@
--- Whether `format` is asked for with one path for both of its files or with other sectors, `drive` with two lengths, `run` or `show` with an
--- option that does nothing, and `dump` without telling clearly which values.
-use Rattle.std.proofs.Common.{◌≡◌, ◌≢◌, ℕ, List, [], ◌∷◌, Option, None, Some, inl, inr, refl, sym, subst, ◌∙◌, ap, arith, codes, length}
+-- Whether `format` is asked for with one path for both of its files, with other sectors or with two kinds of image, `drive` with two lengths,
+-- `run` or `show` with an option that does nothing, and `dump` without telling clearly which values.
+use Rattle.std.proofs.Common.{◌≡◌, ◌≢◌, ℕ, List, [], ◌∷◌, Option, None, Some, inl, inr, refl, sym, ◌∙◌, ap, arith, codes, length}
 use Rattle.clap.proofs.OnLiterals.{clap_on_literals}
 use Rattle.clap.specs.Simple.{subcommand_of}
 use Rattle.clap.specs.Walk.{Row, Text, first_of}
@@ -8,12 +8,13 @@ use Rattle.clap.specs.declared.builder.value_parser.Reading.TheVariants.{AsWritt
 use Rattle.clap.specs.declared.parser.matches.ValueSource.TheVariants.{DefaultValue}
 use Rattle.heapctl_words.specs.declared.words.Words.{Words}
 use Rattle.heapctl_words.specs.declared.words.Words.TheVariants as words
+use Rattle.heapctl_words.specs.declared.words.Kind.TheVariants as kinds
 use Rattle.heapctl_words.specs.declared.words.Part.TheVariants as parts
-use Rattle.heapctl_words.specs.Words.{AsksFor, HasBothLengths, HasIdleOptions, HasOnePath, HasOtherSectors, HasUnclearPart, MayRead, NamesOneFile, SaysBothLengths, SaysIdleOptions, SaysNoPart, SaysOtherSectors, image_of, program, schema_of}
+use Rattle.heapctl_words.specs.Words.{AsksFor, HasBothLengths, HasIdleOptions, HasNoKind, HasOnePath, HasUnclearPart, MayRead, NamesOneFile, SaysBothLengths, SaysIdleOptions, SaysNoKind, SaysNoPart, image_of, program, schema_of}
 
 pub one_file : (texts : List Text) (asked : Words) → AsksFor (subcommand_of program texts) asked → HasOnePath asked → NamesOneFile texts
 one_file texts (words.Run image schema is_strict) asks same = elim same [ ]
-one_file texts (words.Format image schema lanes capacity sectors is_forced) (options, found, asks) same =
+one_file texts (words.Format image schema lanes capacity kind is_forced) (options, found, asks) same =
     record { options = options; found = found; same = sym asks.image_is ∙ same ∙ asks.schema_is }
 one_file texts (words.Show image last schema) asks same = elim same [ ]
 one_file texts (words.Draw image last schema) asks same = elim same [ ]
@@ -31,7 +32,7 @@ was_met bits number (Some t) reads none = absurd cc
 
 pub both_lengths : (texts : List Text) (asked : Words) → AsksFor (subcommand_of program texts) asked → HasBothLengths asked → SaysBothLengths texts
 both_lengths texts (words.Run image schema is_strict) asks both = elim both [ ]
-both_lengths texts (words.Format image schema lanes capacity sectors is_forced) asks both = elim both [ ]
+both_lengths texts (words.Format image schema lanes capacity kind is_forced) asks both = elim both [ ]
 both_lengths texts (words.Show image last schema) asks both = elim both [ ]
 both_lengths texts (words.Draw image last schema) asks both = elim both [ ]
 both_lengths texts (words.Dump image schema part) asks both = elim both [ ]
@@ -44,19 +45,23 @@ both_lengths texts (words.Drive workers (Some rounds) None image) asks both = el
 both_lengths texts (words.Drive workers (Some rounds) (Some seconds) image) (options, found, asks) both =
     record { options = options; found = found; rounds = was_met 32 rounds _ asks.rounds_are; seconds = was_met 32 seconds _ asks.seconds_are }
 
-pub other_sectors : (texts : List Text) (asked : Words) → AsksFor (subcommand_of program texts) asked → HasOtherSectors asked → SaysOtherSectors texts
-other_sectors texts (words.Run image schema is_strict) asks other = elim other [ ]
-other_sectors texts (words.Format image schema lanes capacity None is_forced) asks other = elim other [ ]
-other_sectors texts (words.Format image schema lanes capacity (Some bytes) is_forced) (options, found, asks) other =
-    record { options = options; found = found; bytes = bytes; reads = asks.sectors_are; other = other }
-other_sectors texts (words.Show image last schema) asks other = elim other [ ]
-other_sectors texts (words.Draw image last schema) asks other = elim other [ ]
-other_sectors texts (words.Dump image schema part) asks other = elim other [ ]
-other_sectors texts (words.Get image schema) asks other = elim other [ ]
-other_sectors texts (words.Set image schema) asks other = elim other [ ]
-other_sectors texts (words.Recover image) asks other = elim other [ ]
-other_sectors texts (words.Upgrade image) asks other = elim other [ ]
-other_sectors texts (words.Drive workers rounds seconds image) asks other = elim other [ ]
+pub no_kind : (texts : List Text) (asked : Words) → AsksFor (subcommand_of program texts) asked → HasNoKind asked → SaysNoKind texts
+no_kind texts (words.Run image schema is_strict) asks none = elim none [ ]
+no_kind texts (words.Format image schema lanes capacity kinds.Plain is_forced) asks none = elim none [ ]
+no_kind texts (words.Format image schema lanes capacity kinds.Placed is_forced) asks none = elim none [ ]
+no_kind texts (words.Format image schema lanes capacity kinds.Journaled is_forced) asks none = elim none [ ]
+no_kind texts (words.Format image schema lanes capacity kinds.OtherSectors is_forced) (options, found, asks) none =
+    record { options = options; found = found; kind = inl asks.kind_is }
+no_kind texts (words.Format image schema lanes capacity kinds.Both is_forced) (options, found, asks) none =
+    record { options = options; found = found; kind = inr asks.kind_is }
+no_kind texts (words.Show image last schema) asks none = elim none [ ]
+no_kind texts (words.Draw image last schema) asks none = elim none [ ]
+no_kind texts (words.Dump image schema part) asks none = elim none [ ]
+no_kind texts (words.Get image schema) asks none = elim none [ ]
+no_kind texts (words.Set image schema) asks none = elim none [ ]
+no_kind texts (words.Recover image) asks none = elim none [ ]
+no_kind texts (words.Upgrade image) asks none = elim none [ ]
+no_kind texts (words.Drive workers rounds seconds image) asks none = elim none [ ]
 
 -- the word that was met, and what stands behind it
 abbrev word_in : Option (Text × List Row) → Text
@@ -113,7 +118,7 @@ not_set texts options is one = run (length (word_in (subcommand_of program texts
 pub two_files : (texts : List Text) (asked : Words) → AsksFor (subcommand_of program texts) asked → (HasOnePath asked → ⊥) → NamesOneFile texts → ⊥
 two_files texts (words.Run image schema is_strict) (inl none) two one = (none.others one.options).0 one.found
 two_files texts (words.Run image schema is_strict) (inr (options, found, asks)) two one = not_run texts options found one
-two_files texts (words.Format image schema lanes capacity sectors is_forced) (options, found, asks) two one =
+two_files texts (words.Format image schema lanes capacity kind is_forced) (options, found, asks) two one =
     let same : options ≡ one.options = ap rows_in (sym found ∙ one.found) in
     two (asks.image_is ∙ ap image_of same ∙ one.same ∙ ap schema_of (sym same) ∙ sym asks.schema_is)
 two_files texts (words.Show image last schema) (options, found, asks) two one = not_show texts options found one
@@ -125,11 +130,11 @@ two_files texts (words.Recover image) (options, found, path) two one = not_recov
 two_files texts (words.Upgrade image) (options, found, path) two one = not_upgrade texts options found one
 two_files texts (words.Drive workers rounds seconds image) (options, found, asks) two one = not_drive texts options found one
 
-pub none_says_other : (texts : List Text) → subcommand_of program texts ≡ None → SaysOtherSectors texts → ⊥
-none_says_other texts is other = none (length (word_in (subcommand_of program texts))) (ap (λ found. length (word_in found)) is) (ap (λ found. length (word_in found)) other.found)
+pub none_says_no_kind : (texts : List Text) → subcommand_of program texts ≡ None → SaysNoKind texts → ⊥
+none_says_no_kind texts is says = none (length (word_in (subcommand_of program texts))) (ap (λ found. length (word_in found)) is) (ap (λ found. length (word_in found)) says.found)
 
-pub run_says_other : (texts : List Text) (options : List Row) → subcommand_of program texts ≡ Some (codes "run", options) → SaysOtherSectors texts → ⊥
-run_says_other texts options is other = run (length (word_in (subcommand_of program texts))) (ap (λ found. length (word_in found)) is) (ap (λ found. length (word_in found)) other.found)
+pub run_says_no_kind : (texts : List Text) (options : List Row) → subcommand_of program texts ≡ Some (codes "run", options) → SaysNoKind texts → ⊥
+run_says_no_kind texts options is says = run (length (word_in (subcommand_of program texts))) (ap (λ found. length (word_in found)) is) (ap (λ found. length (word_in found)) says.found)
 
 -- no word is met, or another than `drive`
 
@@ -160,7 +165,7 @@ idle_options texts (words.Run None (Some schema) is_strict) (inr (options, found
       schema = λ is. let no : Some schema.now ≡ None = asks.schema_is ∙ is in absurd cc;
     })
 idle_options texts (words.Run (Some image) schema is_strict) asks idle = elim idle [ ]
-idle_options texts (words.Format image schema lanes capacity sectors is_forced) asks idle = elim idle [ ]
+idle_options texts (words.Format image schema lanes capacity kind is_forced) asks idle = elim idle [ ]
 idle_options texts (words.Show image (Some last) schema) (options, found, asks) idle =
     inr (record { options = options; found = found; plain = asks.plain; idle = inl (was_met 32 last _ asks.last_is) })
 idle_options texts (words.Show image None (Some schema)) (options, found, asks) idle =
@@ -216,7 +221,7 @@ run_says_idle texts is (inr draws) = run_show (length (word_in (subcommand_of pr
 
 pub unclear_part : (texts : List Text) (asked : Words) → AsksFor (subcommand_of program texts) asked → HasUnclearPart asked → SaysNoPart texts
 unclear_part texts (words.Run image schema is_strict) asks unclear = elim unclear [ ]
-unclear_part texts (words.Format image schema lanes capacity sectors is_forced) asks unclear = elim unclear [ ]
+unclear_part texts (words.Format image schema lanes capacity kind is_forced) asks unclear = elim unclear [ ]
 unclear_part texts (words.Show image last schema) asks unclear = elim unclear [ ]
 unclear_part texts (words.Draw image last schema) asks unclear = elim unclear [ ]
 unclear_part texts (words.Dump image schema parts.Heap) asks unclear = elim unclear [ ]

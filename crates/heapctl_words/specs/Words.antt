@@ -1,7 +1,7 @@
 -- Which words the program takes, and what they ask for (this project's own; read as clap 4 reads them).
 use Rattle.std.specs.Prelude.{◌≡◌, ◌≢◌, ◌↔◌, ◌⊎◌, ℕ, Bool, IsTrue, ◌^◌, ◌<◌, List, [], ◌∷◌, true, false, codes, pos, Option, None, Some, Result, Ok, Err, option_map, unwrap_or}
 use Rattle.std.specs.Str.Parse.{IsNumeral, digits_value, without_leading_plus}
-use Rattle.clap.specs.Simple.{App, Shape, new_app, new_shape, new_rule, subcommand_of, with_rule, with_subcommand}
+use Rattle.clap.specs.Simple.{App, new_app, new_shape, new_rule, subcommand_of, with_rule, with_subcommand}
 use Rattle.clap.specs.Faults.{fault_of}
 use Rattle.clap.specs.Kinds.{HasKind}
 use Rattle.clap.specs.Values.{kind_of}
@@ -14,6 +14,8 @@ use Rattle.clap.specs.declared.builder.value_parser.ValueParser.TheVariants.{Sig
 use Rattle.heapctl_words.specs.declared.words.Asked.{Asked}
 use Rattle.heapctl_words.specs.declared.words.Words.{Words}
 use Rattle.heapctl_words.specs.declared.words.Words.TheVariants as words
+use Rattle.heapctl_words.specs.declared.words.Kind.{Kind}
+use Rattle.heapctl_words.specs.declared.words.Kind.TheVariants as kinds
 use Rattle.heapctl_words.specs.declared.words.Part.{Part}
 use Rattle.heapctl_words.specs.declared.words.Part.TheVariants as parts
 
@@ -88,6 +90,10 @@ last_option = record (new_rule (codes "last")) {
 abbrev pub flag_option : Text → Rule
 flag_option name = record (new_rule name) { long = Some name; action = Some SetTrue }
 
+-- the flag `--atomic-sectors`
+abbrev pub atomic_sectors_option : Rule
+atomic_sectors_option = flag_option (codes "atomic-sectors")
+
 -- by which slot of the control values are dumped, which may be missing
 abbrev pub slot_option : Rule
 slot_option = record (new_rule (codes "slot")) { long = Some (codes "slot"); value_names = 1 }
@@ -100,14 +106,14 @@ names_option = record (new_rule (codes "names")) {
   required = true;
 }
 
--- the word `format` with its options, without the last two
+-- the word `format` with its options, without the last three
 abbrev pub plain_format_words : App
 plain_format_words = with_rule (with_rule (with_rule (with_rule (new_app (codes "format"))
     (path_option (codes "image"))) (path_option (codes "schema"))) lanes_option) capacity_option
 
 -- and with them
 abbrev pub format_words : App
-format_words = with_rule (with_rule plain_format_words sectors_option) (flag_option (codes "force"))
+format_words = with_rule (with_rule (with_rule plain_format_words sectors_option) atomic_sectors_option) (flag_option (codes "force"))
 
 -- the word `show` with its options
 abbrev pub show_words : App
@@ -189,14 +195,28 @@ image_of options = unwrap_or (first_of (codes "image") options) []
 abbrev pub schema_of : List Row → Text
 schema_of options = unwrap_or (first_of (codes "schema") options) []
 
+-- the bytes behind `--sectors`, where some are there, and the flag `--atomic-sectors` ask for an image of this kind
+abbrev pub IsAskedKind : (sectors : Option ℕ) (atomic : Type 0) → Kind → Type 0
+IsAskedKind sectors atomic kinds.Plain = (sectors ≡ None) × (atomic → ⊥)
+IsAskedKind sectors atomic kinds.Placed = (sectors ≡ Some 4096) × (atomic → ⊥)
+IsAskedKind sectors atomic kinds.Journaled = (sectors ≡ None) × atomic
+IsAskedKind sectors atomic kinds.OtherSectors = (sectors ≢ None) × (sectors ≢ Some 4096) × (atomic → ⊥)
+IsAskedKind sectors atomic kinds.Both = (sectors ≢ None) × atomic
+
+-- so do the options behind the word
+abbrev pub AsksForKind : List Row → Kind → Type 0
+AsksForKind options kind =
+    (sectors : Option ℕ) × MayRead 32 (one_of (codes "sectors") options) sectors
+    × IsAskedKind sectors (IsSet (codes "atomic-sectors") options) kind
+
 -- an image file is to be made, as the options behind the word say
-pub record AsksToFormat (options : List Row) (image schema : Text) (lanes capacity : ℕ) (sectors : Option ℕ)
+pub record AsksToFormat (options : List Row) (image schema : Text) (lanes capacity : ℕ) (kind : Kind)
     (is_forced : Bool) : Type 0 where
   pub image_is : image ≡ image_of options
   pub schema_is : schema ≡ schema_of options
   pub lanes_are : Reads 8 (one_of (codes "lanes") options) lanes
   pub capacity_is : Reads 32 (one_of (codes "capacity") options) capacity
-  pub sectors_are : MayRead 32 (one_of (codes "sectors") options) sectors
+  pub kind_is : AsksForKind options kind
   pub force_is : IsTrue is_forced ↔ IsSet (codes "force") options
 
 -- what an image holds is to be printed, as the options behind the word say
@@ -271,9 +291,9 @@ AsksFor found (words.Run image schema is_strict) =
     IsNoWord found (option_map (λ path. path.now) image) (option_map (λ path. path.now) schema) is_strict
     ⊎ ((options : List Row) × (found ≡ Some (codes "run", options))
     × AsksToPlay options (option_map (λ path. path.now) image) (option_map (λ path. path.now) schema) is_strict)
-AsksFor found (words.Format image schema lanes capacity sectors is_forced) =
+AsksFor found (words.Format image schema lanes capacity kind is_forced) =
     (options : List Row) × (found ≡ Some (codes "format", options))
-    × AsksToFormat options image.now schema.now lanes capacity sectors is_forced
+    × AsksToFormat options image.now schema.now lanes capacity kind is_forced
 AsksFor found (words.Show image last schema) =
     (options : List Row) × (found ≡ Some (codes "show", options))
     × AsksToShow options image.now last (option_map (λ path. path.now) schema)
@@ -301,7 +321,7 @@ names_asked (Some met) = unwrap_or (all_of (codes "names") met.1) []
 
 -- an image file is to be made in the place of its own schema file
 abbrev pub HasOnePath : Words → Type 0
-HasOnePath (words.Format image schema lanes capacity sectors is_forced) = image.now ≡ schema.now
+HasOnePath (words.Format image schema lanes capacity kind is_forced) = image.now ≡ schema.now
 HasOnePath _ = ⊥
 
 -- it is said in two ways how long workers are to work
@@ -309,10 +329,11 @@ abbrev pub HasBothLengths : Words → Type 0
 HasBothLengths (words.Drive workers (Some rounds) (Some seconds) image) = Unit {0}
 HasBothLengths _ = ⊥
 
--- an image is to lie on sectors of other than 4,096 bytes
-abbrev pub HasOtherSectors : Words → Type 0
-HasOtherSectors (words.Format image schema lanes capacity (Some bytes) is_forced) = bytes ≢ 4096
-HasOtherSectors _ = ⊥
+-- an image is to lie on sectors of other than 4,096 bytes, or in two ways
+abbrev pub HasNoKind : Words → Type 0
+HasNoKind (words.Format image schema lanes capacity kinds.OtherSectors is_forced) = Unit {0}
+HasNoKind (words.Format image schema lanes capacity kinds.Both is_forced) = Unit {0}
+HasNoKind _ = ⊥
 
 -- an option is named that does nothing: names for a script in memory, or what a graph has a use for where none is asked for
 abbrev pub HasIdleOptions : Words → Type 0
@@ -339,13 +360,11 @@ pub record SaysBothLengths (texts : List Text) : Type 0 where
   pub rounds : one_of (codes "rounds") options ≢ None
   pub seconds : one_of (codes "seconds") options ≢ None
 
--- the words are those of `format`, with another number behind `--sectors`
-pub record SaysOtherSectors (texts : List Text) : Type 0 where
+-- the words are those of `format`, with another number than 4,096 behind `--sectors`, or with both `--sectors` and `--atomic-sectors`
+pub record SaysNoKind (texts : List Text) : Type 0 where
   pub options : List Row
   pub found : subcommand_of program texts ≡ Some (codes "format", options)
-  pub bytes : ℕ
-  pub reads : MayRead 32 (one_of (codes "sectors") options) (Some bytes)
-  pub other : bytes ≢ 4096
+  pub kind : AsksForKind options kinds.OtherSectors ⊎ AsksForKind options kinds.Both
 
 -- the words are those of `run`, with `--schema` and without `--image`
 pub record NamesNoImage (texts : List Text) : Type 0 where
@@ -371,23 +390,23 @@ pub record SaysNoPart (texts : List Text) : Type 0 where
   pub found : subcommand_of program texts ≡ Some (codes "dump", options)
   pub unclear : AsksForPart options parts.Unclear
 
--- clap takes these words, and the program doesn't: they name one file twice, say two lengths or other sectors, name an
--- option that does nothing, or don't say clearly which values are to be dumped
+-- clap takes these words, and the program doesn't: they name one file twice, say two lengths, other sectors or two kinds of image,
+-- name an option that does nothing, or don't say clearly which values are to be dumped
 abbrev pub ClashesWith : List Text → Type 0
-ClashesWith texts = NamesOneFile texts ⊎ SaysBothLengths texts ⊎ SaysOtherSectors texts ⊎ SaysIdleOptions texts ⊎ SaysNoPart texts
+ClashesWith texts = NamesOneFile texts ⊎ SaysBothLengths texts ⊎ SaysNoKind texts ⊎ SaysIdleOptions texts ⊎ SaysNoPart texts
 
 -- the answer's kind is one that clap gives to such words; or only the program refuses them
 abbrev pub Refuses : List Text → Error → Type 0
 Refuses texts answer = HasKind (fault_of program texts) answer
     ⊎ ((fault_of program texts ≡ []) × ClashesWith texts × (kind_of answer ≡ ArgumentConflict))
 
--- clap takes the words, no file is named twice, no run has two lengths, no sector another size, each option does something, and it is clear
--- which values are dumped
+-- clap takes the words, no file is named twice, no run has two lengths, an image is of one kind and no sector of another size,
+-- each option does something, and it is clear which values are dumped
 pub record IsTaken (texts : List Text) (asked : Words) : Type 0 where
   pub well_formed : fault_of program texts ≡ []
   pub two_files : NamesOneFile texts → ⊥
   pub one_length : HasBothLengths asked → ⊥
-  pub sectors : HasOtherSectors asked → ⊥
+  pub one_kind : HasNoKind asked → ⊥
   pub busy : HasIdleOptions asked → ⊥
   pub clear : HasUnclearPart asked → ⊥
 

@@ -6,4 +6,4 @@
 mod options;
 mod words;
 
-pub use words::{Asked, Part, Words, read_words};
+pub use words::{Asked, Kind, Part, Words, read_words};

@@ -1,7 +1,7 @@
 //! The program's options: what each takes, and its help.
 ghost use Rattle.std.specs.Prelude.{◌≡◌, false};
 ghost use Rattle.clap.specs.Walk.{rule_of};
-ghost use Rattle.heapctl_words.specs.Words.{capacity_option, file_option, flag_option, lanes_option, last_option, names_option, path_option, rounds_option, seconds_option, sectors_option, slot_option, workers_option};
+ghost use Rattle.heapctl_words.specs.Words.{atomic_sectors_option, capacity_option, file_option, flag_option, lanes_option, last_option, names_option, path_option, rounds_option, seconds_option, sectors_option, slot_option, workers_option};
 
 use clap::{Arg, ArgAction, value_parser};
 use heap_model::{LANES, LEAST_CAPACITY, MOST_CAPACITY};
@@ -127,6 +127,17 @@ pub(crate) fn sectors<'a>(alloc: Global) -> Arg<'a>
             "Keeps the image in two places, for a disk that may\nlose the sector that it is writing when the power\nfails. BYTES is the size of a sector, 4096",
         )
         .value_parser(value_parser!(u32).range(512..=4096))
+}
+
+pub(crate) fn atomic_sectors<'a>(alloc: Global) -> Arg<'a>
+    ensures rule { rule_of result ≡ atomic_sectors_option }
+    ensures own { result.global ≡ false }
+{
+    flag(
+        alloc,
+        "atomic-sectors",
+        "Keeps the image behind a journal, for storage that\nkeeps each sector of 512 bytes whole when the power\nfails. A round of a program then takes one sync",
+    )
 }
 
 pub(crate) fn slot<'a>(alloc: Global) -> Arg<'a>

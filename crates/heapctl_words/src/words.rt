@@ -5,10 +5,11 @@ ghost use Rattle.clap.specs.Values.{kind_of};
 ghost use Rattle.clap.specs.Walk.{Rule, all_of, first_of, one_of, rows_of, rule_of};
 ghost use Rattle.clap.specs.Matches.{found_of};
 ghost use Rattle.clap.specs.declared.error.kind.ErrorKind.TheVariants.{ArgumentConflict, OutOfMemory};
-ghost use Rattle.heapctl_words.specs.Words.{AsksFor, AsksForPart, HasBothLengths, HasIdleOptions, HasOnePath, HasOtherSectors, HasUnclearPart, IsAnsweredBy, IsSet, LastIs, MayRead, NamesSlot, Reads, drive_words, dump_words, format_words, get_words, names_asked, plain_format_words, program, recover_words, run_words, set_words, show_words, top as top_words, upgrade_words};
+ghost use Rattle.heapctl_words.specs.Words.{AsksFor, AsksForKind, AsksForPart, HasBothLengths, HasIdleOptions, HasNoKind, HasOnePath, HasUnclearPart, IsAnsweredBy, IsSet, LastIs, MayRead, NamesSlot, Reads, drive_words, dump_words, format_words, get_words, names_asked, plain_format_words, program, recover_words, run_words, set_words, show_words, top as top_words, upgrade_words};
 
 use crate::options::{
-    capacity, file, flag, lanes, last, names, path, rounds, seconds, sectors, slot, workers,
+    atomic_sectors, capacity, file, flag, lanes, last, names, path, rounds, seconds, sectors, slot,
+    workers,
 };
 use clap::error::ErrorKind;
 use clap::{Arg, ArgMatches, Command, Error};
@@ -36,8 +37,8 @@ pub enum Words<'a> {
         lanes: u8,
         /// The records that a lane's area holds, 2,000 to 1,048,576.
         capacity: u32,
-        /// The bytes of a sector, 4,096, where the image is to lie in two places.
-        sectors: Option<u32>,
+        /// How the image is to lie in its file.
+        kind: Kind,
         /// Whether an image that is there is replaced without being kept beside the new one.
         is_forced: bool,
     },
@@ -105,6 +106,21 @@ pub enum Words<'a> {
     },
 }
 
+/// How a new image is to lie in its file.
+#[derive(Clone, Copy, Debug, PartialEq, Eq)]
+pub enum Kind {
+    /// The file's bytes are the image's.
+    Plain,
+    /// In two places, on sectors of 4,096 bytes.
+    Placed,
+    /// Behind a journal, on a device that keeps sectors whole.
+    Journaled,
+    /// In two places on sectors of another size: [`read_words`] takes no words that ask for it.
+    OtherSectors,
+    /// In two places and behind a journal: it takes none that ask for this either.
+    Both,
+}
+
 /// Which values of an image are dumped.
 #[derive(Clone, Copy, Debug, PartialEq, Eq)]
 pub enum Part {
@@ -138,8 +154,8 @@ which standard error reports";
 // How many sections of each thread a graph has where nothing is said.
 const LAST: u32 = 50;
 
-// What is told of one path for two files, of two lengths for one run, of other sectors, of options that do nothing, and of values that
-// aren't clear.
+// What is told of one path for two files, of two lengths for one run, of other sectors, of two kinds of image, of options
+// that do nothing, and of values that aren't clear.
 const ONE_PATH: &str =
     "the image and the schema are two files, and '--image' and '--schema' name one";
 
@@ -148,6 +164,9 @@ const BOTH_LENGTHS: &str =
 
 const OTHER_SECTORS: &str =
     "'--sectors' takes 4096: a file is written in pages of 4096 bytes, so that a power failure may tear all smaller sectors of a page at once; type '--sectors 4096'";
+
+const BOTH_KINDS: &str =
+    "'--sectors' keeps the image in two places, and '--atomic-sectors' behind a journal, for devices that promise different things: name one of them";
 
 const IDLE_SCHEMA: &str =
     "'--schema' of 'run' names what an image file holds: name the file too, by '--image'";
@@ -189,7 +208,7 @@ fn with_word<'a>(
     }
 }
 
-// `format` without the option of an image in two places.
+// `format` without the options that say how the image lies.
 fn plain_format<'a>(alloc: Global) -> Result<Command<'a>, AllocError>
     ensures { IfOk result (λ command. app_of command ≡ plain_format_words) }
 {
@@ -211,7 +230,8 @@ fn format<'a>(alloc: Global) -> Result<Command<'a>, AllocError>
     ensures { IfOk result (λ command. app_of command ≡ format_words) }
 {
     let force = flag(alloc, "force", "Keeps nothing of an image that is there");
-    with_option(with_option(plain_format(alloc), sectors(alloc)), force)
+    let command = with_option(plain_format(alloc), sectors(alloc));
+    with_option(with_option(command, atomic_sectors(alloc)), force)
 }
 
 fn show<'a>(alloc: Global) -> Result<Command<'a>, AllocError>
@@ -387,12 +407,13 @@ fn command<'a>(alloc: Global) -> Result<Command<'a>, AllocError>
 /// An `Err` holds the text to print: for wrong words what is wrong, for `--help` and `--version` what they ask for. Its
 /// kind is `OutOfMemory` where there was no memory. `format` with one path for the image and for the schema, which would
 /// be replaced, is an `ArgumentConflict`: paths are compared as they are written. `drive` with both `--rounds` and `--seconds` is one too,
-/// `format` with sectors of other than 4,096 bytes, and an option that does nothing: `--schema` of `run` without `--image`, and `--last`
-/// or `--schema` of `show` without `--dot`. So is `dump` with both `--cells` and `--slot`, or with another slot than `a` and `b`.
+/// `format` with sectors of other than 4,096 bytes or with both `--sectors` and `--atomic-sectors`, and an option that does nothing:
+/// `--schema` of `run` without `--image`, and `--last` or `--schema` of `show` without `--dot`. So is `dump` with both `--cells` and
+/// `--slot`, or with another slot than `a` and `b`.
 pub fn read_words<'a>(alloc: Global, words: &'a [String]) -> Result<Asked<'a>, Error>
     // The program's words are taken exactly where clap's rules take them, no file is named twice, no run has two
-    // lengths, sectors have 4,096 bytes, each option does something, and it is clear which values are dumped. Other words
-    // are refused with the kind that those rules give.
+    // lengths, an image lies in one way, on sectors of 4,096 bytes if on any, each option does something, and it is clear
+    // which values are dumped. Other words are refused with the kind that those rules give.
     ensures exact { IsAnsweredBy (map (λ s. string_bytes s) words.entry.now) result }
     // What is asked for is what the options say.
     ensures asked { IfOk result (λ asked. AsksFor (subcommand_of program (map (λ s. string_bytes s) words.entry.now)) asked.words) }
@@ -418,8 +439,8 @@ pub fn read_words<'a>(alloc: Global, words: &'a [String]) -> Result<Asked<'a>, E
     if has_both_lengths(&asked) {
         return Err(conflict(alloc, BOTH_LENGTHS)?);
     }
-    if has_other_sectors(&asked) {
-        return Err(conflict(alloc, OTHER_SECTORS)?);
+    if has_no_kind(&asked) {
+        return Err(conflict(alloc, kind_text(&asked))?);
     }
     if has_idle_options(&asked) {
         return Err(conflict(alloc, idle_text(&asked))?);
@@ -457,16 +478,27 @@ fn has_both_lengths(words: &Words<'_>) -> bool
     }
 }
 
-// The words name sectors that aren't there.
-fn has_other_sectors(words: &Words<'_>) -> bool
-    ensures { IsTrue result ↔ HasOtherSectors words.now }
+// The words ask for an image of no kind: on sectors of another size than 4,096 bytes, or of two kinds.
+fn has_no_kind(words: &Words<'_>) -> bool
+    ensures { IsTrue result ↔ HasNoKind words.now }
 {
     match words {
         Words::Format {
-            sectors: Some(bytes),
+            kind: Kind::OtherSectors | Kind::Both,
             ..
-        } => *bytes != 4096,
+        } => true,
         _ => false,
+    }
+}
+
+// What is told of them.
+fn kind_text(words: &Words<'_>) -> &'static str {
+    match words {
+        Words::Format {
+            kind: Kind::Both,
+            ..
+        } => BOTH_KINDS,
+        _ => OTHER_SECTORS,
     }
 }
 
@@ -531,7 +563,7 @@ fn asked_by<'a>(matches: &ArgMatches<'a>) -> Words<'a>
             schema: text_of(found, "schema"),
             lanes: byte_of(found, "lanes"),
             capacity: number_of(found, "capacity"),
-            sectors: found_number(found, "sectors"),
+            kind: kind_in(found),
             is_forced: is_set(found, "force"),
         },
         Some(("show", found)) => {
@@ -651,6 +683,31 @@ fn last_of(found: &ArgMatches<'_>) -> u32
     ensures { LastIs (one_of (codes "last") (rows_of (found_of found.now))) result }
 {
     found_number(found, "last").unwrap_or(LAST)
+}
+
+// How the image is to lie.
+fn kind_in(found: &ArgMatches<'_>) -> Kind
+    ensures { AsksForKind (rows_of (found_of found.now)) result }
+{
+    let is_atomic = is_set(found, "atomic-sectors");
+    match found_number(found, "sectors") {
+        Some(bytes) => {
+            if is_atomic {
+                Kind::Both
+            } else if bytes == 4096 {
+                Kind::Placed
+            } else {
+                Kind::OtherSectors
+            }
+        }
+        None => {
+            if is_atomic {
+                Kind::Journaled
+            } else {
+                Kind::Plain
+            }
+        }
+    }
 }
 
 // Which values are dumped.

@@ -1,6 +1,6 @@
 -- What is known of what lies beside a path, call by call.
 use Rattle.std.proofs.Common.{ℕ, ◌⊎◌, Bool, true, false, List, [], ◌∷◌, Option, None, Some, inl, inr, subst, sym, ◌∙◌}
-use Rattle.disk_sectors.specs.declared.size.SectorSize.{SectorSize}
+use Rattle.disk_sector_file.specs.declared.image_kind.ImageKind.{ImageKind}
 use Rattle.image_file.specs.Beside.{IsKept, KeepsBeside, LeavesBeside, LiesStill, OthersRemain, Remains, StaysBeside, kept_at}
 use Rattle.image_file.specs.Images.{IsThere}
 
@@ -27,7 +27,7 @@ kept_after true (Some (byte ∷ bytes)) had mid has kept later = there_then (byt
 others_then : (path : List ℕ) (had mid has : List ℕ → Option (List ℕ)) → OthersRemain path had mid → OthersRemain path mid has → OthersRemain path had has
 others_then path had mid has first later = λ other is. remains_then (had other) (mid other) (has other) (first other is) (later other is)
 
-pub leaves_then : {path : List ℕ} {had mid has : List ℕ → Option (List ℕ)} {lay kind lies : List ℕ → Option (Option SectorSize)}
+pub leaves_then : {path : List ℕ} {had mid has : List ℕ → Option (List ℕ)} {lay kind lies : List ℕ → Option ImageKind}
     → LeavesBeside path had mid lay kind → LeavesBeside path mid has kind lies → LeavesBeside path had has lay lies
 leaves_then {path} {had} {mid} {has} first later = record {
   kept = remains_then (had (kept_at path)) (mid (kept_at path)) (has (kept_at path)) first.kept later.kept;
@@ -40,7 +40,7 @@ kept_or_after is_kept was had mid has (inl remains) later = inl (remains_then ha
 kept_or_after is_kept was had mid has (inr kept) later = inr (kept_after is_kept was had mid has kept later)
 
 -- the place of the image may be taken before another call
-pub keeps_before : {is_kept : Bool} {path : List ℕ} {had mid has : List ℕ → Option (List ℕ)} {kind lies : List ℕ → Option (Option SectorSize)} → KeepsBeside is_kept path had mid
+pub keeps_before : {is_kept : Bool} {path : List ℕ} {had mid has : List ℕ → Option (List ℕ)} {kind lies : List ℕ → Option ImageKind} → KeepsBeside is_kept path had mid
     → LeavesBeside path mid has kind lies → KeepsBeside is_kept path had has
 keeps_before {is_kept} {path} {had} {mid} {has} first later = record {
   kept = kept_or_after is_kept (had path) (had (kept_at path)) (mid (kept_at path)) (has (kept_at path)) first.kept later.kept;
@@ -48,18 +48,18 @@ keeps_before {is_kept} {path} {had} {mid} {has} first later = record {
 }
 
 -- the image may be replaced by one that lies as it did, behind another call or before it
-pub stays_after : {path : List ℕ} {had mid has : List ℕ → Option (List ℕ)} {lay kind lies : List ℕ → Option (Option SectorSize)} → LeavesBeside path had mid lay kind
+pub stays_after : {path : List ℕ} {had mid has : List ℕ → Option (List ℕ)} {lay kind lies : List ℕ → Option ImageKind} → LeavesBeside path had mid lay kind
     → StaysBeside path mid has kind lies → StaysBeside path had has lay lies
 stays_after {path} {had} {mid} {has} {lay} {kind} {lies} first later = record {
   kept = remains_then (had (kept_at path)) (mid (kept_at path)) (has (kept_at path)) first.kept later.kept;
   others = others_then path had mid has first.others later.others;
-  lies_so = subst (λ (was : Option (Option SectorSize)). LiesStill was (lies path)) first.lies_so later.lies_so;
+  lies_so = subst (λ (was : Option ImageKind). LiesStill was (lies path)) first.lies_so later.lies_so;
 }
 
-pub stays_before : {path : List ℕ} {had mid has : List ℕ → Option (List ℕ)} {lay kind lies : List ℕ → Option (Option SectorSize)} → StaysBeside path had mid lay kind
+pub stays_before : {path : List ℕ} {had mid has : List ℕ → Option (List ℕ)} {lay kind lies : List ℕ → Option ImageKind} → StaysBeside path had mid lay kind
     → LeavesBeside path mid has kind lies → StaysBeside path had has lay lies
 stays_before {path} {had} {mid} {has} {lay} {kind} {lies} first later = record {
   kept = remains_then (had (kept_at path)) (mid (kept_at path)) (has (kept_at path)) first.kept later.kept;
   others = others_then path had mid has first.others later.others;
-  lies_so = subst (λ (now : Option (Option SectorSize)). LiesStill (lay path) now) (sym later.lies_so) first.lies_so;
+  lies_so = subst (λ (now : Option ImageKind). LiesStill (lay path) now) (sym later.lies_so) first.lies_so;
 }

@@ -1,6 +1,6 @@
 -- What is known of what lies beside an image's path (this project's own).
 use Rattle.std.specs.Prelude.{ℕ, ◌≡◌, ◌≢◌, ◌⊎◌, ◌++◌, Bool, true, false, List, [], ◌∷◌, Option, None, Some, IfSome, Result, Ok, Err, codes}
-use Rattle.disk_sectors.specs.declared.size.SectorSize.{SectorSize}
+use Rattle.disk_sector_file.specs.declared.image_kind.ImageKind.{ImageKind}
 use Rattle.image_file.specs.Images.{IsThere}
 
 -- the path at which an image that is replaced is kept
@@ -30,12 +30,12 @@ abbrev pub OthersRemain : (path : List ℕ) (had has : List ℕ → Option (List
 OthersRemain path had has = (other : List ℕ) → IsElsewhere path other → Remains (had other) (has other)
 
 -- it is known to lie as it was known to lie
-abbrev pub LiesStill : (lay lies : Option (Option SectorSize)) → Type 0
+abbrev pub LiesStill : (lay lies : Option ImageKind) → Type 0
 LiesStill lay lies = IfSome lay (λ was. IfSome lies (λ there. there ≡ was))
 
 -- it is known to lie so, if it is known
-abbrev pub LiesOn : (sectors : Option SectorSize) (lies : Option (Option SectorSize)) → Type 0
-LiesOn sectors lies = IfSome lies (λ there. there ≡ sectors)
+abbrev pub LiesOn : (kind : ImageKind) (lies : Option ImageKind) → Type 0
+LiesOn kind lies = IfSome lies (λ there. there ≡ kind)
 
 -- what is kept beside a path whose image, which was this one, was replaced: that image, if it is to be kept, and else what was kept before
 abbrev pub IsKept : (is_kept : Bool) → (was had has : Option (List ℕ)) → Type 0
@@ -45,13 +45,13 @@ IsKept true (Some []) had has = Remains had has
 IsKept true (Some (byte ∷ bytes)) had has = IsThere (byte ∷ bytes) has
 
 -- nothing replaces the image: it lies as it did, what is kept beside it remains, and what is elsewhere too
-pub record LeavesBeside (path : List ℕ) (had has : List ℕ → Option (List ℕ)) (lay lies : List ℕ → Option (Option SectorSize)) : Type 0 where
+pub record LeavesBeside (path : List ℕ) (had has : List ℕ → Option (List ℕ)) (lay lies : List ℕ → Option ImageKind) : Type 0 where
   pub kept : Remains (had (kept_at path)) (has (kept_at path))
   pub others : OthersRemain path had has
   pub lies_so : lies path ≡ lay path
 
 -- another may have replaced it, which lies as it did
-pub record StaysBeside (path : List ℕ) (had has : List ℕ → Option (List ℕ)) (lay lies : List ℕ → Option (Option SectorSize)) : Type 0 where
+pub record StaysBeside (path : List ℕ) (had has : List ℕ → Option (List ℕ)) (lay lies : List ℕ → Option ImageKind) : Type 0 where
   pub kept : Remains (had (kept_at path)) (has (kept_at path))
   pub others : OthersRemain path had has
   pub lies_so : LiesStill (lay path) (lies path)
@@ -68,9 +68,9 @@ MakesBeside is_kept (Err why) path had has = KeepsBeside is_kept path had has
 
 -- the same, by what images were there before and are now, and how they lay and lie
 abbrev pub LeavesBesideIt : {P : Type 0} (path : List ℕ) (holds : P → List ℕ → Option (List ℕ))
-    (lies : P → List ℕ → Option (Option SectorSize)) (old new : P) → Type 0
+    (lies : P → List ℕ → Option ImageKind) (old new : P) → Type 0
 LeavesBesideIt path holds lies old new = LeavesBeside path (holds old) (holds new) (lies old) (lies new)
 
 abbrev pub StaysBesideIt : {P : Type 0} (path : List ℕ) (holds : P → List ℕ → Option (List ℕ))
-    (lies : P → List ℕ → Option (Option SectorSize)) (old new : P) → Type 0
+    (lies : P → List ℕ → Option ImageKind) (old new : P) → Type 0
 StaysBesideIt path holds lies old new = StaysBeside path (holds old) (holds new) (lies old) (lies new)

@@ -7,7 +7,7 @@ use Rattle.disk_file.specs.declared.error.FileError.{FileError}
 use Rattle.disk_file.specs.declared.error.FileError.TheVariants as disks
 use Rattle.disk_sectors.specs.declared.error.PlacesError.{PlacesError}
 use Rattle.disk_sectors.specs.declared.error.PlacesError.TheVariants as places
-use Rattle.disk_sectors.specs.declared.size.SectorSize.{SectorSize}
+use Rattle.disk_sector_file.specs.declared.image_kind.ImageKind.{ImageKind}
 use Rattle.disk_sector_file.specs.ImageDisks.{room_for}
 use Rattle.guards.specs.Schema.{Declarations}
 use Rattle.image_parts.specs.Calls.{after}
@@ -42,7 +42,7 @@ abbrev pub told_of_disk : FileError → FileFault
 told_of_disk disks.Fault = files.Fault
 told_of_disk disks.NoMemory = files.NoMemory
 
--- that there is no disk in two places on a file
+-- that there is no disk in two places or behind a journal on a file
 abbrev pub told_of_places : PlacesError → FileFault
 told_of_places places.Fault = files.Fault
 told_of_places places.NoMemory = files.NoMemory
@@ -59,11 +59,11 @@ told_of_file files.NotImage = errors.NotImage
 pub record IsImageFor (schema : Declarations) (asked : NewImage) (layout : Layout) (d : Device) : Type 0 where
   pub limits : AreLimits asked.lanes asked.capacity
   pub layout_is : layout ≡ layout_with schema asked.lanes asked.capacity
-  pub made : d ≡ after (format_calls layout schema) (new_device (replicate (room_for asked.sectors (size_of layout)) 0))
+  pub made : d ≡ after (format_calls layout schema) (new_device (replicate (room_for asked.kind (size_of layout)) 0))
 
 -- such an image lies as was asked, where it is known how it lies
-abbrev pub LiesSo : NewImage → Option (Option SectorSize) → Type 0
-LiesSo asked lies = IfSome lies (λ there. there ≡ asked.sectors)
+abbrev pub LiesSo : NewImage → Option ImageKind → Type 0
+LiesSo asked lies = IfSome lies (λ there. there ≡ asked.kind)
 
 -- the image that was there is there still, or a whole new one of this schema is
 abbrev pub StaysOrIsMade : (schema : Declarations) (asked : NewImage) (had has : Option (List ℕ)) → Type 0
@@ -82,7 +82,7 @@ abbrev pub PrintsSize : ℕ → (old new : Option (List ℕ)) → Type 0
 PrintsSize size old new = Appends old new (formatted_line size)
 
 -- the image that was asked for is there, of a schema that is one of these, and its size was written
-pub record FormatsAt (declared : Declarations → Type 0) (asked : NewImage) (has : Option (List ℕ)) (lies : Option (Option SectorSize)) (old new : Option (List ℕ)) : Type 0 where
+pub record FormatsAt (declared : Declarations → Type 0) (asked : NewImage) (has : Option (List ℕ)) (lies : Option ImageKind) (old new : Option (List ℕ)) : Type 0 where
   pub schema : Declarations
   pub so : declared schema
   pub layout : Layout
@@ -93,7 +93,7 @@ pub record FormatsAt (declared : Declarations → Type 0) (asked : NewImage) (ha
   pub printed : PrintsSize (size_of layout) old new
 
 -- the same where it isn't known of which schema
-abbrev pub MakesAt : (asked : NewImage) (has : Option (List ℕ)) (lies : Option (Option SectorSize)) (old new : Option (List ℕ)) → Type 0
+abbrev pub MakesAt : (asked : NewImage) (has : Option (List ℕ)) (lies : Option ImageKind) (old new : Option (List ℕ)) → Type 0
 MakesAt asked has lies old new = FormatsAt (λ schema. Unit {0}) asked has lies old new
 
 -- a beginning of that line was written, and not all. The schema is one of these

@@ -18,7 +18,7 @@ use std::rt::Files;
 pub enum Content {
     /// No bytes; or a block device that begins with zeros.
     Nothing,
-    /// What an image begins with: its name and an open gate; or the label of one in two places, whose sectors are all there.
+    /// What an image begins with: its name and an open gate; or the label of one in two places or behind a journal, of which all is there.
     Image,
     /// Other bytes; or it is neither a regular file nor a block device.
     Other,

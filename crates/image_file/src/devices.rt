@@ -5,6 +5,7 @@ use crate::error::FileFault;
 use crate::reading::size_in;
 use crate::trouble::{Place, Trouble};
 use disk_file::{BackingFile, Claim};
+use disk_sector_file::{FileLabel, ImageKind, journal_for, label_of, room_of_journal};
 use disk_sectors::SectorSize;
 use image::{HEADER_BYTES, is_formatted};
 use std::fs::OpenFile;
@@ -54,14 +55,16 @@ impl<F: BackingFile + Drop> Beginning<F> {
     }
 }
 
-// Where the image ends that its header tells of. One in two places goes as far as its label says.
+// Where the image ends that its header tells of, or the journal that its label tells of. One in two places goes as far as its label says.
 fn end_of_image<F: BackingFile>(device: &mut F) -> io::Result<u64> {
     let mut head = [0; HEADER_BYTES];
     device.read_from(0, &mut head)?;
     if is_formatted(&head) {
-        Ok(size_in(&head))
-    } else {
-        Ok(u64::MAX)
+        return Ok(size_in(&head));
+    }
+    match label_of(device)? {
+        Some(FileLabel::Journal(areas)) => Ok(room_of_journal(areas)),
+        Some(FileLabel::Places(_)) | None => Ok(u64::MAX),
     }
 }
 
@@ -98,13 +101,13 @@ impl<F: BackingFile + Drop> BackingFile for Beginning<F> {
     }
 }
 
-/// Claims the block device at this path for a new image of so many bytes, which lies so. `None`: no block device is there.
+/// Claims the block device at this path for a new image of this kind and so many bytes. `None`: no block device is there.
 ///
 /// `NotImage`: it has other bytes than zeros where the image is to be; `InUse`: another process has it.
 pub(crate) fn take_device<F, R>(
     rt: &R,
     path: &str,
-    sectors: Option<SectorSize>,
+    kind: ImageKind,
     size: u64,
     trouble: &Trouble,
 ) -> Result<Option<F>, FileFault>
@@ -119,7 +122,7 @@ where
         trouble.note(Place::Image, &no_file());
         return Err(FileFault::Fault);
     };
-    let fault = match is_blank(&mut device, room_on(sectors, size)) {
+    let fault = match is_blank(&mut device, room_on(kind, size)) {
         Ok(true) => return Ok(Some(device)),
         Ok(false) => FileFault::NotImage,
         Err(error) => {
@@ -138,12 +141,13 @@ fn is_device_at<R: Files>(rt: &R, path: &str) -> bool {
     }
 }
 
-// How many bytes a new image of this size takes, if it lies so.
-fn room_on(sectors: Option<SectorSize>, size: u64) -> u64 {
-    match sectors {
-        None => size,
-        Some(SectorSize::Bytes512) => in_two_places(size.div_ceil(512), 512),
-        Some(SectorSize::Bytes4096) => in_two_places(size.div_ceil(4096), 4096),
+// How many bytes a new image of this kind and size takes.
+fn room_on(kind: ImageKind, size: u64) -> u64 {
+    match kind {
+        ImageKind::Plain => size,
+        ImageKind::Placed(SectorSize::Bytes512) => in_two_places(size.div_ceil(512), 512),
+        ImageKind::Placed(SectorSize::Bytes4096) => in_two_places(size.div_ceil(4096), 4096),
+        ImageKind::Journaled => room_of_journal(journal_for(size)),
     }
 }
 

@@ -45,7 +45,7 @@ impl From<PlacesError> for FileFault {
         match error {
             PlacesError::Fault => FileFault::Fault,
             PlacesError::NoMemory => FileFault::NoMemory,
-            // Its sectors were there when its label was read: another process has shortened it.
+            // All that its label counts was there when this was read: another process has shortened the file.
             PlacesError::TooSmall => FileFault::NotImage,
         }
     }

@@ -14,8 +14,7 @@ use crate::trouble::{Place, Trouble};
 use crate::watched::Watched;
 use block_disk::Disk;
 use disk_file::{BackingFile, Claim};
-use disk_sector_file::{ImageDisk, label_of};
-use disk_sectors::SectorSize;
+use disk_sector_file::{FileLabel, ImageDisk, ImageKind, label_of};
 use std::alloc::Global;
 use std::fs::{Metadata, OpenFile, OpenOptions};
 use std::io::{ErrorKind, Read};
@@ -53,7 +52,7 @@ pub struct FileImages<'a, F: BackingFile + Drop, R> {
 #[derive(Drop)]
 struct Taken<F: Drop> {
     names: Names,
-    sectors: Option<SectorSize>,
+    kind: ImageKind,
     // What was there, which is claimed, and the file in which the new one is made.
     old: Option<F>,
     new: F,
@@ -108,7 +107,7 @@ where
         }
     }
 
-    fn shape(&mut self, path: &str) -> Result<(u64, Option<SectorSize>), FileFault> {
+    fn shape(&mut self, path: &str) -> Result<(u64, ImageKind), FileFault> {
         shape_at(self.rt, path, self.trouble)
     }
 
@@ -151,10 +150,10 @@ where
         &mut self,
         alloc: Global,
         path: &str,
-        sectors: Option<SectorSize>,
+        kind: ImageKind,
         size: u64,
     ) -> Result<ImageDisk<Watched<'a, Beginning<F>>>, FileFault> {
-        let taken = match take(self.rt, alloc, path, sectors, size, self.trouble) {
+        let taken = match take(self.rt, alloc, path, kind, size, self.trouble) {
             Ok(taken) => taken,
             Err(fault) => return Err(fault),
         };
@@ -169,7 +168,7 @@ where
             ),
             Err(error) => return Err(noted(Place::Beside, &error, self.trouble)),
         };
-        match ImageDisk::blank(alloc, file, sectors, size) {
+        match ImageDisk::blank(alloc, file, kind, size) {
             Ok(disk) => Ok(disk),
             Err(error) => Err(FileFault::from(error)),
         }
@@ -178,14 +177,14 @@ where
     fn replace(
         &mut self,
         path: &str,
-        sectors: Option<SectorSize>,
+        kind: ImageKind,
         _disk: &ImageDisk<Watched<'a, Beginning<F>>>,
         is_kept: bool,
     ) -> Result<(), FileFault> {
         let Some(taken) = &mut self.taken else {
             return Err(FileFault::Fault);
         };
-        if taken.names.path.as_str() != path || taken.sectors != sectors {
+        if taken.names.path.as_str() != path || taken.kind != kind {
             return Err(FileFault::Fault);
         }
         if taken.is_in_place {
@@ -255,12 +254,8 @@ fn is_empty<F: BackingFile + OpenFile + Drop>(
     }
 }
 
-// How many bytes the image in the regular file at this path has, and where it lies in two places how many a sector has.
-fn shape_at<F, R>(
-    rt: &R,
-    path: &str,
-    trouble: &Trouble,
-) -> Result<(u64, Option<SectorSize>), FileFault>
+// How many bytes the image in the regular file at this path has, and how it lies.
+fn shape_at<F, R>(rt: &R, path: &str, trouble: &Trouble) -> Result<(u64, ImageKind), FileFault>
 where
     F: BackingFile + Drop,
     R: Files<File = F>,
@@ -276,11 +271,15 @@ where
     let label = label_of(&mut file);
     drop(file);
     match label {
-        Ok(Some(label)) => {
+        Ok(Some(FileLabel::Places(label))) => {
             let len = label.count.saturating_mul(label.size.bytes() as u64);
-            Ok((len, Some(label.size)))
+            Ok((len, ImageKind::Placed(label.size)))
         }
-        Ok(None) => Ok((size, None)),
+        Ok(Some(FileLabel::Journal(areas))) => {
+            let len = (areas.image as u64).saturating_mul(4096);
+            Ok((len, ImageKind::Journaled))
+        }
+        Ok(None) => Ok((size, ImageKind::Plain)),
         Err(_) => Err(FileFault::Fault),
     }
 }
@@ -350,7 +349,7 @@ fn take<F, R>(
     rt: &R,
     alloc: Global,
     path: &str,
-    sectors: Option<SectorSize>,
+    kind: ImageKind,
     size: u64,
     trouble: &Trouble,
 ) -> Result<Taken<F>, FileFault>
@@ -362,11 +361,11 @@ where
         Ok(names) => names,
         Err(fault) => return Err(fault),
     };
-    match take_device(rt, names.target.as_str(), sectors, size, trouble) {
+    match take_device(rt, names.target.as_str(), kind, size, trouble) {
         Ok(Some(new)) => {
             return Ok(Taken {
                 names,
-                sectors,
+                kind,
                 old: None,
                 new,
                 is_there: true,
@@ -382,7 +381,7 @@ where
     match take_files(rt, names.target.as_str(), names.beside.as_str(), trouble) {
         Ok((old, new)) => Ok(Taken {
             names,
-            sectors,
+            kind,
             old,
             new,
             is_there: false,

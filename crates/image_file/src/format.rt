@@ -1,5 +1,5 @@
 //! Making an image for the schema of a file.
-ghost use Rattle.std.specs.Prelude.{◌≡◌, [], IfErr, IfOk, IfSome, OnErr, OnOk};
+ghost use Rattle.std.specs.Prelude.{◌≡◌, [], IfErr, IfOk, OnErr, OnOk};
 ghost use Rattle.std.specs.Io.KnownBytes.{Appends};
 ghost use Rattle.script_declarations.specs.SchemaFiles.{DeclaresSchema};
 ghost use Rattle.image_parts.specs.Layout.{size_of};
@@ -96,7 +96,7 @@ pub fn make_image<D: Disk + Drop, P: Images<Medium = D>>(
     // The image that is made is there, at the path.
     ensures there { IfOk result
         (λ made. IsThere (D.device made.0).now.bytes (P.holds images.new path.now)) }
-    // The image that is made lies in two places exactly where sectors were named.
+    // The image that is made lies as was asked.
     ensures lies { OnOk result (LiesSo new (P.lies images.new path.now)) }
     // The numbers are blamed only where lanes or records are past their limits.
     ensures bad_header { IfErr result
@@ -150,7 +150,7 @@ fn make_in_place<D: Disk + Drop, P: Images<Medium = D>>(
         Ok(made) => made,
         Err(fault) => return Err(fault),
     };
-    match images.replace(path, new.sectors, &disk, new.is_kept) {
+    match images.replace(path, new.kind, &disk, new.is_kept) {
         Ok(()) => Ok((disk, layout)),
         Err(fault) => {
             drop(disk);
@@ -174,7 +174,7 @@ fn formatted<D: Disk + Drop, P: Images<Medium = D>>(
     ensures same { P.holds images.new path.now ≡ P.holds images.old path.now }
     ensures beside { LeavesBesideIt path.now P.holds P.lies images.old images.new }
 {
-    let disk = match images.make(alloc, path, new.sectors, size) {
+    let disk = match images.make(alloc, path, new.kind, size) {
         Ok(disk) => disk,
         Err(fault) => return Err(fault),
     };

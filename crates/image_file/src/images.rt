@@ -1,7 +1,7 @@
 //! The images that words name by paths.
 ghost use Rattle.std.specs.Prelude.{◌≡◌, ◌⊎◌, ◌↔◌, ℕ, List, [], Option, replicate, IfErr, IfOk, IfSome, IsTrue, OnErr, OnOk};
 ghost use Rattle.block_disk.specs.Device.{Device, new_device};
-ghost use Rattle.disk_sectors.specs.declared.size.SectorSize.{SectorSize as Size};
+ghost use Rattle.disk_sector_file.specs.declared.image_kind.ImageKind.{ImageKind as Kind};
 ghost use Rattle.disk_sector_file.specs.ImageDisks.{room_for};
 ghost use Rattle.image_file.specs.Beside.{IsKept, KeepsBeside, LeavesBeside, LiesOn, LeavesBesideIt, kept_at};
 ghost use Rattle.image_file.specs.Images.{BeginsThere, IsLeft, IsThere, MayNotBeHad};
@@ -9,7 +9,7 @@ ghost use Rattle.image_file.specs.Images.{BeginsThere, IsLeft, IsThere, MayNotBe
 use crate::error::FileFault;
 use block_disk::Disk;
 use disk_file::VolatileDisk;
-use disk_sectors::SectorSize;
+use disk_sector_file::ImageKind;
 use std::alloc::Global;
 
 /// The images that words name by paths, and the disks that they are.
@@ -23,8 +23,8 @@ pub trait Images {
     /// The bytes of the image at a path, where they are known; none of them where no file is there, or an empty one.
     ghost holds: { Self → List ℕ → Option (List ℕ) };
 
-    /// How the image at a path lies, where that is known: in one place, or in two on sectors of so many bytes.
-    ghost lies: { Self → List ℕ → Option (Option Size) };
+    /// How the image at a path lies, where that is known.
+    ghost lies: { Self → List ℕ → Option Kind };
 
     /// Whether there is no file at the path, or an empty one. `NotImage`: there is a file with other bytes than an image's.
     fn is_vacant(&mut self, path: &str) -> Result<bool, FileFault>
@@ -35,9 +35,9 @@ pub trait Images {
             (lies self.new) };
 
     /// How many bytes the image at the path has, and how it lies.
-    fn shape(&mut self, path: &str) -> Result<(u64, Option<SectorSize>), FileFault>
+    fn shape(&mut self, path: &str) -> Result<(u64, ImageKind), FileFault>
         ensures ok { IfOk result
-            (λ shape. IfSome (lies self.old path.now) (λ sectors. sectors ≡ shape.1)) }
+            (λ shape. IfSome (lies self.old path.now) (λ kind. kind ≡ shape.1)) }
         ensures same { holds self.new path.now ≡ holds self.old path.now }
         ensures beside { LeavesBeside path.now (holds self.old) (holds self.new) (lies self.old)
             (lies self.new) };
@@ -83,7 +83,7 @@ pub trait Images {
         ensures beside { LeavesBeside path.now (holds self.old) (holds self.new) (lies self.old)
             (lies self.new) };
 
-    /// A disk of zeros for a new image at the path, which lies so and has room for so many bytes. What is there stays, and is kept from
+    /// A disk of zeros of this kind for a new image at the path, which has room for so many bytes. What is there stays, and is kept from
     /// others until the new one has replaced it, or is given up.
     ///
     /// `NotImage`: there is a file with other bytes than an image's; `InUse`: another process has what is there.
@@ -91,31 +91,31 @@ pub trait Images {
         &mut self,
         alloc: Global,
         path: &str,
-        sectors: Option<SectorSize>,
+        kind: ImageKind,
         size: u64,
     ) -> Result<Self::Medium, FileFault>
         // A disk that is made to replace an image has zeros.
         ensures ok { IfOk result
-            (λ disk. Self.Medium.device disk ≡ new_device (replicate (room_for sectors size) 0)) }
+            (λ disk. Self.Medium.device disk ≡ new_device (replicate (room_for kind size) 0)) }
         // Making a disk leaves the image at the path.
         ensures same { holds self.new path.now ≡ holds self.old path.now }
         // Making a disk loses nothing beside the path.
         ensures beside { LeavesBeside path.now (holds self.old) (holds self.new) (lies self.old)
             (lies self.new) };
 
-    /// Puts this disk in the place of what is at the path. It is the one that was made last for this path, and to lie so; else that is a
+    /// Puts this disk in the place of what is at the path. It is the one that was made last for this path, of this kind; else that is a
     /// `Fault`. Where `is_kept`, an image that was there stays beside it, at the path with `~` at its end.
     fn replace(
         &mut self,
         path: &str,
-        sectors: Option<SectorSize>,
+        kind: ImageKind,
         disk: &Self::Medium,
         is_kept: bool,
     ) -> Result<(), FileFault>
         // After a replacing the image at the path is what a crash may leave of the disk.
         ensures ok { OnOk result
             (IsLeft (Self.Medium.device disk.now).now (holds self.new path.now)) }
-        ensures kind { OnOk result (LiesOn sectors (lies self.new path.now)) }
+        ensures lies { OnOk result (LiesOn kind (lies self.new path.now)) }
         // An image that is to be kept is at the path with `~` once another has replaced it; where none is to be kept, or none
         // was there, what was kept before remains.
         ensures kept { OnOk result
@@ -123,8 +123,8 @@ pub trait Images {
             (holds self.new (kept_at path.now))) }
         // A failed replacing leaves the old image at the path, or the whole new one.
         ensures err { OnErr result ((holds self.new path.now ≡ holds self.old path.now) ⊎ IsLeft (Self.Medium.device disk.now).now (holds self.new path.now)) }
-        ensures kind_or_not { OnErr result
-            ((lies self.new path.now ≡ lies self.old path.now) ⊎ LiesOn sectors (lies self.new path.now)) }
+        ensures lies_or_not { OnErr result
+            ((lies self.new path.now ≡ lies self.old path.now) ⊎ LiesOn kind (lies self.new path.now)) }
         // A replacing, failed or not, loses nothing beside the path: what is kept there remains, or is the old image where that
         // is to be kept, and what is elsewhere remains.
         ensures beside { KeepsBeside is_kept path.now (holds self.old) (holds self.new) };

@@ -1,6 +1,6 @@
 //! What a new image is to be.
 
-use disk_sectors::SectorSize;
+use disk_sector_file::ImageKind;
 
 /// What a new image is to be.
 #[derive(Clone, Copy)]
@@ -9,8 +9,8 @@ pub struct NewImage {
     pub lanes: u8,
     /// The records that a lane's area holds, 2,000 to 1,048,576.
     pub capacity: u32,
-    /// How many bytes a sector has, where the image is to lie in two places.
-    pub sectors: Option<SectorSize>,
+    /// How it is to lie in its file.
+    pub kind: ImageKind,
     /// Whether an image that was there stays beside the new one.
     pub is_kept: bool,
 }

@@ -6,8 +6,7 @@ use crate::error::FileFault;
 use crate::trouble::{Place, Trouble};
 use crate::watched::Watched;
 use disk_file::{BackingFile, Claim};
-use disk_sector_file::ImageBytes;
-use disk_sectors::Label;
+use disk_sector_file::{ImageBytes, has_label};
 use heap_model::{LANES, MOST_CAPACITY, MOST_FIELDS};
 use image::{HEAD_BYTES, HEADER_BYTES, is_formatted};
 use std::alloc::Global;
@@ -94,16 +93,16 @@ fn begin_to_read<'a, F: BackingFile + Read + Drop>(
     if is_formatted(&head) {
         return Ok(reader_of(ImageBytes::Plain(file), head));
     }
-    let placed = placed_in(alloc, file, &head);
+    let behind = behind_label(alloc, file, &head);
     drop(head);
-    match placed {
-        Ok(bytes) => begin_to_read_placed(alloc, bytes),
+    match behind {
+        Ok(bytes) => begin_to_read_behind(alloc, bytes),
         Err(fault) => Err(fault),
     }
 }
 
-// The same for the bytes of a disk in two places, which have a header of their own.
-fn begin_to_read_placed<'a, F: BackingFile + Read + Drop>(
+// The same for the bytes of a disk behind a label, which have a header of their own.
+fn begin_to_read_behind<'a, F: BackingFile + Read + Drop>(
     alloc: Global,
     bytes: ImageBytes<Watched<'a, F>>,
 ) -> Result<(ImageReader<'a, F>, usize), FileFault> {
@@ -153,17 +152,22 @@ fn reader_of<'a, F: BackingFile + Read + Drop>(
     (Cursor::new(head).chain(file.take(rest)), room)
 }
 
-// The bytes of the disk in two places that this file is, which begins so.
-fn placed_in<F: BackingFile + Drop>(
+// The bytes of the disk in two places or behind a journal that this file is, which begins so.
+fn behind_label<F: BackingFile + Drop>(
     alloc: Global,
     file: F,
     head: &[u8],
 ) -> Result<ImageBytes<F>, FileFault> {
-    if Label::read(head).is_none() {
+    if !has_label(head) {
         drop(file);
         return Err(FileFault::NotImage);
     }
     match ImageBytes::found(alloc, file) {
+        // It has less than its label counts.
+        Ok(ImageBytes::Plain(file)) => {
+            drop(file);
+            Err(FileFault::NotImage)
+        }
         Ok(bytes) => Ok(bytes),
         Err(error) => Err(FileFault::from(error)),
     }

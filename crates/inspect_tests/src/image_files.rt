@@ -2,6 +2,7 @@
 mod recovered;
 
 use disk_file::{BackingFile, Claim};
+use disk_sector_file::ImageKind;
 use image_file::{FileImages, FormatError, NewImage, Trouble, format_at};
 use script_declarations::{SchemaFault, SchemaFaultKind};
 use std::fs;
@@ -23,7 +24,7 @@ const HEADER: &[u8] = b"MONIHEAP\xA5\x02\x00\x00\x00\x00\x00\x04\x00\x00\x00\x02
 const NEW: NewImage = NewImage {
     lanes: 2,
     capacity: 4000,
-    sectors: None,
+    kind: ImageKind::Plain,
     is_kept: false,
 };
 

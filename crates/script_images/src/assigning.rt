@@ -14,7 +14,7 @@ use crate::opening::{refused, schema_for};
 use crate::playing::{Played, play_over};
 use crate::running::{of_file, place_for, put_image, tidy};
 use block_disk::{Disk, MemDisk};
-use disk_sectors::SectorSize;
+use disk_sector_file::ImageKind;
 use guards::Schema;
 use image_file::{Images, Trouble, schema_at};
 use recover::{RecoverError, Study, study};
@@ -99,7 +99,7 @@ fn set_image<D: Disk + Drop, P: Images<Medium = D>, W: Write>(
     ensures beside { StaysBesideIt path.now P.holds P.lies images.old images.new }
 {
     match place_for(images, alloc, path) {
-        Ok((disk, sectors)) => set_on(images, alloc, path, disk, sectors, given, texts, writer),
+        Ok((disk, kind)) => set_on(images, alloc, path, disk, kind, given, texts, writer),
         Err(why) => {
             drop(given);
             Err(SetFault::Run(of_file(why)))
@@ -113,12 +113,12 @@ fn set_on<D: Disk + Drop, P: Images<Medium = D>, W: Write>(
     alloc: Global,
     path: &str,
     disk: D,
-    sectors: Option<SectorSize>,
+    kind: ImageKind,
     given: Option<Schema>,
     texts: &[&str],
     writer: &mut W,
 ) -> Result<(), SetFault>
-    requires { LiesOn sectors (P.lies images.old path.now) }
+    requires { LiesOn kind (P.lies images.old path.now) }
     ensures ends { SetsHeld given texts.now (P.holds images.old path.now) (P.holds images.new path.now)
         (W.contents writer.old) (W.contents writer.new) result }
     ensures beside { StaysBesideIt path.now P.holds P.lies images.old images.new }
@@ -130,7 +130,7 @@ fn set_on<D: Disk + Drop, P: Images<Medium = D>, W: Write>(
             return Err(fault);
         }
     };
-    if let Err(why) = put_image(images, path, disk, sectors, &played.image) {
+    if let Err(why) = put_image(images, path, disk, kind, &played.image) {
         return Err(SetFault::Run(of_file(why)));
     }
     match put(writer, &played.text) {

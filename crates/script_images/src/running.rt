@@ -12,7 +12,7 @@ ghost use Rattle.script_images.specs.declared.error.RunFault.TheVariants.{Named}
 use crate::error::RunFault;
 use crate::playing::{Played, play_over};
 use block_disk::Disk;
-use disk_sectors::SectorSize;
+use disk_sector_file::ImageKind;
 use guards::Schema;
 use image_file::{FileFault, ImageFault, Images, NamedFault, Trouble, schema_at};
 use script_lines::{Ending, read_lines};
@@ -44,13 +44,13 @@ pub fn run_image<D: Disk + Drop, P: Images<Medium = D>, W: Write>(
     // byte that it had. A writer that fails leaves a beginning of the text, and the image replaced.
     ensures ends { RunsHeld given (lines_of script.now) ending is_strict result (P.holds images.old path.now)
         (P.holds images.new path.now) (W.contents writer.old) (W.contents writer.new) }
-    // Nothing beside the path is lost: what is kept there remains, and the image lies as it did, in one place or in two.
+    // Nothing beside the path is lost: what is kept there remains, and the image lies as it did.
     ensures beside { StaysBesideIt path.now P.holds P.lies images.old images.new }
 {
     match place_for(images, alloc, path) {
-        Ok((disk, sectors)) => {
+        Ok((disk, kind)) => {
             run_on(
-                images, alloc, path, disk, sectors, given, script, ending, is_strict, writer,
+                images, alloc, path, disk, kind, given, script, ending, is_strict, writer,
             )
         }
         Err(why) => {
@@ -65,18 +65,18 @@ pub(crate) fn place_for<D: Disk + Drop, P: Images<Medium = D>>(
     images: &mut P,
     alloc: Global,
     path: &str,
-) -> Result<(D, Option<SectorSize>), FileFault>
+) -> Result<(D, ImageKind), FileFault>
     // The new image is to lie as the one that is there.
     ensures lies { IfOk result (λ r. LiesOn r.1 (P.lies images.new path.now)) }
     ensures same { P.holds images.new path.now ≡ P.holds images.old path.now }
     ensures beside { LeavesBesideIt path.now P.holds P.lies images.old images.new }
 {
-    let (size, sectors) = match images.shape(path) {
+    let (size, kind) = match images.shape(path) {
         Ok(shape) => shape,
         Err(fault) => return Err(fault),
     };
-    match images.make(alloc, path, sectors, size) {
-        Ok(disk) => Ok((disk, sectors)),
+    match images.make(alloc, path, kind, size) {
+        Ok(disk) => Ok((disk, kind)),
         Err(fault) => Err(fault),
     }
 }
@@ -87,14 +87,14 @@ fn run_on<D: Disk + Drop, P: Images<Medium = D>, W: Write>(
     alloc: Global,
     path: &str,
     disk: D,
-    sectors: Option<SectorSize>,
+    kind: ImageKind,
     given: Option<Schema>,
     script: &[u8],
     ending: Ending,
     is_strict: bool,
     writer: &mut W,
 ) -> Result<(), RunFault>
-    requires { LiesOn sectors (P.lies images.old path.now) }
+    requires { LiesOn kind (P.lies images.old path.now) }
     ensures ends { RunsHeld given (lines_of script.now) ending is_strict result (P.holds images.old path.now)
         (P.holds images.new path.now) (W.contents writer.old) (W.contents writer.new) }
     ensures beside { StaysBesideIt path.now P.holds P.lies images.old images.new }
@@ -106,7 +106,7 @@ fn run_on<D: Disk + Drop, P: Images<Medium = D>, W: Write>(
             return Err(fault);
         }
     };
-    if let Err(why) = put_image(images, path, disk, sectors, &played.image) {
+    if let Err(why) = put_image(images, path, disk, kind, &played.image) {
         return Err(of_file(why));
     }
     match put(writer, &played.text) {
@@ -151,10 +151,10 @@ pub(crate) fn put_image<D: Disk + Drop, P: Images<Medium = D>>(
     images: &mut P,
     path: &str,
     disk: D,
-    sectors: Option<SectorSize>,
+    kind: ImageKind,
     image: &[u8],
 ) -> Result<(), FileFault>
-    requires { LiesOn sectors (P.lies images.old path.now) }
+    requires { LiesOn kind (P.lies images.old path.now) }
     ensures ok { OnOk result (IsThere image.now (P.holds images.new path.now)) }
     ensures err { OnErr result
         ((P.holds images.new path.now ≡ P.holds images.old path.now) ⊎ IsThere image.now
@@ -166,7 +166,7 @@ pub(crate) fn put_image<D: Disk + Drop, P: Images<Medium = D>>(
         drop(disk);
         return Err(fault);
     }
-    let replaced = images.replace(path, sectors, &disk, false);
+    let replaced = images.replace(path, kind, &disk, false);
     drop(disk);
     replaced
 }
@@ -228,7 +228,7 @@ where
     ensures ends { RunsAt schema_path.entry is_strict result (P.holds images.old path.now)
         (P.holds images.new path.now) (S.remaining reader.old) (S.remaining reader.new)
         (W.contents writer.old) (W.contents writer.new) }
-    // Nothing beside the path is lost: what is kept there remains, and the image lies as it did, in one place or in two.
+    // Nothing beside the path is lost: what is kept there remains, and the image lies as it did.
     ensures beside { StaysBesideIt path.now P.holds P.lies images.old images.new }
 {
     let given = match schema_at(rt, alloc, trouble, schema_path) {

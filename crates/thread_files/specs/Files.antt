@@ -1,5 +1,5 @@
 -- Threads on the image at a path (this project's own).
-use Rattle.std.specs.Prelude.{ℕ, ◌≡◌, ◌⊎◌, false, List, [], Option, None}
+use Rattle.std.specs.Prelude.{ℕ, ◌≡◌, ◌⊎◌, false, List, [], Option}
 use Rattle.block_disk.specs.Device.{Device, new_device}
 use Rattle.guards.specs.Schema.{Declarations}
 use Rattle.thread_work.specs.Bodies.{Answer}
@@ -12,6 +12,7 @@ use Rattle.image_parts.specs.declared.layout.Layout.{Layout}
 use Rattle.image_file.specs.Formatting.{IsBeforeFile, IsImageFor, StaysOrIsMade}
 use Rattle.image_file.specs.Images.{IsLeft, IsThere}
 use Rattle.image_file.specs.declared.error.FormatError.{FormatError}
+use Rattle.disk_sector_file.specs.declared.image_kind.ImageKind.TheVariants.{Plain}
 use Rattle.image_file.specs.declared.new_image.NewImage.{NewImage}
 use Rattle.monitor.specs.Seats.{Home}
 use Rattle.recover.specs.declared.report.Report.{Report}
@@ -28,7 +29,7 @@ pub record IsOpenedAt (had : Option (List ℕ)) (d : Device) : Type 0 where
 
 -- what is asked for where there is no image yet: a lane for each thread and the helper's, with logs as the plan says, in one place
 abbrev pub asked_for : FilePlan → NewImage
-asked_for plan = record { lanes = lanes_for plan.threads; capacity = plan.lane_records; sectors = None; is_kept = false }
+asked_for plan = record { lanes = lanes_for plan.threads; capacity = plan.lane_records; kind = Plain; is_kept = false }
 
 -- the disk of an image that was made for threads
 abbrev pub IsMadeAt : (schema : Declarations) (plan : FilePlan) → Device → Type 0

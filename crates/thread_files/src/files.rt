@@ -10,6 +10,7 @@ use crate::error::FileRunError;
 use crate::plan::FilePlan;
 use block_disk::Disk;
 use disk_file::BackingFile;
+use disk_sector_file::ImageKind;
 use guards::Schema;
 use image::Recovered;
 use image_file::{FileImages, Images, NewImage, Trouble, make_image};
@@ -162,7 +163,7 @@ where
     let new = NewImage {
         lanes: lanes_for(plan.threads),
         capacity: plan.lane_records,
-        sectors: None,
+        kind: ImageKind::Plain,
         is_kept: false,
     };
     match make_image(images, alloc, path, schema, new) {

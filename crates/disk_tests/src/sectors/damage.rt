@@ -139,7 +139,8 @@ fn lose_each(sectors: &mut MemSectors, lost: &[bool]) {
     }
 }
 
-fn image(alloc: Global, disk: &MemDisk, stop: u64, fill: Fill) -> Option<Vec<u8>> {
+/// The bytes that a crash leaves in this stop of the disk.
+pub(crate) fn image(alloc: Global, disk: &MemDisk, stop: u64, fill: Fill) -> Option<Vec<u8>> {
     match disk.crash_image(stop, fill) {
         Ok(Some(left)) => {
             let bytes = left.bytes().to_vec(alloc);

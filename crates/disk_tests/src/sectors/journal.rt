@@ -11,11 +11,11 @@ use journal_batches::Areas;
 use std::alloc::Global;
 
 // A half has room for 248 words, and the image has 512.
-const AREAS: Areas = Areas { half: 1, image: 1 };
+pub(crate) const AREAS: Areas = Areas { half: 1, image: 1 };
 
-const LEN: usize = 4096;
+pub(crate) const LEN: usize = 4096;
 
-const ROOM: u64 = 4 * 4096;
+pub(crate) const ROOM: u64 = 4 * 4096;
 
 const DEVICES: u64 = 24; // tools/quick: 2
 // With torn sectors, until one is wrong.
@@ -23,7 +23,7 @@ const TORN: u64 = 24;
 // Of each device: each life begins with what the last one's crash has left.
 const LIVES: u64 = 8;
 
-type Tried = Journaled<MemDisk>;
+pub(crate) type Tried = Journaled<MemDisk>;
 
 // What a crash may have left: one of two images, or bytes of both.
 #[derive(Clone, Copy)]
@@ -42,7 +42,7 @@ impl Allowed {
     }
 }
 
-fn is_of_both(found: &[u8], old: &[u8], new: &[u8]) -> bool {
+pub(crate) fn is_of_both(found: &[u8], old: &[u8], new: &[u8]) -> bool {
     for i in 0..found.len() {
         if i < old.len() && i < new.len() && found[i] != old[i] && found[i] != new[i] {
             return false;
@@ -316,7 +316,7 @@ fn wrong_stops(alloc: Global, disk: &Tried, older: &Allowed, chance: &mut Chance
 }
 
 // The image of the device, if it has one.
-fn found_on(alloc: Global, device: &[u8]) -> Option<Option<[u8; LEN]>> {
+pub(crate) fn found_on(alloc: Global, device: &[u8]) -> Option<Option<[u8; LEN]>> {
     let under = MemDisk::from_bytes(alloc, device).ok()?;
     match Journaled::open(alloc, under) {
         Ok(mut disk) => {

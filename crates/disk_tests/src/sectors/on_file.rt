@@ -4,7 +4,7 @@ use crate::sectors::medium::Medium;
 use crate::sectors::truth::{Truth, bytes_of, change};
 use block_disk::Disk;
 use disk_file::BackingFile;
-use disk_sector_file::ImageDisk;
+use disk_sector_file::{ImageDisk, ImageKind};
 use disk_sectors::SectorSize;
 use std::alloc::Global;
 
@@ -39,7 +39,12 @@ fn wrong(alloc: Global, gate: Gate) -> Option<u64> {
 // How many of one file's crashes did.
 fn live(alloc: Global, gate: Gate, chance: &mut Chance) -> Option<u64> {
     let medium = Medium::empty();
-    let made = ImageDisk::blank(alloc, medium.file(), Some(SectorSize::Bytes512), LEN as u64);
+    let made = ImageDisk::blank(
+        alloc,
+        medium.file(),
+        ImageKind::Placed(SectorSize::Bytes512),
+        LEN as u64,
+    );
     let is_made = made.is_ok();
     drop(made);
     let wrong = if is_made {
@@ -171,7 +176,12 @@ fn a_gate_that_an_opening_writes_back_loses_bytes(rt: HostRuntime) {
 // fails: the gate's two are made again, and the others are told.
 fn is_made_again(alloc: Global, call: u64) -> bool {
     let medium = Medium::empty();
-    let made = ImageDisk::blank(alloc, medium.file(), Some(SectorSize::Bytes512), LEN as u64);
+    let made = ImageDisk::blank(
+        alloc,
+        medium.file(),
+        ImageKind::Placed(SectorSize::Bytes512),
+        LEN as u64,
+    );
     match made {
         Ok(mut disk) => {
             let is_written = disk.write_at(0, &[7; LEN]).is_ok();

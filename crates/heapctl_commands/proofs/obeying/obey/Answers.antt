@@ -1,7 +1,7 @@
 use Rattle.std.specs.Prelude.{not}
-use Rattle.std.proofs.Common.{Option, Result, refl, sym, subst}
+use Rattle.std.proofs.Common.{Result, refl, sym, subst}
 use Rattle.image_file.specs.Beside.{MakesBeside}
-use Rattle.disk_sectors.specs.declared.size.SectorSize.{SectorSize}
+use Rattle.disk_sector_file.specs.declared.image_kind.ImageKind.{ImageKind}
 use Rattle.recover.specs.declared.versions.Versions.TheVariants.{Current, Both}
 use Rattle.heapctl_commands.specs.Beside.{Spares}
 use Rattle.heapctl_commands.specs.Obeying.{Formats, Obeys, Recovers}
@@ -29,14 +29,14 @@ returns-in-Format-clause-ends o c =
     let lanes = c.in-Format.lanes in
     let capacity = c.in-Format.capacity in
     let forced = c.in-Format.is_forced in
-    let asked = on lanes capacity forced c.size_of.result in
+    let asked = on lanes capacity forced c.kind_for.result in
     let path = c.in-Format.image.now in
     let read = o.S.Read.remaining c.args.reader.now in
     let written = o.W.Write.contents c.args.writer.now in
     let now = o.W.Write.contents c.format_at.new.writer in
     subst (λ (w : Words). Obeys o.D.Disk.device w c.args.names.now c.on_format.result had has lies read read written now) (sym c.in-Format.is) (
       refl,
-      subst (λ (s : Option SectorSize). Formats (on lanes capacity forced s) c.on_format.result (had path) (has path) (lies path) written now) c.size_of.ensures
+      subst (λ (s : ImageKind). Formats (on lanes capacity forced s) c.on_format.result (had path) (has path) (lies path) written now) c.kind_for.ensures
           (subst (λ (r : Result (Unit {0}) WorkFault). Formats asked r (had path) (has path) (lies path) written now) (sym c.on_format.ensures)
           (made asked c.format_at.result (had path) (has path) (lies path) written now c.format_at.ensures.ok c.format_at.ensures.kept c.format_at.ensures.bad_header c.format_at.ensures.silent c.format_at.ensures.part)),
     )

@@ -1,4 +1,4 @@
-use Rattle.std.proofs.Common.{◌≡◌, ◌∙◌, [], List, ap, codes, map, rules}
+use Rattle.std.proofs.Common.{◌≡◌, ◌∙◌, [], ap, codes, map, rules}
 use Rattle.std.proofs.lemmas.Result.{IfOk-weaker}
 use Rattle.clap.specs.Matches.{found_of}
 use Rattle.clap.specs.Walk.{all_of, rows_of}

@@ -2,10 +2,10 @@ use Rattle.std.proofs.Common.{◌≡◌, List, [], ◌∷◌, ℕ, None, Some, c
 use Rattle.clap.proofs.OnLiterals.{clap_on_literals}
 use Rattle.clap.specs.Faults.{fault_of, is_simple_and_free}
 use Rattle.clap.specs.Kinds.{HasKind}
-use Rattle.clap.specs.Simple.{App, is_simple, subcommand_of, subcommand_rows_of}
+use Rattle.clap.specs.Simple.{App, is_simple, subcommand_of}
 use Rattle.clap.specs.Takes.{takes}
 use Rattle.heapctl_words.specs.Words.{AsksFor, names_asked, program}
-use Rattle.heapctl_words.proofs.PathLemmas.{both_lengths, idle_options, not_none, none_says_both, none_says_idle, none_says_no_part, none_says_other, not_run, one_file, other_sectors, run_rows, run_says_both, run_says_idle, run_says_no_part, run_says_other, two_files, unclear_part}
+use Rattle.heapctl_words.proofs.PathLemmas.{both_lengths, idle_options, no_kind, none_says_both, none_says_idle, none_says_no_kind, none_says_no_part, not_none, not_run, one_file, run_rows, run_says_both, run_says_idle, run_says_no_kind, run_says_no_part, two_files, unclear_part}
 use Rattle.heapctl_words.proofs.words.read_words.Goals as goal
 
 is_plain : is_simple_and_free program ≡ true
@@ -91,29 +91,29 @@ returns-then-has_both_lengths-clause-run c = λ name words_are.
     absurd (run_says_both (map (λ s. string_bytes s) c.args.words.now) run_rows (ap (subcommand_of program) words_are ∙ meets_run name)
     (both_lengths (map (λ s. string_bytes s) c.args.words.now) c.asked_by-asked.result asks (c.has_both_lengths.ensures.0 c.if-has_both_lengths.true)))
 
-pub returns-then-has_other_sectors-clause-exact : goal.returns-then-has_other_sectors-clause-exact
-returns-then-has_other_sectors-clause-exact c =
+pub returns-then-has_no_kind-clause-exact : goal.returns-then-has_no_kind-clause-exact
+returns-then-has_no_kind-clause-exact c =
     let is = c.in_ok-command.ensures in
     let met = (c.in-Ok.ensures.matches (ap is_simple is ∙ is_plainly_read)).1 ∙ ap (λ (a : App). subcommand_of a (map (λ s. string_bytes s) c.args.words.now)) is in
     let asks = subst (λ found. AsksFor found c.asked_by-asked.result) met c.asked_by-asked.ensures in
     let none = ap (λ (a : App). fault_of a (map (λ s. string_bytes s) c.args.words.now)) (sym is) ∙ c.in-Ok.ensures.kinds (ap is_simple_and_free is ∙ is_plain) in
-    inr (none, inr (inr (inl (other_sectors (map (λ s. string_bytes s) c.args.words.now) c.asked_by-asked.result asks (c.has_other_sectors.ensures.0 c.if-has_other_sectors.true)))), c.in_ok-conflict-3.ensures)
+    inr (none, inr (inr (inl (no_kind (map (λ s. string_bytes s) c.args.words.now) c.asked_by-asked.result asks (c.has_no_kind.ensures.0 c.if-has_no_kind.true)))), c.in_ok-conflict-3.ensures)
 
-pub returns-then-has_other_sectors-clause-none : goal.returns-then-has_other_sectors-clause-none
-returns-then-has_other_sectors-clause-none c = λ name words_are.
+pub returns-then-has_no_kind-clause-none : goal.returns-then-has_no_kind-clause-none
+returns-then-has_no_kind-clause-none c = λ name words_are.
     let is = c.in_ok-command.ensures in
     let met = (c.in-Ok.ensures.matches (ap is_simple is ∙ is_plainly_read)).1 ∙ ap (λ (a : App). subcommand_of a (map (λ s. string_bytes s) c.args.words.now)) is in
     let asks = subst (λ found. AsksFor found c.asked_by-asked.result) met c.asked_by-asked.ensures in
-    absurd (none_says_other (map (λ s. string_bytes s) c.args.words.now) (ap (subcommand_of program) words_are ∙ meets_none name)
-    (other_sectors (map (λ s. string_bytes s) c.args.words.now) c.asked_by-asked.result asks (c.has_other_sectors.ensures.0 c.if-has_other_sectors.true)))
+    absurd (none_says_no_kind (map (λ s. string_bytes s) c.args.words.now) (ap (subcommand_of program) words_are ∙ meets_none name)
+    (no_kind (map (λ s. string_bytes s) c.args.words.now) c.asked_by-asked.result asks (c.has_no_kind.ensures.0 c.if-has_no_kind.true)))
 
-pub returns-then-has_other_sectors-clause-run : goal.returns-then-has_other_sectors-clause-run
-returns-then-has_other_sectors-clause-run c = λ name words_are.
+pub returns-then-has_no_kind-clause-run : goal.returns-then-has_no_kind-clause-run
+returns-then-has_no_kind-clause-run c = λ name words_are.
     let is = c.in_ok-command.ensures in
     let met = (c.in-Ok.ensures.matches (ap is_simple is ∙ is_plainly_read)).1 ∙ ap (λ (a : App). subcommand_of a (map (λ s. string_bytes s) c.args.words.now)) is in
     let asks = subst (λ found. AsksFor found c.asked_by-asked.result) met c.asked_by-asked.ensures in
-    absurd (run_says_other (map (λ s. string_bytes s) c.args.words.now) run_rows (ap (subcommand_of program) words_are ∙ meets_run name)
-    (other_sectors (map (λ s. string_bytes s) c.args.words.now) c.asked_by-asked.result asks (c.has_other_sectors.ensures.0 c.if-has_other_sectors.true)))
+    absurd (run_says_no_kind (map (λ s. string_bytes s) c.args.words.now) run_rows (ap (subcommand_of program) words_are ∙ meets_run name)
+    (no_kind (map (λ s. string_bytes s) c.args.words.now) c.asked_by-asked.result asks (c.has_no_kind.ensures.0 c.if-has_no_kind.true)))
 
 pub returns-then-has_idle_options-clause-exact : goal.returns-then-has_idle_options-clause-exact
 returns-then-has_idle_options-clause-exact c =
@@ -173,7 +173,7 @@ returns-clause-exact c =
       two_files = two_files (map (λ s. string_bytes s) c.args.words.now) c.asked_by-asked.result asks
           (λ same. let both : true ≡ false = sym (c.has_one_path.ensures.1 same) ∙ c.if-has_one_path.false in absurd cc);
       one_length = λ lengths. let both : true ≡ false = sym (c.has_both_lengths.ensures.1 lengths) ∙ c.if-has_both_lengths.false in absurd cc;
-      sectors = λ other. let both : true ≡ false = sym (c.has_other_sectors.ensures.1 other) ∙ c.if-has_other_sectors.false in absurd cc;
+      one_kind = λ none. let both : true ≡ false = sym (c.has_no_kind.ensures.1 none) ∙ c.if-has_no_kind.false in absurd cc;
       busy = λ idle. let both : true ≡ false = sym (c.has_idle_options.ensures.1 idle) ∙ c.if-has_idle_options.false in absurd cc;
       clear = λ unclear. let both : true ≡ false = sym (c.has_unclear_part.ensures.1 unclear) ∙ c.if-has_unclear_part.false in absurd cc;
     }

@@ -17,7 +17,7 @@ returns-in-Ok-format-clause-ok g c =
       made = disks
           ∙ c.in-Ok-format.ensures.calls
           ∙ ap (λ l. after (format_calls l c.args.schema.now) (g.D.Disk.device c.in-Ok.disk)) (sym c.layout-layout.ensures.layout)
-          ∙ ap (after (format_calls c.layout-layout.result c.args.schema.now)) (c.in-Ok.ensures.ok ∙ ap (λ n. new_device (replicate (room_for c.args.new.sectors n) 0)) (c.requires ∙ ap size_of (sym layout_is)));
+          ∙ ap (after (format_calls c.layout-layout.result c.args.schema.now)) (c.in-Ok.ensures.ok ∙ ap (λ n. new_device (replicate (room_for c.args.new.kind n) 0)) (c.requires ∙ ap size_of (sym layout_is)));
     }
 
 pub returns-in-Ok-format-clause-durable : goal.returns-in-Ok-format-clause-durable

@@ -1,5 +1,6 @@
-use Rattle.std.proofs.Common.{ℕ, None, false, sym, subst}
+use Rattle.std.proofs.Common.{ℕ, false, sym, subst}
 use Rattle.image_file.specs.Formatting.{IsImageFor, StaysOrIsMade}
+use Rattle.disk_sector_file.specs.declared.image_kind.ImageKind.TheVariants.{Plain}
 use Rattle.image_file.specs.declared.new_image.NewImage.{NewImage}
 use Rattle.store_image.specs.Formatting.{AreLimits}
 use Rattle.thread_files.specs.declared.plan.FilePlan.{FilePlan}
@@ -7,7 +8,7 @@ use Rattle.thread_files.proofs.files.made_at.Goals as goal
 
 -- one with so many lanes
 abbrev with_lanes : FilePlan → (lanes : ℕ) → NewImage
-with_lanes plan n = record { lanes = n; capacity = plan.lane_records; sectors = None; is_kept = false }
+with_lanes plan n = record { lanes = n; capacity = plan.lane_records; kind = Plain; is_kept = false }
 
 pub returns-in-Ok-clause-ok : goal.returns-in-Ok-clause-ok
 returns-in-Ok-clause-ok g c = (
