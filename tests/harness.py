@@ -169,6 +169,13 @@ def placed(image, sector=512):
     return label.ljust(2 * sector, b"\0") + image.ljust(count * sector, b"\0") + bytes(count * sector)
 
 
+def journaled(image, half=1):
+    """Behind a journal with halves of so many pages of 4,096 bytes ("A journal in two halves"), as making it leaves it."""
+    count = -(-len(image) // 4096)
+    label, batch = b"MONIHALF" + struct.pack(">QQ", half, count), struct.pack(">QQ", 2, 0).ljust(512, b"\0") * 8
+    return label.ljust(4096, b"\0") + batch.ljust(2 * half * 4096, b"\0") + image.ljust(count * 4096, b"\0")
+
+
 @needs_heapctl
 class InFolder(unittest.TestCase):
     """A case with a folder of its own, whose `image` and `schema` the words of `play` name by {image} and {schema}."""

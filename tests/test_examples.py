@@ -3,7 +3,8 @@
 The counters' totals and the bank's balances are always those of whole sections, and never less than what was told as acknowledged. The
 queue of jobs is killed twice as often: no job that was put is lost, and none is done twice. The lease server has 16 clients, who hold it to
 its word. Syncs: the bank and the queue meet TRIES syncs that fail, by which a run ends, and as many that
-hang: nothing is acknowledged meanwhile, and nothing is lost that was. Of two runs whose sync hangs one goes on in time.
+hang: nothing is acknowledged meanwhile, and nothing is lost that was. Of two runs whose sync hangs one goes on in time. The counters and
+the bank in C are also tried over heaps with a journal.
 
 The library is that of tools/c-library, or in the folder ZELAMIKU_LIBS.
 """
@@ -30,6 +31,7 @@ from .harness import COUNTS, SEED, TOP, WITHIN, needs_cc, tries
 LIBS = Path(os.environ.get("ZELAMIKU_LIBS", TOP / "crates/zelamiku/out/host"))
 needs_archive = unittest.skipUnless((LIBS / "libzelamiku.a").exists(), "no libzelamiku.a (tools/c-library makes it)")
 needs_shared = unittest.skipUnless((LIBS / "libzelamiku.so.1").exists(), "no libzelamiku.so.1 (tools/c-library makes it)")
+JOURNALED = ["-include", f"{TOP}/tests/journaled.h"]
 # One that is only a shell's word for a toolchain that isn't there says no version.
 HAS_CARGO = shutil.which("cargo") and subprocess.run(["cargo", "--version"], capture_output=True, check=False).returncode == 0
 
@@ -38,11 +40,16 @@ class Judge:
     """Hears the lines of all runs of an example, one after the other; raises AssertionError where one is wrong. The first FOUND lines of a run
     say what it found."""
 
+    one_sync = 0
+
     def hear(self, line):
-        for pattern, answer in self.LINES.items():
+        for pattern, answer in {**self.LINES, r"rounds of one sync \d+": "rounds"}.items():
             if found := re.fullmatch(pattern, line):
                 return getattr(self, answer)(*map(int, re.findall(r"\d+", found[0])))
         raise AssertionError(f"no line of the example: {line}")
+
+    def rounds(self, one_sync):
+        self.one_sync += one_sync
 
 
 class Totals(Judge):
@@ -122,8 +129,8 @@ class Examples(unittest.TestCase):
         self.folder = Path(folder.name)
         self.image, self.out, self.error = self.folder / "image", self.folder / "out", self.folder / "error"
 
-    def built_in_c(self, name):
-        flags = ["-std=gnu11", "-O2", "-Wall", "-Wextra", "-Werror", "-I", f"{TOP}/bindings/c", "-pthread"]
+    def built_in_c(self, name, *more):
+        flags = [*more, "-std=gnu11", "-O2", "-Wall", "-Wextra", "-Werror", "-I", f"{TOP}/bindings/c", "-pthread"]
         program = self.folder / name
         subprocess.run(["cc", f"{TOP}/examples/c/{name}.c", *flags, LIBS / "libzelamiku.a", "-o", program], check=True)
         return program
@@ -186,6 +193,11 @@ class Examples(unittest.TestCase):
             self.heard(judge)
         self.assertGreater(judge.sum(), 0, "nothing was told, so nothing was tested")
 
+    def was_over_journal(self, judge, least):
+        self.assertEqual(self.image.read_bytes()[:8], b"MONIHALF")
+        self.assertGreaterEqual(judge.one_sync, least, "no round took one sync")
+        COUNTS["examples"].update({"rounds of one sync": judge.one_sync})
+
     def others_are_refused(self, program):
         """A file that is no heap's, and a heap whose header has one other byte, its gate, are left as they are."""
         heap = self.image.read_bytes()
@@ -204,6 +216,11 @@ def by_hundredths(number):
     return number % 4 != 0, (number % 9 + 1) / 100 + (number % 4 != 0 and number % 2) / 10
 
 
+def early_at_first(number):
+    """The first three may come while the heap is made too."""
+    return by_hundredths(number) if number > 2 else (False, (number + 1) / 100)
+
+
 @needs_archive
 class Killed(Examples):
     @needs_cc
@@ -211,6 +228,12 @@ class Killed(Examples):
         program = self.built_in_c("counters")
         self.killed(program, Totals(), by_quarters, tries(4), ("0.2", "0"))
         self.others_are_refused(program)
+
+    @needs_cc
+    def test_counters_over_a_journal(self):
+        judge = Totals()
+        self.killed(self.built_in_c("counters", *JOURNALED), judge, by_quarters, tries(4), ("0.2", "0"))
+        self.was_over_journal(judge, 0)  # a round may change more than the journal takes
 
     def test_counters_in_cpp(self):
         program = self.built_in_cpp("counters")
@@ -224,9 +247,13 @@ class Killed(Examples):
 
     @needs_cc
     def test_bank_in_c(self):
-        # The first three may come while it is made too.
-        pauses = lambda number: by_hundredths(number) if number > 2 else (False, (number + 1) / 100)
-        self.killed(self.built_in_c("bank"), Transfers(), pauses, tries(4), ("1",))
+        self.killed(self.built_in_c("bank"), Transfers(), early_at_first, tries(4), ("1",))
+
+    @needs_cc
+    def test_bank_over_a_journal(self):
+        judge = Transfers()
+        self.killed(self.built_in_c("bank", *JOURNALED), judge, early_at_first, tries(4), ("1",))
+        self.was_over_journal(judge, 1)
 
     def test_jobs_in_rust(self):
         # At the end all that are left are done.
@@ -361,6 +388,11 @@ class Syncs(Examples):
 
     def test_bank_in_c(self):
         self.meet_syncs(self.built_in_c("bank"), Transfers(), "1")
+
+    def test_bank_over_a_journal(self):
+        judge = Transfers()
+        self.meet_syncs(self.built_in_c("bank", *JOURNALED), judge, "1")
+        self.was_over_journal(judge, 1)
 
     def test_jobs_in_rust(self):
         self.meet_syncs(self.built_in_rust("examples/rust/jobs", "jobs"), Jobs(), "0")

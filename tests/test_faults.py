@@ -10,8 +10,8 @@ Each case is run whole once, and then again and again:
              each kind of call of each thread by itself)
     kill     killed at each of these calls
     thread   with each thread refused
-    damage   where the image lies in two places on sectors: killed at each call while each sector that was written since the file's last sync gets
-             other bytes
+    damage   where the image lies in two places or behind a journal: killed at each call while each sector that was written since the file's last
+             sync gets other bytes, or for a journal what it had then, or what one of the writes since has left in it
 
 Without TRIES it is the first call, the second, the fourth, the eighth and so on.
 
@@ -20,6 +20,7 @@ beginning of the output. Where a case has an image, each run begins on a copy of
 with version 1, gives one of the heaps that the case allows, and where a run over it has printed anything, the one that it leaves; where workers
 were on it, each in which the total is the sum of what they counted each for itself. Beside it no file is left, but by a kill.
 """
+import codecs
 import itertools
 import os
 import random
@@ -30,7 +31,7 @@ import subprocess
 import unittest
 from collections import namedtuple
 
-from .harness import HEAPCTL, InFolder, SCHEMA, Ran, bytes_of, each, heap_of, left_open, made_old, mounted, needs_cc, needs_mounts, placed, run
+from .harness import HEAPCTL, InFolder, SCHEMA, Ran, bytes_of, each, heap_of, journaled, left_open, made_old, mounted, needs_cc, needs_mounts, placed, run
 
 FILES = "open,openat,flock,lseek,read,write,pread64,pwrite64,fsync,fdatasync,ftruncate,rename,renameat,renameat2,unlink,unlinkat"
 THREADS = "clone,clone3"
@@ -99,9 +100,14 @@ FORMAT = "format --image {image} --schema {schema} --lanes 2"
 DRIVE = "drive --workers 2 --rounds 3"
 UNDONE, SET = [10, 10], [5, 10]
 
+# What a power cut may leave of each sector of so many bytes, by what the sector has had since the last sync.
+Damage = namedtuple("Damage", "sector left")
+OTHER_512, OTHER_4096 = (Damage(sector, lambda had: random.randbytes(len(had[-1]))) for sector in (512, 4096))
+WHOLE, TORN = Damage(512, random.choice), Damage(512, lambda had: had[-1][:256] + had[0][256:])
+
 # Words, what is on standard input, with what image it begins, which heaps it may leave (None: no image), which one where anything was
-# printed, and on sectors of how many bytes the image lies in two places.
-Case = namedtuple("Case", "words stdin image allows told sectors", defaults=("", None, None, None, None))
+# printed, and what damage the image withstands.
+Case = namedtuple("Case", "words stdin image allows told damage", defaults=("", None, None, None, None))
 
 
 def is_counted(least):
@@ -129,19 +135,26 @@ CASES = {
     "drive": Case(DRIVE),
     "drive-new": Case(f"{DRIVE} --image {{image}}", allows=lambda heap: heap is None or is_counted(0)(heap)),
     "drive-there": Case(f"{DRIVE} --image {{image}}", image="driven-there", allows=is_counted(3)),
-    "format-placed": Case(f"{FORMAT} --sectors 4096", allows=[None, [10, 20]], sectors=4096),
-    "set-placed": Case("set --image {image} f0=5", "", "left-placed", [UNDONE, SET], SET, 512),
-    "recover-placed": Case("recover --image {image}", image="left-placed", allows=[UNDONE], sectors=512),
-    "upgrade-placed": Case("upgrade --image {image}", image="old-placed", allows=[UNDONE], sectors=512),
-    "drive-placed": Case(f"{DRIVE} --image {{image}}", image="driven-placed", allows=is_counted(3), sectors=512),
+    "format-placed": Case(f"{FORMAT} --sectors 4096", allows=[None, [10, 20]], damage=OTHER_4096),
+    "set-placed": Case("set --image {image} f0=5", "", "left-placed", [UNDONE, SET], SET, OTHER_512),
+    "recover-placed": Case("recover --image {image}", image="left-placed", allows=[UNDONE], damage=OTHER_512),
+    "upgrade-placed": Case("upgrade --image {image}", image="old-placed", allows=[UNDONE], damage=OTHER_512),
+    "drive-placed": Case(f"{DRIVE} --image {{image}}", image="driven-placed", allows=is_counted(3), damage=OTHER_512),
+    "format-journaled": Case(f"{FORMAT} --atomic-sectors", allows=[None, [10, 20]], damage=WHOLE),
+    "set-journaled": Case("set --image {image} f0=5", "", "left-journaled", [UNDONE, SET], SET, WHOLE),
+    "recover-journaled": Case("recover --image {image}", image="left-journaled", allows=[UNDONE], damage=WHOLE),
+    "upgrade-journaled": Case("upgrade --image {image}", image="old-journaled", allows=[UNDONE], damage=WHOLE),
+    "drive-journaled": Case(f"{DRIVE} --image {{image}}", image="driven-journaled", allows=is_counted(3), damage=WHOLE),
 }
+# In bytes: the most that one call writes.
+WRITTEN = 1 << 21
 # They write what is there, so that a fault may leave other bytes.
 IN_PLACE = ("recover", "upgrade", "drive-there", "drive-new")
 
 
-def flying(log):
-    """What was written since the last sync of its file, by strace's lines: paths, places and lengths."""
-    begun, at, found = {}, {}, []
+def written(log):
+    """What was written, by strace's lines: paths, places and bytes; and of what was synced the path, None and None."""
+    begun, at = {}, {}
     for line in log.read_text(errors="replace").splitlines():
         thread, text = line.split(maxsplit=1)
         if text.endswith("<unfinished ...>"):
@@ -155,23 +168,46 @@ def flying(log):
         if name == "lseek":
             at[number] = result
         elif name in ("read", "write"):
-            found += [(path, at.get(number, 0), result)] if name == "write" and int(number) > 2 else []
+            if name == "write" and int(number) > 2:
+                yield path, at.get(number, 0), bytes_in(rest)[:result]
             at[number] = at.get(number, 0) + result
         elif name == "pwrite64":
-            found.append((path, int(rest.rsplit(", ", 1)[1]), result))
+            yield path, int(rest.rsplit(", ", 1)[1]), bytes_in(rest)[:result]
         elif name in ("fsync", "fdatasync"):
-            found = [it for it in found if it[0] != path]
+            yield path, None, None
+
+
+def bytes_in(text):
+    """Those of a call, as strace spells them."""
+    return codecs.escape_decode(text[text.index('"') + 1 : text.rindex('"')])[0]
+
+
+def flying(log, path, before, sector):
+    """What each sector of a file has had since its last sync, where it was written since. Before the log it had these bytes."""
+    content, found = bytearray(before), {}
+    for there, at, piece in written(log):
+        if there != path:
+            continue
+        if piece is None:
+            found = {}
+            continue
+        content.extend(bytes(max(at + len(piece) - len(content), 0)))
+        touched = range(at // sector * sector, at + len(piece), sector)
+        for begin in touched:
+            found.setdefault(begin, [bytes(content[begin : begin + sector])])
+        content[at : at + len(piece)] = piece
+        for begin in touched:
+            found[begin].append(bytes(content[begin : begin + sector]))
     return found
 
 
-def damage(log, sector):
-    """Other bytes in each sector of what was flying."""
-    for path, start, length in flying(log):
-        if os.path.exists(path):
-            with open(path, "r+b") as file:
-                for at in range(start // sector * sector, start + length, sector):
-                    file.seek(at)
-                    file.write(random.randbytes(sector))
+def do_damage(log, before, damage):
+    """To each sector of what was flying. Before the log files had these bytes, by their paths."""
+    for path in {path for path, *_ in written(log) if os.path.isfile(path)}:
+        with open(path, "r+b") as file:
+            for at, had in flying(log, path, before.get(path) or b"", damage.sector).items():
+                file.seek(at)
+                file.write(damage.left(had))
 
 
 class Faults(InFolder):
@@ -189,7 +225,7 @@ class Faults(InFolder):
         else:
             content = left_open(self.made())
             content = made_old(content) if name == "old" else content
-        return placed(content) if where == "placed" else content
+        return {"there": bytes, "placed": placed, "journaled": journaled}[where](content)
 
     def fault_of_end(self, case, ran, whole):
         if ran.status is None or ran.status < 0:
@@ -279,7 +315,7 @@ class Refused(Faults):
         self.assertEqual(whole.status, 0, whole)
         made = {"malloc", *re.findall(r"^\d+ +(\w+)\(", self.log.read_text(errors="replace"), re.M)}
         for kind, (calls, _) in KINDS.items():
-            if kind == "damage" and case.sectors is None:
+            if kind == "damage" and case.damage is None:
                 continue
             runs = 0
             for call in made.intersection(calls.split(",")):
@@ -293,16 +329,17 @@ class Refused(Faults):
             self.count(runs=runs)
             self.assertTrue(runs or kind != "call", "no call was refused, so nothing was tested")
 
-    def test_damage_loses_an_image_in_one_place(self):
-        """What the cases of two places are worth."""
-        case, before = Case("recover --image {image}", allows=[UNDONE], sectors=512), self.image_of("left-there")
-        wrong = [self.tried(case, "damage", "fdatasync", at, "", before) for at in range(1, 8)]
-        self.assertIn("recover gives None", wrong)
+    def test_other_damage_loses_an_image(self):
+        """What the cases of two places and of a journal are worth."""
+        for image, damage in (("left-there", OTHER_512), ("left-journaled", OTHER_512), ("left-journaled", TORN)):
+            case, before = Case("recover --image {image}", allows=[UNDONE], damage=damage), self.image_of(image)
+            wrong = [self.tried(case, "damage", "fdatasync", at, "", before) for at in range(1, 11)]
+            self.assertIn("recover gives None", wrong, (image, damage.sector))
 
     def test_an_image_that_is_removed_is_a_fault(self):
         self.put(None)
         allowed = {name for name, case in CASES.items() if case.allows and self.fault_of_left(case, Ran(1, "", "")) is None}
-        self.assertEqual(allowed, {"format", "format-placed", "drive-new"})
+        self.assertEqual(allowed, {"format", "format-placed", "format-journaled", "drive-new"})
 
     def traced(self, case, *how):
         words = ["-f", "-y", "-qq", "-o", self.log, "-e", f"trace={FILES},{THREADS}", *how, HEAPCTL, *self.words(case.words)]
@@ -315,11 +352,11 @@ class Refused(Faults):
         if kind == "malloc":
             ran = self.play(case.words, case.stdin, env={"LD_PRELOAD": str(self.shim), "REFUSE_AT": str(at), "REFUSE_TOLD": str(self.told)})
         else:
-            ran = self.traced(case, "-e", f"inject={call}:{KINDS[kind][1]}:when={at}")
+            ran = self.traced(case, "-s", WRITTEN if kind == "damage" else 32, "-e", f"inject={call}:{KINDS[kind][1]}:when={at}")
         is_killed = ran.status == -signal.SIGKILL and kind in ("kill", "damage")
         self.was_refused = self.told.exists() if kind == "malloc" else is_killed or "(INJECTED)" in self.log.read_text(errors="replace")
         if is_killed and kind == "damage":
-            damage(self.log, case.sectors)
+            do_damage(self.log, {str(self.image): before}, case.damage)
         wrong = None if is_killed else self.fault_of_end(case, ran, whole)
         if not self.was_refused:
             return wrong or False

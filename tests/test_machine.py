@@ -144,9 +144,9 @@ class Life:
         shutil.rmtree(self.folder)
 
     def format(self, chance):
-        """Made anew, in one place or two."""
-        is_placed = chance.random() > 0.7
-        words = ["format", "--image", self.image, "--schema", self.schema, "--lanes", "2", *(["--sectors", "4096"] if is_placed else [])]
+        """Made anew, plain, in two places or behind a journal."""
+        kind = chance.choice([[], [], ["--sectors", "4096"], ["--atomic-sectors"]])
+        words = ["format", "--image", self.image, "--schema", self.schema, "--lanes", "2", *kind]
         assert run(words).status == 0
         self.heap, self.kept = [0, 0, 0], [0, 0]
 

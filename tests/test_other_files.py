@@ -240,6 +240,9 @@ class Blocks(InFolder):
     def test_an_image_in_two_places(self):
         self.try_blocks(" --sectors 4096")
 
+    def test_an_image_behind_a_journal(self):
+        self.try_blocks(" --atomic-sectors")
+
     def on_device(self, *texts):
         """What these words did on a block device of the image's bytes, as if on the image, and the bytes then."""
         device = losetup("--show", self.image)
@@ -249,9 +252,9 @@ class Blocks(InFolder):
             subprocess.run(["losetup", "--detach", device], check=True)
         return [each._replace(told=each.told.replace(device, str(self.image))) for each in ran], bytes_of(self.image)
 
-    def try_blocks(self, sectors):
+    def try_blocks(self, kind):
         self.put(None)
-        self.play(WORDS["format"] + sectors)
+        self.play(WORDS["format"] + kind)
         made = self.image.read_bytes()
         for more in (0, 5 * PAGE):
             image = made + bytes(-len(made) % PAGE + more)
@@ -271,7 +274,7 @@ class Blocks(InFolder):
         return None if ran == self.play(text, OVER) and left == bytes_of(self.image) else ran
 
     def test_a_making_in_place(self):
-        for text in (WORDS["format"], WORDS["format"] + " --sectors 4096", WORDS["drive"]):
+        for text in (WORDS["format"], WORDS["format"] + " --sectors 4096", WORDS["format"] + " --atomic-sectors", WORDS["drive"]):
             self.put(None)
             self.play(text)
             size = self.image.stat().st_size

@@ -4,7 +4,7 @@ The values are worked out by docs/FORMAT.md and docs/SCRIPTS.md ("What is left o
 """
 import struct
 
-from .harness import CONTROL_SIZE, CONTROLS, InFolder, bytes_of, changed, placed
+from .harness import CONTROL_SIZE, CONTROLS, InFolder, bytes_of, changed, journaled, placed
 
 FAULT, WRONG = 1, 2
 FORMAT = "format --image {image} --schema {schema} --lanes 2"
@@ -92,9 +92,10 @@ class Salvage(InFolder):
             ran = self.play(f"dump --image {{image}} --schema {{schema}} {how}")
             self.assertEqual((ran.status, ran.out), (0, NOTES[how] + schema))
 
-    def test_an_image_in_two_places_is_read_too(self):
-        for sector in (512, 4_096):
-            self.put(placed(self.left_by(SETTLED), sector))
+    def test_an_image_behind_a_label_is_read_too(self):
+        image = self.left_by(SETTLED)
+        for content in (placed(image, 512), placed(image, 4_096), journaled(image)):
+            self.put(content)
             for how, first in (("--cells", 5), ("--slot a", 10), ("--slot b", 5)):
                 self.gives(how, first)
 

@@ -13,11 +13,8 @@ from .harness import InFolder, bytes_of, changed, made_old, run
 FOUR = "object o0\nobject o1\nobject o2\nobject o3\nfield f0 o0 o0 10\nfield f1 o1 o1 20\n"
 FORMAT = "format --image {image} --schema {schema} --lanes 2"
 OTHER = "format --image {image} --schema {schema} --lanes 3"
-PLACED = f"{FORMAT} --sectors 4096"
 SIZE = 130_208
 FORMATTED = f"formatted {SIZE}\n"
-# A file that holds a disk of 32 sectors of 4,096 bytes in two places.
-LARGE = 66 * 4096
 REPORT = "kept 0 0\nundone 0\nheap 10 20\n"
 LINES = """image lanes 2 capacity 4000 objects 4 fields 2 size 130208
 control a sequence 1 version 2
@@ -266,47 +263,68 @@ class Workers(Played):
         theirs.unlink()
 
 
-class TwoPlaces(Played):
-    """Words on images in two places: they do what they do on one in one place."""
+class Labelled:
+    """Words on images behind a label of this name, in files of so many bytes: they do what they do on one without, and keep it so."""
+
+    ASKED, NAME, ROOM = None, None, None
 
     def tearDown(self):
         self.assertEqual(self.litter("theirs", "plain"), None)
 
+    def make(self):
+        self.changes(f"{FORMAT} {self.ASKED}", FORMATTED)
+        self.begins(self.NAME, self.ROOM)
+
     def test_an_image_is_made_and_read(self):
-        self.changes(PLACED, FORMATTED)
+        self.make()
+        # A file that may only be read is enough.
+        self.image.chmod(0o444)
         self.tells("show --image {image}", LINES)
         self.tells("dump --image {image}", FOUR)
+        ran, is_left = self.step("show --image {image} --dot", "")
+        self.assertEqual((ran.status, ran.out.startswith("digraph sections {\n"), ran.told, is_left), (0, True, "", True))
+        self.image.chmod(0o644)
         self.changes("recover --image {image}", REPORT)
         self.changes("upgrade --image {image}", REPORT)
-        self.begins(b"MONI4096", LARGE)
+        self.begins(self.NAME, self.ROOM)
 
     def test_a_script_is_played_over_one(self):
-        self.changes(PLACED, FORMATTED)
+        self.make()
         self.changes("run --image {image}", f"{REPORT}{DONE}crashed\n", f"{SECTION}crash lost\n")
         self.changes("recover --image {image}", "kept 1 0\nundone 0\nheap 5 20\n")
-        self.begins(b"MONI4096", LARGE)
+        self.begins(self.NAME, self.ROOM)
 
     def test_fields_of_one_are_set(self):
-        self.changes(PLACED, FORMATTED)
+        self.make()
         self.changes("set f0=5 --image {image}", f"{REPORT}{DONE}")
         self.tells("get f0 --image {image}", "f0=5\n")
-        self.begins(b"MONI4096", LARGE)
+        self.begins(self.NAME, self.ROOM)
 
     def test_workers_work_on_one(self):
         """They go on with one that was made of the schema of theirs."""
         self.assertEqual(self.play("drive --rounds 20 --image {folder}/plain").out, "acknowledged 20 20\nheap 40 20 20\n")
         (self.folder / "theirs").write_text(self.play("dump --image {folder}/plain").out)
-        self.changes("format --image {image} --schema {folder}/theirs --lanes 2 --sectors 4096", "formatted 130232\n")
+        self.changes(f"format --image {{image}} --schema {{folder}}/theirs --lanes 2 {self.ASKED}", "formatted 130232\n")
         self.changes("drive --rounds 20 --image {image}", "acknowledged 20 20\nheap 80 40 40\n")
         self.changes("drive --rounds 20 --image {image}", "acknowledged 20 20\nheap 120 60 60\n")
-        self.begins(b"MONI4096", LARGE)
+        self.begins(self.NAME, self.ROOM)
 
     def test_one_that_is_cut_short_is_neither_read_nor_replaced(self):
-        self.changes(PLACED, FORMATTED)
-        os.truncate(self.image, LARGE - 4096)
-        for text in ("recover --image {image}", "show --image {image}"):
-            self.fails(text, FAULT, "not formatted", "it doesn't begin as an image")
+        self.make()
+        os.truncate(self.image, self.ROOM - 1)
+        for text in ("recover", "upgrade", "show", "show --dot", "dump", "get f0", "set f0=1", "run", "drive"):
+            self.fails(f"{text} --image {{image}}", FAULT, "not formatted", "doesn't begin as an image")
         self.fails("format --image {image} --schema {schema}", FAULT, "not an image", "image")
+
+
+class TwoPlaces(Labelled, Played):
+    # Label, gate, and 32 sectors of 4,096 bytes in each of two areas.
+    ASKED, NAME, ROOM = "--sectors 4096", b"MONI4096", 66 * 4096
+
+
+class Journal(Labelled, Played):
+    # Label, two halves of 133 pages, and 32 pages of the image.
+    ASKED, NAME, ROOM = "--atomic-sectors", b"MONIHALF", 299 * 4096
 
 
 class Kept(Played):
@@ -509,11 +527,15 @@ NOT_TAKEN = {
     "show --image i --schema s": "error: '--last' and '--schema' of 'show' are for a graph",
     # Sectors that are smaller than the pages in which a file is written.
     "format --image i --schema s --sectors 512": "error: '--sectors' takes 4096",
+    # Two kinds of image.
+    "format --image i --schema s --sectors 4096 --atomic-sectors": "error: '--sectors' keeps the image in two places, and '--atomic-sectors'",
+    "format --image i --schema s --sectors 512 --atomic-sectors": "error: '--sectors' keeps the image in two places, and '--atomic-sectors'",
     "format --image s --schema s": "error: the image and the schema are two files, and '--image' and '--schema' name one\n",
 }
 # Those that are taken, and fail by the files that aren't there, or don't.
 TAKEN = [
     "format --image i --schema s --sectors 4096 --force",
+    "format --image i --schema s --atomic-sectors",
     "format --image i --schema s --lanes 32",
     "format --image i --schema s --capacity 1048576",
     # Two paths are two files, whatever they lead to.
@@ -552,6 +574,8 @@ NONE_TAKES = """--fast
 --capacity 1048577
 --sectors 512
 --sectors 4097
+--atomic-sectors 512
+--atomic-sectors --atomic-sectors
 --force --force
 --workers 0
 --workers 33
@@ -603,12 +627,14 @@ class Asked(Played):
         ran = self.play("--version")
         self.assertTrue(ran.status == 0 and re.match(r"heapctl \d+\.\d+", ran.out) and ran.told == "", ran)
 
-    def test_format_asks_for_lanes_capacity_sectors_and_force(self):
+    def test_format_asks_for_lanes_capacity_a_kind_of_image_and_force(self):
         shape = lambda: (self.play("show --image {image}").out.splitlines()[0].split(" objects")[0], self.image.read_bytes()[:8])
         self.play("format --schema {schema} --image {image} --lanes 2")
         self.assertEqual(shape(), ("image lanes 2 capacity 4000", b"MONIHEAP"))
         self.play("format --force --schema {schema} --image {image} --sectors 4096")
         self.assertEqual(shape(), ("image lanes 4 capacity 4000", b"MONI4096"))
+        self.play("format --force --schema {schema} --image {image} --atomic-sectors")
+        self.assertEqual(shape(), ("image lanes 4 capacity 4000", b"MONIHALF"))
         self.assertEqual(self.litter("image~"), None)
         self.assertFalse((self.folder / "image~").exists())
         self.play("format --schema {schema} --image {image} --capacity 2000 --lanes 32")

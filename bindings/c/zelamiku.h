@@ -259,8 +259,9 @@ typedef struct {
 
 /* One sync a round. A plan with `atomic_sectors` is for a device that keeps each sector of 512 bytes whole: after a crash the sector has what it had
  * at the last sync, or what was written to it since. NVMe with power-loss protection and Ceph RBD do (docs/FORMAT.md, "What the device keeps");
- * disks by ATA or SCSI and parity RAID don't, and there such a heap may lose what was durable. It takes 1.1 MB more on the device and three times
- * the memory, and an opening finds the journal by itself: a heap that exists keeps what it has, whatever the plan says. */
+ * disks by ATA or SCSI and parity RAID don't, and there such a heap may lose what was durable. An opening logs a warning if the system shows a disk
+ * by ATA or SCSI below the file. A journal takes 1.1 MB more on the device and three times the memory, and an opening finds it by itself: a heap that
+ * exists keeps what it has, whatever the plan says. */
 
 /* How the file's heap differs from the plan. */
 enum {

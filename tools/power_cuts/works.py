@@ -55,7 +55,6 @@ HISTORY = (
     "try look 1 sections look /mnt/heap",
     "try recover 43 heapctl recover --image /mnt/heap",
 )
-LOOKS = ("try look 1 counts look /mnt/heap", "try again 1 counts look /mnt/heap")
 ONE_SYNC = "ATOMIC_SECTORS=1"
 EIGHT, FIVES = (8, *8 * [1]), (40, *8 * [5])
 # The schema of a heap of eight workers, with what they have counted.
@@ -132,10 +131,19 @@ WORKS = {
         has_history=True,
     ),
     # (their heaps have a journal, for disks that keep sectors whole: others lose something)
-    "threads, one sync": Work(f"{ONE_SYNC} counts count /mnt/heap", LOOKS, tells=True, again=LOOK),
+    "drive, one sync": Work(
+        f"{DRIVE} --seconds 900",
+        HEAPCTL,
+        f"{SCHEMA} && {FORMAT} --lanes 8 --atomic-sectors --force",
+        parts=8,
+        least=FIVES,
+        again=RECOVER,
+    ),
+    "format, one sync": Work(f"while :; do {FORMAT} --lanes 8 --atomic-sectors; {DRIVE} --rounds 3; done", HEAPCTL, SCHEMA, parts=8, least=FIVES, only_grows=False),
+    "threads, one sync": Work(f"{ONE_SYNC} counts count /mnt/heap", COUNTS, tells=True, again=LOOK),
     "histories, one sync": Work(
         f"while :; do {ONE_SYNC} sections run /mnt/heap & sleep 0.$((RANDOM % 9)); kill -9 $!; wait; done",
-        tuple(it.replace("counts", "sections") for it in LOOKS),
+        HISTORY,
         tells=True,
         adds_up=is_anything,
         has_history=True,
@@ -224,6 +232,7 @@ WHOLE = {
         Run("threads", failures=60),
         Run("histories", failures=120),
         Run("threads, one sync", failures=60),
+        Run("drive, one sync", failures=40),
         *(Run(work, failures=30, fails=("gate",)) for work in ("drive", "threads", "histories")),
     ],
     "program": [
@@ -245,6 +254,8 @@ WHOLE = {
         Run("drive", states=40, torn=2),
         Run("drive", "xfs", states=60, in_recovery=16),
         Run("drive", "btrfs", states=50, in_recovery=16),
+        Run("format, one sync", states=60),
+        Run("drive, one sync", states=100, in_recovery=32, true=9),
         Run("drive", states=400, in_recovery=64, true=69),
     ],
     "threads": [
@@ -279,7 +290,7 @@ WHOLE = {
         *(Run(work, without=number) for number in (1, 2) for work in ("threads", "histories")),
         *(Run(work, lies=True) for work in ("threads", "histories", "drive", "set")),
         *(Run(work, failures=60, fails=("gate",), is_unmended=True) for work in ("drive", "threads")),
-        *(Run(work, torn=3, is_unfit=True) for work in ("threads, one sync", "histories, one sync")),
+        *(Run(work, torn=3, is_unfit=True) for work in ("drive, one sync", "threads, one sync", "histories, one sync")),
         # (it ends once it is seen, within 60 failures as a rule)
         Run("two places", failures=240, fails=("write",), torn=3, is_unmended=True),
     ],

@@ -217,6 +217,12 @@ static void make_more(program *it) {
     if (of == FILES && one_in(3)) add(it, (uint32_t)below(it->threads), OPEN_AGAIN, 0, 0);
 }
 
+/* One program in three has heaps with journals; not by the chances above, so that programs are what they were. The number is such that seeds which find
+ * a mistake that few others do (255, 855, 1935) have none. */
+static bool has_journals(uint64_t seed) {
+    return (seed * 0xE7037ED1A0B428DBu >> 33) % 3 == 0;
+}
+
 static void make_small(program *it, unsigned number);
 
 static void program_make(program *it, uint64_t seed) {
@@ -224,6 +230,7 @@ static void program_make(program *it, uint64_t seed) {
     memset(it, 0, sizeof *it);
     state = seed * 0x9E3779B97F4A7C15u + 0x7654321;
     it->seed = seed;
+    it->is_journaled = seed >= SMALL_PROGRAMS && has_journals(seed);
     if (seed < SMALL_PROGRAMS) return make_small(it, (unsigned)seed);
     for (int i = 0; i < 8; i++) (void)below(2);
     if (seed % 3 == 0) return make_more(it); /* so that the others are what they were */
@@ -255,7 +262,7 @@ static void program_make(program *it, uint64_t seed) {
 /* ---- small programs, of which each schedule is tried ---- */
 
 /* A thread, what it does, and with what. `first`: so many deeds are done before the others begin, so that no order of them is tried. With one
- * processor nobody looks again and again whether a round has ended. */
+ * processor nobody looks again and again whether a round has ended. The last program's heap has a journal. */
 typedef struct {
     uint8_t thread, kind, object;
     uint32_t number;
@@ -289,6 +296,7 @@ static const small_program SMALL[SMALL_PROGRAMS] = {
      {{0, ENTER, 0, 0}, SECTION(0, 1), {1, EVENT, 0, 0}, {1, ENTER, 1, 0}, {1, FILL, 1, 985}, {1, EXIT, 1, 0}, {1, ENTER, 1, 0}, {1, FILL, 1, 985},
       {1, EXIT, 1, 0}, {1, TRY, 1, 0}, {1, TRY, 1, 0}, {1, TRY, 1, 0}, {1, NAP, 0, 1000}, {1, TRY, 1, 0}, {1, ASK_ALL, 0, 0}, {1, LISTEN, 0, 0},
       {0, EXIT, 0, 0}, {0, AWAIT, 0, 0}}},
+    {"each of two waits for its section, over a journal", 2, 5000, 2, 0, {SECTION(0, 0), {0, AWAIT, 0, 0}, SECTION(1, 1), {1, AWAIT, 0, 0}}},
 };
 
 /* of a small one */
@@ -306,6 +314,7 @@ static void make_small(program *it, unsigned number) {
     it->processors = small->processors;
     it->first = small->first;
     it->is_small = true;
+    it->is_journaled = number == SMALL_PROGRAMS - 1;
     for (size_t i = 0; i < sizeof small->deeds / sizeof *small->deeds; i++) {
         const small_deed *deed = &small->deeds[i];
         if (deed->kind != NO_DEED) add(it, deed->thread, (deed_kind)deed->kind, deed->object, deed->number);
@@ -327,8 +336,9 @@ static const char *const NAMES[] = {
 
 static void program_print(const program *it) {
     static const char *const FAULTS[] = {"", ", writes fail", ", syncs fail", ", calls hang"};
-    printf("%u threads, %u lanes, %u heaps%s, capacity %u, ring %u, linger %u us, %u processors%s%s", it->threads, it->lanes, it->heaps,
-           it->is_in_file ? " in a file" : "", it->capacity, it->ring, it->linger, it->processors, it->reverts ? ", reverts" : "", FAULTS[it->fault]);
+    printf("%u threads, %u lanes, %u heaps%s%s, capacity %u, ring %u, linger %u us, %u processors%s%s", it->threads, it->lanes, it->heaps,
+           it->is_in_file ? " in a file" : "", it->is_journaled ? " with journals" : "", it->capacity, it->ring, it->linger, it->processors,
+           it->reverts ? ", reverts" : "", FAULTS[it->fault]);
     if (it->fault != NEVER_FAILS) printf(" from call %llu, %llu of them", (unsigned long long)it->fault_at, (unsigned long long)it->fault_for);
     puts("");
     for (uint32_t i = 0; i < it->count; i++) {

@@ -1,15 +1,17 @@
 /* Each call is told to the judge when it begins and when it has answered. In between it takes effect: an exit at the latest when another thread
  * is told that it has the monitor, so that the judge needs no more than that to know the one legal history. */
 
-static void judge_begin(judge *it, uint32_t lanes, bool reverts, bool has_transient) {
+static void judge_begin(judge *it, const program *of, bool has_transient) {
     judged_store *stores = it->stores;
     size_t room = it->room;
     memset(it, 0, sizeof *it);
     it->stores = stores;
     it->room = room;
-    it->lanes = lanes;
-    it->reverts = reverts;
+    it->lanes = of->lanes;
+    it->reverts = of->reverts;
     it->has_transient = has_transient;
+    it->is_journaled = it->is_narrow = of->is_journaled;
+    for (uint32_t i = 0; i < of->count; i++) it->is_narrow &= of->deeds[i].kind != FILL;
     for (uint32_t object = 0; object < OBJECTS; object++) it->owner[object] = ZELAMIKU_NOBODY;
     for (uint32_t field = 0; field < POOL; field++) it->values[field] = FIRST_VALUE;
     for (uint32_t field = POOL; field < FIELDS; field++) it->values[field] = 0;
@@ -439,15 +441,21 @@ static uint64_t judge_durable(const judge *it) {
     return durable;
 }
 
+/* By their syncs. The helper has a lane, with room for all fields. */
+static void judge_rounds(const judge *it, const zelamiku_stats *stats) {
+    uint64_t one = stats->one_sync_rounds, two = stats->two_sync_rounds, four = stats->four_sync_rounds;
+    bool is_right = it->is_journaled ? !it->is_narrow || (two == 0 && four == 0) : one == 0 && four == 0;
+    if (!is_right || one + two + four > stats->rounds)
+        search_fail("of %llu rounds %llu took one sync, %llu two and %llu four", (unsigned long long)stats->rounds, (unsigned long long)one,
+                    (unsigned long long)two, (unsigned long long)four);
+}
+
 static void judge_stats(const judge *it, const zelamiku_stats *stats, uint64_t durable) {
     uint64_t ended = sum_of(it, false);
     for (uint32_t lane = 0; lane < it->lanes; lane++) ended += judge_held(it, lane) > 0; /* its last exit may be underway */
     bool is_right = stats->sections >= durable && stats->sections <= ended && stats->lent <= it->lanes && stats->entering <= it->lanes;
     if (!is_right) search_fail("stats tell %llu sections, %u lanes and %u that enter", (unsigned long long)stats->sections, stats->lent, stats->entering);
-    /* The helper has a lane, with room for all fields. */
-    if (stats->four_sync_rounds > 0 || stats->two_sync_rounds > stats->rounds)
-        search_fail("of %llu rounds %llu took two syncs and %llu four", (unsigned long long)stats->rounds, (unsigned long long)stats->two_sync_rounds,
-                    (unsigned long long)stats->four_sync_rounds);
+    judge_rounds(it, stats);
 }
 
 /* The same, and no thread is left. */
@@ -536,9 +544,9 @@ static void judge_image(judge *it, const uint8_t *image, size_t size, const uint
     zelamiku_dropped_section none = {0};
     zelamiku_handle again = ZELAMIKU_NONE;
     uint64_t values[FIELDS];
-    if (is_looked_at(it, image, size, least)) return;
-    bool was_quiet = search_be_quiet(true), is_told = false;
-    for (uint32_t lane = 0; lane < it->lanes; lane++) is_told |= least[lane] > 0;
+    bool is_made = it->heap.number != 0;
+    if (is_made && is_looked_at(it, image, size, least)) return;
+    bool was_quiet = search_be_quiet(true);
     zelamiku_status opened = zelamiku_open(&again, image, size, it->lanes, ZELAMIKU_LEAST_RING, &told, &none, 0);
     if (opened == ZELAMIKU_OK) {
         for (uint32_t lane = 0; lane < it->lanes; lane++)
@@ -548,8 +556,23 @@ static void judge_image(judge *it, const uint8_t *image, size_t size, const uint
         fold_stores(it, &told, values);
         check_image(&again, values);
         zelamiku_free(&again);
-    } else if (is_told) {
+    } else if (is_made) {
         search_fail("what a crash leaves can't be opened: %u", opened);
     }
     (void)search_be_quiet(was_quiet);
+}
+
+/* The same of the heap's device or file. If it has a journal, what counts is the image that the journal stands for. */
+static void judge_device(judge *it, const uint8_t *bytes, size_t size, const uint64_t *least) {
+    static uint8_t image[1 << 21];
+    zelamiku_handle journal = ZELAMIKU_NONE;
+    uint64_t length = 0;
+    if (!it->is_journaled) return judge_image(it, bytes, size, least);
+    zelamiku_status opened = zelamiku_journal_open(&journal, bytes, size, &length);
+    if (opened != ZELAMIKU_OK && it->heap.number == 0) return;
+    if (opened != ZELAMIKU_OK) search_fail("the journal that a crash leaves can't be opened: %u", opened);
+    bool is_read = length <= sizeof image && zelamiku_journal_read(&journal, 0, image, length) == ZELAMIKU_OK;
+    zelamiku_free(&journal);
+    if (!is_read) search_fail("the image behind a journal can't be read");
+    judge_image(it, image, length, least);
 }

@@ -1,6 +1,7 @@
 /* search small SECONDS [STEPS [MOST [ONE]]]: each small program under all schedules by two other choices at most, first by none and then by one;
  * until the time is over, or so many steps are made, or until that were more than MOST runs of it. ONE: that small program alone.
  * search programs FROM COUNT SECONDS [STEPS]: a program and a schedule for each seed, for so many seconds or steps at most.
+ * search tearing FROM COUNT SECONDS [STEPS]: the same, on devices that tear sectors below journals too. The judge has to see that.
  * search one SEED TRIES [LEFT-OUT] [CHOICES]: the program of a seed under its own schedule (TRIES 0) or under so many others, without the deeds
  * of that list, or with these choices (PLACE:TASK,..). It tells the program, and the choices of what has failed.
  * A fault is told in a line, and the status is 3. tools/search builds and calls this. */
@@ -108,8 +109,9 @@ static void run_programs(uint64_t from, uint64_t count) {
         run_once(&schedule);
         done++;
     }
-    printf("%llu programs, %llu steps, %llu crashes looked at, %llu programs stopped where nobody could go on\n", (unsigned long long)done,
-           (unsigned long long)all_steps, (unsigned long long)programs_crashes, (unsigned long long)programs_stuck);
+    printf("%llu programs, %llu steps, %llu crashes looked at, %llu programs stopped where nobody could go on, %llu over journals, %llu rounds of one sync\n",
+           (unsigned long long)done, (unsigned long long)all_steps, (unsigned long long)programs_crashes, (unsigned long long)programs_stuck,
+           (unsigned long long)programs_journaled, (unsigned long long)programs_one_sync);
 }
 
 /* ---- all schedules of a small program that are near to the usual one ---- */
@@ -230,7 +232,8 @@ int main(int count, char **words) {
     (void)mallopt(M_TRIM_THRESHOLD, 1 << 30);
     watch_signals();
     const char *what = count > 1 ? words[1] : "";
-    if (strcmp(what, "programs") == 0) {
+    sectors_tear = strcmp(what, "tearing") == 0;
+    if (strcmp(what, "programs") == 0 || sectors_tear) {
         bound(number(count, words, 4, long_time), number(count, words, 5, UINT64_MAX));
         run_programs(number(count, words, 2, SMALL_PROGRAMS), number(count, words, 3, 1000));
     } else if (strcmp(what, "small") == 0) {

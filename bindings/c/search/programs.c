@@ -25,6 +25,7 @@ static zelamiku_plan plan;
 static uint32_t copying[COPIES_OF], copies_begun[COPIES_OF], opening, opens_begun;
 static bool is_opened_again; /* the file: what is in it is another opening's */
 static uint64_t programs_crashes, programs_stuck; /* looked at; and in which nobody could go on, as the model of monitors says too */
+static uint64_t programs_journaled, programs_one_sync; /* over journals; and rounds of one sync in these */
 
 /* ---- ends of heaps ---- */
 
@@ -34,12 +35,14 @@ static void device_fails(void *of, device_fault fault) {
     if (fault == SYNC_FAILS) judge_ends(it, ZELAMIKU_LOST);
 }
 
-static void look_at_file(judge *it, const char *name, const uint64_t *least) {
+typedef void judging(judge *it, const uint8_t *bytes, size_t size, const uint64_t *least);
+
+static void look_at_file(judge *it, const char *name, judging *judged, const uint64_t *least) {
     static uint8_t bytes[1 << 20];
     int file = open(name, O_RDONLY | O_CLOEXEC);
     ssize_t size = file < 0 ? -1 : read(file, bytes, sizeof bytes);
     MUST(size > 0 && close(file) == 0, "a file can't be read");
-    judge_image(it, bytes, (size_t)size, least);
+    judged(it, bytes, (size_t)size, least);
 }
 
 static bool is_in_file(uint32_t heap) {
@@ -51,9 +54,13 @@ static void look_at_crash(uint32_t heap, bool is_all) {
     programs_crashes++;
     judge_kept(&judges[heap], is_all, least);
     if (!is_in_file(heap))
-        judge_image(&judges[heap], devices[heap].durable, devices[heap].size, least);
+        judge_device(&judges[heap], left_by_crash(&devices[heap]), devices[heap].size, least);
     else if (!is_opened_again && opening == 0) /* else an opening counts anew, and may not have come back yet */
-        look_at_file(&judges[heap], "heap", least);
+        look_at_file(&judges[heap], "heap", judge_device, least);
+}
+
+static void device_crashes(void *of) {
+    look_at_crash((uint32_t)((judge *)of - judges), false);
 }
 
 /* The log hook, which lasts. */
@@ -265,7 +272,7 @@ static void copy(worker *own, uint32_t heap, uint32_t to) {
     if (status != ZELAMIKU_OK) return;
     programs_crashes++;
     if (!is_alone) memset(least, 0, sizeof least); /* another copy, that began before, may be there */
-    look_at_file(it, NAMES[to], least);
+    look_at_file(it, NAMES[to], judge_image, least); /* it has no journal */
 }
 
 /* The file is opened once more: it is BUSY, unless its heap has ended. */
@@ -505,7 +512,8 @@ static void make_plan(void) {
     fields[PASSING].owner = fields[PASSING].guard = 0;
     MUST(zelamiku_pool_fields(2, fields + POOL, FIELDS - POOL) == ZELAMIKU_OK, "no pool");
     plan = (zelamiku_plan){.size = sizeof plan, .fields = fields, .count = FIELDS, .objects = OBJECTS, .lanes = current->lanes, .capacity = current->capacity,
-                           .ring = current->ring, .linger = current->linger, .reverts = current->reverts, .log = note_line};
+                           .ring = current->ring, .linger = current->linger, .reverts = current->reverts, .log = note_line,
+                           .atomic_sectors = current->is_journaled};
 }
 
 static void make_file(judge *it) {
@@ -516,7 +524,7 @@ static void make_file(judge *it) {
 
 static void make_heap(uint32_t heap) {
     judge *it = &judges[heap];
-    judge_begin(it, current->lanes, current->reverts, has_transient());
+    judge_begin(it, current, has_transient());
     devices[heap].in_call = 0;
     devices[heap].is_over = false;
     plan.log_context = &devices[heap];
@@ -525,8 +533,10 @@ static void make_heap(uint32_t heap) {
     device *on = &devices[heap];
     on->fault = NEVER_FAILS;
     on->fails = device_fails;
+    on->crashes = device_crashes;
     on->of = it;
-    device_begin(on, 4096 + 24 * FIELDS + 16 * (uint64_t)(current->lanes + 1) * current->capacity);
+    on->keeps_sectors = current->is_journaled;
+    device_begin(on, 4096 + 24 * FIELDS + 16 * (uint64_t)(current->lanes + 1) * current->capacity + (current->is_journaled ? JOURNAL : 0));
     zelamiku_device functions = device_functions(on);
     zelamiku_plan on_device = plan;
     on_device.device = &functions;
@@ -536,6 +546,16 @@ static void make_heap(uint32_t heap) {
     on->fault_at = current->fault_at;
     on->fault_ends = current->fault_at + current->fault_for;
     on->fault = heap == 0 ? current->fault : NEVER_FAILS;
+}
+
+/* The heap has ended: looks at its rounds, and counts those of one sync. */
+static void look_at_rounds(const judge *it) {
+    zelamiku_stats stats = {.size = sizeof stats};
+    bool was_quiet = search_be_quiet(true);
+    MUST(zelamiku_heap_stats(it->heap, &stats) == ZELAMIKU_OK, "no stats after the heap's end");
+    (void)search_be_quiet(was_quiet);
+    judge_rounds(it, &stats);
+    programs_one_sync += stats.one_sync_rounds;
 }
 
 /* The heap is closed, if nobody has ended it; and what it leaves is as the judge says. */
@@ -550,6 +570,7 @@ static void close_heap(uint32_t heap) {
     bool is_end = status == ZELAMIKU_OK || judge_is_end(it, status) || status == ZELAMIKU_NOTHING;
     if (status == ZELAMIKU_RUNNING || !is_end) status = zelamiku_heap_stop(it->heap, ZELAMIKU_CLOSED);
     look_at_crash(heap, is_closed);
+    look_at_rounds(it);
 }
 
 static void program_run(program *it, const search_schedule *schedule) {
@@ -564,6 +585,8 @@ static void program_run(program *it, const search_schedule *schedule) {
     opening = 0;
     make_plan();
     search_begin(schedule, it->seed < SMALL_PROGRAMS ? 0 : it->seed);
+    crashing = begin_random(~it->seed);
+    programs_journaled += it->is_journaled;
     for (uint32_t heap = 0; heap < it->heaps; heap++) make_heap(heap);
     for (uint32_t i = 0; i < it->threads && it->is_small; i++) begin_lane(&workers[i], 0);
     for (uint32_t i = 0; i < it->first; i++) do_one(&workers[it->deeds[i].thread], &it->deeds[i]);

@@ -78,7 +78,8 @@ static void time_goes_on(uint64_t nanoseconds);
 __attribute__((noreturn)) static void fail(const char *why);
 __attribute__((noreturn, format(printf, 1, 2))) void search_fail(const char *why, ...);
 
-/* A device in memory, which fails and hangs as it is told, and knows what a crash leaves. */
+/* A device in memory, which fails and hangs as it is told, and knows what a crash leaves: by chances of crashes alone, so that programs and their
+ * schedules are the same without them. */
 
 typedef enum { NEVER_FAILS, WRITE_FAILS, SYNC_FAILS, CALL_HANGS } device_fault;
 
@@ -86,7 +87,9 @@ typedef struct {
     device_fault fault;
     uint64_t fault_at, fault_ends, calls; /* which calls, by how many were made before */
     uint8_t *now, *durable;
+    uint8_t *left; /* by a crash */
     uint64_t size;
+    bool keeps_sectors; /* whole, as a journal needs it */
     struct {
         uint64_t at, size;
         uint8_t bytes[ZELAMIKU_MOST_BYTES];
@@ -95,6 +98,7 @@ typedef struct {
     uint32_t in_call;  /* threads that make one now */
     bool is_over;      /* the heap has ended: none comes any more */
     void (*fails)(void *of, device_fault fault); /* told before the call fails */
+    void (*crashes)(void *of);                   /* looks at what a crash leaves now */
     void *of;
 } device;
 
@@ -150,7 +154,8 @@ typedef struct {
 
 typedef struct {
     uint32_t lanes;
-    bool reverts, has_transient;
+    bool reverts, has_transient, is_journaled;
+    bool is_narrow; /* no thread fills its section: what a round changes goes into one batch of the journal */
     zelamiku_heap heap;
     uint32_t owner[OBJECTS];
     uint64_t set[OBJECTS], notified[OBJECTS]; /* a bit for each lane */
@@ -187,6 +192,7 @@ typedef struct {
     uint64_t seed;
     uint32_t threads, heaps, lanes, capacity, ring, linger, processors;
     bool reverts;           /* the plan */
+    bool is_journaled;      /* its heaps have journals */
     bool is_small;          /* main begins the threads' lanes and ends them, so that they do no more than what is searched; */
     uint32_t first;         /* and does so many of the deeds before they begin */
     bool is_in_file;        /* the first heap, on no device of the program's, in the folder that it runs in */
@@ -196,4 +202,4 @@ typedef struct {
     deed deeds[MOST_DEEDS];
 } program;
 
-enum { SMALL_PROGRAMS = 11 }; /* the seeds below are theirs: in these nothing comes by chance */
+enum { SMALL_PROGRAMS = 12 }; /* the seeds below are theirs: in these nothing comes by chance */

@@ -89,6 +89,37 @@ static bool sync_name(const char *real, int file) {
     return error == 0;
 }
 
+/* ---- what a file lies on ---- */
+
+/* Whether this block device is a disk by ATA or SCSI, or lies on one, at most so many levels down: LVM, encryption and RAID show what is below them. */
+static bool is_on_scsi(const char *path, unsigned levels) {
+    char target[512], below[512];
+    ssize_t length = readlink(path, target, sizeof target - 1);
+    if (length < 0) return false;
+    target[length] = 0;
+    bool is_so = strstr(target, "/block/sd") != NULL;
+    (void)snprintf(below, sizeof below, "%s/slaves", path);
+    DIR *slaves = levels > 0 && !is_so ? opendir(below) : NULL;
+    if (slaves == NULL) return is_so;
+    for (const struct dirent *it; !is_so && (it = readdir(slaves)) != NULL;) {
+        int count = snprintf(below, sizeof below, "%s/slaves/%s", path, it->d_name);
+        is_so = count < (int)sizeof below && is_on_scsi(below, levels - 1);
+    }
+    (void)closedir(slaves);
+    return is_so;
+}
+
+/* Whether the system shows that the file, or the block device, lies on a disk of which its standard doesn't promise that sectors stay whole
+ * (docs/FORMAT.md, "What the device keeps"). Of other storage it doesn't show whether they do. */
+static bool may_tear(int file) {
+    struct stat its;
+    char path[64];
+    if (fstat(file, &its) != 0) return false;
+    dev_t volume = S_ISBLK(its.st_mode) ? its.st_rdev : its.st_dev;
+    (void)snprintf(path, sizeof path, ZELAMIKU_BLOCKS "/%u:%u", major(volume), minor(volume));
+    return is_on_scsi(path, 4);
+}
+
 /* ---- a file as a device ---- */
 
 static int descriptor_of(void *context) {

@@ -2,6 +2,7 @@
 #define _GNU_SOURCE
 #include "zelamiku_core.h"
 #include <assert.h>
+#include <dirent.h>
 #include <errno.h>
 #include <fcntl.h>
 #include <libgen.h>
@@ -21,6 +22,7 @@
 #include <sys/prctl.h>
 #include <sys/stat.h>
 #include <sys/syscall.h>
+#include <sys/sysmacros.h>
 #include <time.h>
 #include <unistd.h>
 #ifdef HELGRIND /* which knows nothing of atomics */
@@ -47,6 +49,10 @@
 /* Pages of a half of a journal that is made; tests make it small. */
 #ifndef ZELAMIKU_HALF
 #define ZELAMIKU_HALF 133
+#endif
+/* Where the system shows block devices by their numbers; tests show their own. */
+#ifndef ZELAMIKU_BLOCKS
+#define ZELAMIKU_BLOCKS "/sys/dev/block"
 #endif
 enum {
     BUCKETS = 64,             /* of the counts of threads that wait for monitors */

@@ -658,8 +658,9 @@ static void log_opening(const opening *opening) {
     const char *how = report->is_made != 0 ? "made" : report->is_upgraded != 0 ? "upgraded and recovered" : "recovered";
     tell_log(heap, ZELAMIKU_LOG_INFO, "%s: %llu bytes, %u lanes; %llu sections were dropped%s", how, (unsigned long long)heap->size, heap->lanes,
              (unsigned long long)report->dropped, is_journaled(heap) ? "; a round takes one sync" : "");
-    if (is_journaled(heap)) return;
-    if (opening->lanes == heap->lanes)
+    if (is_journaled(heap) && heap->file >= 0 && may_tear(heap->file))
+        tell_log(heap, ZELAMIKU_LOG_WARNING, "it has a journal, and lies on a disk by ATA or SCSI, which needn't keep sectors whole: a power failure may lose what is durable");
+    if (!is_journaled(heap) && opening->lanes == heap->lanes)
         tell_log(heap, ZELAMIKU_LOG_WARNING, "no lane is the helper's, so a round takes four syncs in place of two; %s",
                  opening->lanes < ZELAMIKU_MOST_LANES ? "heapctl dump, then heapctl format with one lane more" : "open it for 31 threads at most");
 }

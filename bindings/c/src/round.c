@@ -396,7 +396,8 @@ static bool comes_by_linger(heap *heap) {
 
 /* Under the mutex, which it releases while it sleeps: sleeps until a round is needed, and returns why; NONE: the heap has ended. After a round
  * the helper checks again within the linger, so no section's end has to wake it meanwhile. A check that finds nothing is the last: then the next
- * section's end wakes it. While another thread leads it checks nothing: the leader rings when it finishes. */
+ * section's end wakes it. While another thread leads it checks nothing: the leader rings when it finishes. If the leader's write has failed, a
+ * timer that is more than a second away is set to a second. */
 static uint32_t rest(heap *heap) {
     assert(holds(&heap->mutex));
     uint64_t due = ZELAMIKU_NO_DEADLINE;
@@ -415,7 +416,8 @@ static uint32_t rest(heap *heap) {
             return cause;
         }
         bool has_reason = !has_begun || (!heap->is_led && (heap->has_work || heap->is_troubled));
-        if (due == ZELAMIKU_NO_DEADLINE && has_reason && heap->end_status == 0) {
+        bool is_wanted = due == ZELAMIKU_NO_DEADLINE ? has_reason : heap->is_troubled && after(SECOND) < due;
+        if (is_wanted && heap->end_status == 0) {
             due = after(heap->is_troubled ? SECOND : heap->linger);
             heap->has_timer = 1;
         }

@@ -4,6 +4,7 @@
  *     journal FOLDER     prints one line, and answers 0, where all is as it must be */
 #define _GNU_SOURCE
 #define ZELAMIKU_HALF 2 /* pages: a batch has 496 words */
+#define ZELAMIKU_BLOCKS "blocks"
 #include "../zelamiku_threads.c"
 #include "memory.h"
 #include "must.h"
@@ -285,6 +286,36 @@ static void file_takes(const char *path, uint32_t journaled, uint64_t found, boo
     OK(zelamiku_heap_close(its.heap));
 }
 
+static void count_warnings(void *of, uint32_t level, const char *text) {
+    *(unsigned *)of += level == ZELAMIKU_LOG_WARNING && strstr(text, "which needn't keep sectors whole") != NULL;
+}
+
+/* What the system shows below the file's device, and whether an opening warns of that: of disks by ATA or SCSI, also below two others. */
+static void warnings(void) {
+    static const struct {
+        const char *target;
+        uint32_t journaled;
+        unsigned warned;
+    } CASES[] = {{"../devices/nvme0/block/nvme0n1", 1, 0}, {"../devices/ata1/block/sda/sda1", 1, 1}, {"../devices/ata1/block/sda/sda1", 0, 0},
+                 {"../devices/virtual/block/dm-1", 1, 1},  {"../devices/virtual/block/dm-2", 1, 0},  {"../devices/gone/block/vda", 1, 0}};
+    struct stat its;
+    char name[64];
+    unsigned warned;
+    MUST(system("mkdir -p blocks devices/nvme0/block/nvme0n1 devices/ata1/block/sda/sda1 devices/virtual/block/dm-0/slaves devices/virtual/block/dm-1/slaves "
+                "devices/virtual/block/dm-2/slaves && cd devices/virtual/block && ln -s ../../dm-0 dm-1/slaves/dm-0 && ln -s ../../../../ata1/block/sda/sda1 "
+                "dm-0/slaves/sda1 && ln -s ../../../../nvme0/block/nvme0n1 dm-2/slaves/nvme0n1") == 0);
+    MUST(stat(".", &its) == 0 && snprintf(name, sizeof name, "blocks/%u:%u", major(its.st_dev), minor(its.st_dev)) > 0);
+    plan.log = count_warnings;
+    plan.log_context = &warned;
+    for (size_t i = 0; i < sizeof CASES / sizeof *CASES; i++) {
+        warned = 0;
+        MUST(symlink(CASES[i].target, name) == 0);
+        file_takes("warned", CASES[i].journaled, 0, CASES[i].journaled == 1);
+        MUST(warned == CASES[i].warned && unlink(name) == 0 && unlink("warned") == 0);
+    }
+    plan.log = NULL;
+}
+
 int main(int argc, char **argv) {
     MUST(argc == 2 && chdir(argv[1]) == 0);
     for (uint32_t i = 0; i < MANY; i++) fields[i].owner = fields[i].guard = i % 2;
@@ -302,6 +333,7 @@ int main(int argc, char **argv) {
     file_takes("copy", 1, 2, false);
     file_takes("plain", 0, 0, false);
     file_takes("plain", 1, 1, false);
+    warnings();
     static const uint8_t LABEL[24] = {'M', 'O', 'N', 'I', 'H', 'A', 'L', 'F', [15] = 2, [23] = 30};
     int file = open("free", O_RDWR | O_CREAT, 0600); /* a journal without a heap: another file takes its place */
     MUST(pwrite(file, LABEL, sizeof LABEL, 0) == sizeof LABEL && ftruncate(file, 35 * PAGE) == 0 && close(file) == 0);

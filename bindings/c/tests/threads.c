@@ -124,22 +124,22 @@ static unsigned gone_on, watched_gone_on;
 static const void *watched;
 static size_t watched_size;
 
-/* Threads that sleep: on which word, what they have seen there, and whether until a time. One that is here has looked for the last time before. */
+/* Threads that sleep: on which word, what they have seen there, and until when at most. One that is here has looked for the last time before. */
 enum { MOST_SLEEPERS = 64 };
 static struct {
     const uint32_t *word;
     uint32_t seen;
-    bool has_due;
+    uint64_t due; /* or NO_DEADLINE */
 } sleepers[MOST_SLEEPERS];
 static pthread_mutex_t sleepers_mutex = PTHREAD_MUTEX_INITIALIZER;
 
-static unsigned note_sleeper(const uint32_t *word, uint32_t seen, bool has_due) {
+static unsigned note_sleeper(const uint32_t *word, uint32_t seen, const struct timespec *due) {
     unsigned place = 0;
     pthread_mutex_lock(&sleepers_mutex);
     while (sleepers[place].word != NULL) MUST(++place < MOST_SLEEPERS);
     sleepers[place].word = word;
     sleepers[place].seen = seen;
-    sleepers[place].has_due = has_due;
+    sleepers[place].due = due == NULL ? ZELAMIKU_NO_DEADLINE : (uint64_t)due->tv_sec * 1000000000 + (uint64_t)due->tv_nsec;
     pthread_mutex_unlock(&sleepers_mutex);
     return place;
 }
@@ -160,10 +160,20 @@ static unsigned count_sleepers(const void *from, size_t size, bool for_good) {
     for (unsigned i = 0; i < MOST_SLEEPERS; i++) {
         const uint32_t *word = sleepers[i].word;
         if (word == NULL || (from != NULL && (uintptr_t)word - (uintptr_t)from >= size)) continue;
-        count += !for_good || (!sleepers[i].has_due && __atomic_load_n(word, __ATOMIC_SEQ_CST) == sleepers[i].seen);
+        count += !for_good || (sleepers[i].due == ZELAMIKU_NO_DEADLINE && __atomic_load_n(word, __ATOMIC_SEQ_CST) == sleepers[i].seen);
     }
     pthread_mutex_unlock(&sleepers_mutex);
     return count;
+}
+
+/* Until when at most the one that sleeps on this word does; 0: nobody does, or somebody has rung. */
+static uint64_t due_of_sleeper(const _Atomic uint32_t *word) {
+    uint64_t due = 0;
+    pthread_mutex_lock(&sleepers_mutex);
+    for (unsigned i = 0; i < MOST_SLEEPERS; i++)
+        if (sleepers[i].word == (const uint32_t *)word && *word == sleepers[i].seen) due = sleepers[i].due;
+    pthread_mutex_unlock(&sleepers_mutex);
+    return due;
 }
 
 static _Thread_local bool is_held_back; /* where the thread is to sleep it isn't run until `holds_back` is 0 */
@@ -177,7 +187,7 @@ static long own_SYS_futex(void *word, int what, uint32_t value, const struct tim
         while (__atomic_load_n(&holds_back, __ATOMIC_SEQ_CST)) usleep(100);
         is_held_back = false;
     }
-    unsigned place = sleeps ? note_sleeper(word, value, due != NULL) : 0;
+    unsigned place = sleeps ? note_sleeper(word, value, due) : 0;
     long answer = syscall(SYS_futex, word, what, value, due, other, mask);
     int error = errno;
     if (sleeps) forget_sleeper(place);
@@ -237,6 +247,7 @@ static int own_PR_SET_TIMERSLACK(unsigned long nanoseconds, unsigned long b, uns
     return 0;
 }
 
+#define ZELAMIKU_BLOCKS "nowhere" /* whatever disk this machine has */
 #define prctl(what, ...) own_##what(__VA_ARGS__)
 #define pwrite flaky_pwrite
 #define fdatasync flaky_fdatasync
@@ -277,9 +288,11 @@ static void count_lines(void *of, uint32_t level, const char *text) {
     __atomic_add_fetch(&logged[level], 1, __ATOMIC_SEQ_CST);
 }
 
+static uint32_t atomic_sectors; /* of the plan */
+
 static zelamiku_report begin_by(uint32_t capacity, uint32_t ring, uint32_t linger) {
     zelamiku_plan plan = {.size = sizeof(zelamiku_plan), .fields = FIELDS, .count = 3, .objects = 2, .lanes = LANES, .capacity = capacity, .ring = ring, .linger = linger,
-                          .log = count_lines, .log_context = logged};
+                          .log = count_lines, .log_context = logged, .atomic_sectors = atomic_sectors};
     zelamiku_report report = {.size = sizeof report};
     MUST(zelamiku_heap_open(&all, "threads.heap", &plan, &report) == ZELAMIKU_OK && report.lanes == LANES);
     return report;
@@ -380,18 +393,23 @@ static void *pass(void *data) {
     return NULL;
 }
 
-static void lives(void) {
+/* Over a heap of two syncs a round, or one with a journal. */
+static void lives(uint32_t is_journaled) {
+    unsigned infos = logged[ZELAMIKU_LOG_INFO];
+    atomic_sectors = is_journaled;
     begin_anew();
     run(count, LANES);
     run(pass, LANES);
     zelamiku_stats found = stats();
     MUST(found.rounds > 0 && found.calls > found.syncs && found.syncs > 0 && found.calls_time > 0 && found.longest_round > 0);
     MUST(found.lent == 0 && found.awaiting == 0 && found.entering == 0 && found.troubles == 0 && found.last_cause != ZELAMIKU_ROUND_NONE);
+    MUST((found.one_sync_rounds > 0) == (is_journaled == 1) && (is_journaled == 1 || found.two_sync_rounds > 0)); /* a large round may take two */
     MUST(zelamiku_heap_close(all) == ZELAMIKU_OK);
     MUST(begin_again(4000).is_made == 0);
     MUST(look(TOTAL, 0) == LANES * ROUNDS && look(LIST, COUNT) == 0 && look(LIST, TAKEN) == LANES / 2 * ROUNDS);
     MUST(zelamiku_heap_close(all) == ZELAMIKU_OK);
-    MUST(logged[ZELAMIKU_LOG_INFO] == 4 && logged[ZELAMIKU_LOG_WARNING] == 0 && logged[ZELAMIKU_LOG_ERROR] == 0);
+    MUST(logged[ZELAMIKU_LOG_INFO] == infos + 4 && logged[ZELAMIKU_LOG_WARNING] == 0 && logged[ZELAMIKU_LOG_ERROR] == 0);
+    atomic_sectors = 0;
 }
 
 /* A thread that never awaits finds room again and again, and its last section is durable in time. */
@@ -947,18 +965,21 @@ static void waits_in_vain(void) {
     UNTIL(zelamiku_heap_close(all) == ZELAMIKU_OK);
 }
 
-/* Who has led a round of which a write has failed wakes the helper, which doesn't make it again at once. */
+/* Who has led a round of which a write has failed wakes the helper, which makes it again: not at once, but after a second, however long the linger. */
 static void waits_a_second(void) {
     begin_without_linger(4000, 4096);
     zelamiku_thread own = begin_thread();
     UNTIL(count_sleepers(&its_heap()->helper_bell, sizeof its_heap()->helper_bell, false) == 1);
-    uint64_t begun = zelamiku_now();
+    uint64_t begun = zelamiku_now(), due;
     __atomic_store_n(&writes_fail, 1, __ATOMIC_SEQ_CST);
     add(own, TOTAL, 0, 1);
     MUST(zelamiku_thread_await(own) == ZELAMIKU_DEVICE && usleep(50000) == 0);
     MUST(stats().rounds == 1 || zelamiku_now() - begun >= SECOND);
+    UNTIL((due = due_of_sleeper(&its_heap()->helper_bell)) != 0);
+    MUST(due <= zelamiku_now() + SECOND);
     __atomic_store_n(&writes_fail, 0, __ATOMIC_SEQ_CST);
-    UNTIL(zelamiku_heap_close(all) == ZELAMIKU_OK);
+    UNTIL(progress(own).durable == 1 && stats().last_cause == ZELAMIKU_ROUND_AGAIN);
+    MUST(zelamiku_now() - begun >= SECOND && zelamiku_heap_close(all) == ZELAMIKU_OK);
 }
 
 /* A write that a thread has asked for though nothing was stored is made again after a second too, also if more such sections end all the time. */
@@ -2117,7 +2138,8 @@ static void rest_for(unsigned milliseconds) {
 
 int main(int argc, char **argv) {
     MUST(argc >= 2 && chdir(argv[1]) == 0);
-    lives();
+    lives(0);
+    lives(1);
     unawaited();
     room_while_a_round_takes();
     room_after_a_round();
