@@ -65,7 +65,7 @@ pub record HasOrdered (old new : Hosted) (answer : Result (Unit {0}) Failed) : T
   -- An order is a sync of the heap's device.
   pub ok : OnOk answer (new.heap ≡ synced old.heap)
   pub err : OnErr answer (new.heap ≡ old.heap)
-  -- A crash at any moment of it leaves what stands for an image that one of the heap's device might have left since the last turn, whatever the answer.
+  -- A crash at any moment of it leaves what stands for an image that one of the heap's device might have left since the last sync, whatever the answer.
   pub left : LeavesWhole old.disk new.disk (StandsFor old.areas (LeftSince old.base new.heap))
   pub image : OnOk answer (new.image ≡ new.heap.now.bytes)
   -- An order of words that fit into a batch doesn't call the device.
@@ -80,7 +80,7 @@ pub record HasOrdered (old new : Hosted) (answer : Result (Unit {0}) Failed) : T
 pub record HasSynced (old new : Hosted) (answer : Result (Unit {0}) Failed) : Type 0 where
   pub ok : OnOk answer (new.heap ≡ synced old.heap)
   pub err : OnErr answer (new.heap ≡ old.heap)
-  -- A crash at any moment of it leaves what stands for an image that one of the heap's device might have left since the last turn, whatever the answer.
+  -- A crash at any moment of it leaves what stands for an image that one of the heap's device might have left since the last sync, whatever the answer.
   pub left : LeavesWhole old.disk new.disk (StandsFor old.areas (LeftSince old.base new.heap))
   -- Where the words fit into a batch, it leaves what stands for all that was written since the last turn, or for nothing of it.
   pub whole : FitsTurn old → LeavesWhole old.disk new.disk (StandsFor old.areas (IsOldOrNew old))

@@ -56,7 +56,7 @@ pub record IsTurned (d : Layered) : Type 0 where
   pub settled : IsSettled d
   pub durable : d.device.now.pending ≡ []
 
--- the heap's device, how many of its moments came before the end of the last turn, the journal under it, and what that is yet to take
+-- the heap's device, how many of its moments came before the end of the last sync, the journal under it, and what that is yet to take
 pub record IsGathering (heap : Device) (base : ℕ) (g : Gathering) : Type 0 where
   pub behind : IsBehind heap.now g.disk.device.now.bytes (rest_of g)
   pub counted : IsCounted g
@@ -93,7 +93,7 @@ view_of g trace marks calls = record {
 abbrev pub KeepsOn : (old new : Gathering) → Type 0
 KeepsOn old new = (heap : Device) (base : ℕ) → IsGathering heap base old → IsGathering heap base new
 
--- a crash at any moment of it leaves what stands for an image that one of the heap's device might have left since the last turn
+-- a crash at any moment of it leaves what stands for an image that one of the heap's device might have left since the last sync
 abbrev pub LeavesSince : (old new : Gathering) → Type 0
 LeavesSince old new = (heap : Device) (base : ℕ) → IsGathering heap base old
     → LeavesWhole old.disk.disk new.disk.disk (StandsFor old.disk.areas (LeftSince base heap))

@@ -8,15 +8,17 @@ use Rattle.journal_batches.specs.Spelled.{pages_for}
 use Rattle.disk_deferred.specs.Host.{Host}
 use Rattle.disk_journal.specs.Labels.{HasLabel}
 
--- the device that the heap's calls have made; the device below, its parts, and the image that the journal on it holds; how many words were written since the last turn,
--- at most; how many moments of the heap's device came before the end of that turn; how many turns took one flush; and the calls for the host
+-- the device that the heap's calls have made; the device below, its parts, and the image that the journal on it holds; and the calls for the host
 pub record Hosted : Type 0 where
   pub heap : Device
   pub disk : Device
   pub areas : Areas
   pub image : List ℕ
+  -- how many words were written since the last turn, at most; a sync makes a turn, and so may an order
   pub words : ℕ
+  -- how many moments of the heap's device came before the end of the last sync that isn't an order
   pub base : ℕ
+  -- how many turns took one flush
   pub turns : ℕ
   pub calls : Host
 

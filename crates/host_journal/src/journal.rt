@@ -21,7 +21,7 @@ pub struct HostJournal {
     pub(crate) alloc: Global,
     pub(crate) parts: Gathering,
     pub(crate) calls: HostCalls,
-    // The heap's calls; and the same with a sync for each turn alone, and an empty write for each order.
+    // The heap's calls; and the same with an empty write for each order, so that its last sync is the heap's last sync that isn't an order.
     pub(crate) trace: Trace,
     pub(crate) marks: Trace,
 }
@@ -56,7 +56,7 @@ impl HostJournal {
 
     /// A sync of the heap's behind which more of its calls wait. The device is called only if what was written doesn't fit into one batch.
     pub fn order(&mut self) -> Result<(), Fault>
-        // A crash at any moment of an order leaves what stands for an image that one of the heap's device might have left since the last turn.
+        // A crash at any moment of an order leaves what stands for an image that one of the heap's device might have left since the last sync.
         ensures { HasOrdered self.old self.new result }
     {
         if !gather(&mut self.parts) {
@@ -69,8 +69,8 @@ impl HostJournal {
 
     /// A sync of the heap's. The host makes the calls that it hands over, and then all that was written is durable.
     pub fn sync(&mut self) -> Result<(), Fault>
-        // After a sync all is durable. A crash in it leaves what stands for an image of the heap's device since the last turn: where the words fit into a batch, for all
-        // that was written or for nothing of it, and then it makes one flush.
+        // After a sync all is durable. A crash in it leaves what stands for an image of the heap's device since the last sync. Where the words fit into a batch, it makes
+        // one flush, and leaves what stands for all that was written since the last turn or for nothing of it.
         ensures { HasSynced self.old self.new result }
     {
         if !gather(&mut self.parts) {

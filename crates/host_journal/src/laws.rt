@@ -7,11 +7,11 @@ ghost use Rattle.host_journal.specs.Hosted.{StandsFor};
 use crate::journal::HostJournal;
 
 impl HostJournal {
-    /// Whatever a crash may leave of the device below stands for what a crash of the heap's device might have left since the last turn.
+    /// Whatever a crash may leave of the device below stands for what a crash of the heap's device might have left since the last sync.
     pub fn possible_law(&self)
-        // Whatever a crash may leave of the device now stands for what one of the heap's device might have left since the last turn.
+        // Whatever a crash may leave of the device now stands for what one of the heap's device might have left since the last sync.
         ensures left { AlwaysWhole self.now.disk (StandsFor self.now.areas (LeftSince self.now.base self.now.heap)) }
-        // The last turn isn't after the heap's latest moment.
+        // The last sync isn't after the heap's latest moment.
         ensures base { self.now.base ≤ length self.now.heap.past }
     {
         let _ = &self.parts;
