@@ -91,18 +91,26 @@ static bool sync_name(const char *real, int file) {
 
 /* ---- what a file lies on ---- */
 
+/* The list of what is below this block device: a partition's is the whole device's. NULL: there is none. `listed` gets where it is. */
+static DIR *open_slaves(const char *path, char *listed, size_t size) {
+    static const char *const WHERE[] = {"%s/slaves", "%s/../slaves"};
+    DIR *slaves = NULL;
+    for (size_t i = 0; i < sizeof WHERE / sizeof *WHERE && slaves == NULL; i++)
+        if (snprintf(listed, size, WHERE[i], path) < (int)size) slaves = opendir(listed);
+    return slaves;
+}
+
 /* Whether this block device is a disk by ATA or SCSI, or lies on one, at most so many levels down: LVM, encryption and RAID show what is below them. */
 static bool is_on_scsi(const char *path, unsigned levels) {
-    char target[512], below[512];
+    char target[512], listed[512], below[512];
     ssize_t length = readlink(path, target, sizeof target - 1);
     if (length < 0) return false;
     target[length] = 0;
     bool is_so = strstr(target, "/block/sd") != NULL;
-    (void)snprintf(below, sizeof below, "%s/slaves", path);
-    DIR *slaves = levels > 0 && !is_so ? opendir(below) : NULL;
+    DIR *slaves = levels > 0 && !is_so ? open_slaves(path, listed, sizeof listed) : NULL;
     if (slaves == NULL) return is_so;
     for (const struct dirent *it; !is_so && (it = readdir(slaves)) != NULL;) {
-        int count = snprintf(below, sizeof below, "%s/slaves/%s", path, it->d_name);
+        int count = snprintf(below, sizeof below, "%s/%s", listed, it->d_name);
         is_so = count < (int)sizeof below && is_on_scsi(below, levels - 1);
     }
     (void)closedir(slaves);
@@ -117,7 +125,7 @@ static bool may_tear(int file) {
     if (fstat(file, &its) != 0) return false;
     dev_t volume = S_ISBLK(its.st_mode) ? its.st_rdev : its.st_dev;
     (void)snprintf(path, sizeof path, ZELAMIKU_BLOCKS "/%u:%u", major(volume), minor(volume));
-    return is_on_scsi(path, 4);
+    return is_on_scsi(path, 8);
 }
 
 /* ---- a file as a device ---- */

@@ -290,20 +290,25 @@ static void count_warnings(void *of, uint32_t level, const char *text) {
     *(unsigned *)of += level == ZELAMIKU_LOG_WARNING && strstr(text, "which needn't keep sectors whole") != NULL;
 }
 
-/* What the system shows below the file's device, and whether an opening warns of that: of disks by ATA or SCSI, also below two others. */
+/* What the system shows below the file's device, and whether an opening warns of that: of disks by ATA or SCSI, also below others: a partition of a
+ * RAID (only the whole shows what is below it), and a thin volume on a pool, that on an encrypted one, that on the partition. */
 static void warnings(void) {
     static const struct {
         const char *target;
         uint32_t journaled;
         unsigned warned;
     } CASES[] = {{"../devices/nvme0/block/nvme0n1", 1, 0}, {"../devices/ata1/block/sda/sda1", 1, 1}, {"../devices/ata1/block/sda/sda1", 0, 0},
-                 {"../devices/virtual/block/dm-1", 1, 1},  {"../devices/virtual/block/dm-2", 1, 0},  {"../devices/gone/block/vda", 1, 0}};
+                 {"../devices/virtual/block/dm-1", 1, 1},  {"../devices/virtual/block/dm-2", 1, 0},  {"../devices/gone/block/vda", 1, 0},
+                 {"../devices/virtual/block/md0/md0p1", 1, 1}, {"../devices/virtual/block/dm-3", 1, 1}, {"../devices/nvme0/block/nvme0n1/nvme0n1p1", 1, 0}};
     struct stat its;
     char name[64];
     unsigned warned;
     MUST(system("mkdir -p blocks devices/nvme0/block/nvme0n1 devices/ata1/block/sda/sda1 devices/virtual/block/dm-0/slaves devices/virtual/block/dm-1/slaves "
                 "devices/virtual/block/dm-2/slaves && cd devices/virtual/block && ln -s ../../dm-0 dm-1/slaves/dm-0 && ln -s ../../../../ata1/block/sda/sda1 "
-                "dm-0/slaves/sda1 && ln -s ../../../../nvme0/block/nvme0n1 dm-2/slaves/nvme0n1") == 0);
+                "dm-0/slaves/sda1 && ln -s ../../../../nvme0/block/nvme0n1 dm-2/slaves/nvme0n1 && mkdir -p md0/slaves md0/md0p1 dm-3/slaves dm-4/slaves dm-5/slaves "
+                "dm-6/slaves && ln -s ../../../../ata1/block/sda/sda1 md0/slaves/sda1 && ln -s ../../dm-4 dm-3/slaves/dm-4 && ln -s ../../dm-5 dm-4/slaves/dm-5 && "
+                "ln -s ../../dm-6 dm-5/slaves/dm-6 && ln -s ../../md0/md0p1 dm-6/slaves/md0p1 && mkdir -p ../../nvme0/block/nvme0n1/nvme0n1p1 "
+                "../../nvme0/block/nvme0n1/slaves") == 0);
     MUST(stat(".", &its) == 0 && snprintf(name, sizeof name, "blocks/%u:%u", major(its.st_dev), minor(its.st_dev)) > 0);
     plan.log = count_warnings;
     plan.log_context = &warned;
