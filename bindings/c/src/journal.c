@@ -8,27 +8,28 @@ static bool is_journaled(const heap *heap) {
     return heap->journal.handle.is_open;
 }
 
-/* The journal's answer to a write or a turn: it refuses what has no memory. */
-static zelamiku_status answer_or(zelamiku_status status, zelamiku_status refusal) {
+/* The journal's answer to a read or a write, which may be tried again: it refuses a write that it has no memory for. */
+static zelamiku_status answer_or_device(zelamiku_status status) {
     if (status == ZELAMIKU_OK) return ZELAMIKU_OK;
     errno = status == ZELAMIKU_FAULT ? ENOMEM : EIO;
-    return refusal;
+    return ZELAMIKU_DEVICE;
 }
 
 static zelamiku_status read_journal(void *context, uint64_t at, void *bytes, size_t size) {
     journal *journal = context;
-    return answer_or(zelamiku_journal_read(&journal->handle, at, (uint8_t *)bytes, size), ZELAMIKU_DEVICE);
+    return answer_or_device(zelamiku_journal_read(&journal->handle, at, (uint8_t *)bytes, size));
 }
 
 static zelamiku_status write_journal(void *context, uint64_t at, const void *bytes, size_t size) {
     journal *journal = context;
-    return answer_or(zelamiku_journal_write(&journal->handle, at, (const uint8_t *)bytes, size), ZELAMIKU_DEVICE);
+    return answer_or_device(zelamiku_journal_write(&journal->handle, at, (const uint8_t *)bytes, size));
 }
 
-/* Makes the journal's calls, after a turn or an order. LOST, if there was none: it may be that there never is one again. */
+/* Makes the journal's calls, after a turn or an order. FAULT, if there was none for want of memory: it may be that there never is one again. */
 static zelamiku_status after_turn(journal *journal, zelamiku_status turned) {
     uint64_t made = 0;
-    zelamiku_status status = answer_or(turned, ZELAMIKU_LOST);
+    errno = ENOMEM;
+    zelamiku_status status = turned;
     if (status == ZELAMIKU_OK) status = make_calls_on(&journal->handle, &journal->below, &made, &journal->syncs);
     journal->calls += made;
     return status;
@@ -56,7 +57,7 @@ static zelamiku_status sync_or_order(zelamiku_handle *handle, const zelamiku_dev
     if (on->sync != sync_journal) return sync_device(on);
     zelamiku_status status = zelamiku_waiting(handle, &waiting);
     assert(status == ZELAMIKU_OK);
-    if (status != ZELAMIKU_OK || waiting == 0) return sync_device(on);
+    if (status != ZELAMIKU_OK || waiting == 0) return sync_journal(on->context);
     journal *journal = on->context;
     return after_turn(journal, zelamiku_journal_order(&journal->handle));
 }

@@ -4,6 +4,7 @@
  *
  *     refused_calls FOLDER      prints how many calls were refused, and answers 0, where all is as it must be */
 #define _GNU_SOURCE
+#define ZELAMIKU_HALF 2 /* pages */
 #include <errno.h>
 #include <fcntl.h>
 #include <libgen.h>
@@ -220,15 +221,22 @@ void rattle_dealloc(void *old) {
 #define SAY_MORE() fprintf(stderr, "call %lu is refused, errno %d: ", (unsigned long)refused_one, (int)with)
 #include "must.h"
 
-enum { OBJECTS_THERE = 2, FIELDS_THERE = 3, LIVES = 6 };
+enum { OBJECTS_THERE = 2, FIELDS_THERE = 3, LIVES = 9 };
 static const zelamiku_field FIELDS[FIELDS_THERE] = {{0, 0, 10, 0}, {1, 1, 20, 0}, {1, 1, 30, 1}};
 static const zelamiku_plan PLAN = {.size = sizeof(zelamiku_plan), .fields = FIELDS, .count = FIELDS_THERE, .objects = OBJECTS_THERE, .lanes = 2, .capacity = 2000, .ring = 4096};
 static uint64_t kept, tried; /* the value that is durable, and one that may be */
 
 /* How a life begins. */
-typedef enum { NO_FILE, ZEROS, A_HEAP, BY_A_LINK, REVERTS, A_DEVICE } beginning;
-static const char *const BEGINNINGS[LIVES] = {"no file", "a file of zeros", "a heap", "a link to no file", "a heap that reverts", "a device of zeros"};
+typedef enum { NO_FILE, ZEROS, A_HEAP, BY_A_LINK, REVERTS, A_DEVICE, A_DEVICE_FOR_A_JOURNAL, NO_FILE_FOR_A_JOURNAL, A_JOURNAL } beginning;
+static const char *const BEGINNINGS[LIVES] = {"no file", "a file of zeros", "a heap", "a link to no file", "a heap that reverts", "a device of zeros",
+                                              "a device of zeros for a journal", "no file, for a journal", "a heap with a journal"};
 static memory held; /* the device */
+
+static bool is_on_device(beginning how) { return how == A_DEVICE || how == A_DEVICE_FOR_A_JOURNAL; }
+
+static bool has_journal(beginning how) { return how >= A_DEVICE_FOR_A_JOURNAL; }
+
+static bool is_there(beginning how) { return how == A_HEAP || how == REVERTS || how == A_JOURNAL; }
 
 static bool is_missing(const char *path) {
     struct stat info;
@@ -240,6 +248,7 @@ static unsigned stopped;     /* how many lives' heaps have ended for want of mem
 
 /* Whether the status and its cause are those of the call that was refused. */
 static bool is_of_refusal(zelamiku_status status) {
+    if (status == ZELAMIKU_LOST && with == ENOMEM) return false; /* no sync has failed */
     if ((status == ZELAMIKU_NO_MEMORY || status == ZELAMIKU_FAILED) && with == ENOMEM) return last_failure().error == 0 || last_failure().error == ENOMEM;
     return (status == ZELAMIKU_NO_MEMORY || status == ZELAMIKU_DEVICE || status == ZELAMIKU_LOST) && last_failure().error == with;
 }
@@ -266,16 +275,16 @@ static void leave_file(const char *path) {
 
 static void begin_life(beginning how) {
     static const char *const ALL[] = {"heap", "copy", "link to come"};
-    for (size_t i = 0; i < sizeof ALL / sizeof *ALL && how != A_HEAP && how != REVERTS; i++) (void)unlink(ALL[i]);
+    for (size_t i = 0; i < sizeof ALL / sizeof *ALL && !is_there(how); i++) (void)unlink(ALL[i]);
     if (how == ZEROS) leave_file("heap");
     if (how == BY_A_LINK) MUST(symlink("link to come", "heap") == 0);
     if (how == A_HEAP) leave_file("copy.heapctl-new"); /* as a copy that was cut off */
-    if (how == A_DEVICE) memset(held.now, 0, held.size);
-    if (how != A_HEAP && how != REVERTS) kept = tried = 10;
+    if (is_on_device(how)) memset(held.now, 0, held.size);
+    if (!is_there(how)) kept = tried = 10;
 }
 
 /* One section more, and whether it is durable. */
-static void add_one(zelamiku_heap heap, zelamiku_thread own) {
+static void add_one(zelamiku_heap heap, zelamiku_thread own, bool is_journaled) {
     uint64_t durable = 0;
     int event = -1;
     MUST(zelamiku_thread_enter(own, 0) == ZELAMIKU_OK && zelamiku_thread_store(own, 0, tried + 1) == ZELAMIKU_OK);
@@ -289,14 +298,14 @@ static void add_one(zelamiku_heap heap, zelamiku_thread own) {
     if (is_kept) kept = tried;
     if (!is_again) return;
     UNTIL(stats_now(heap).rounds > stats_now(heap).troubles); /* a round is counted after its sections */
-    MUST(stats_now(heap).two_sync_rounds == 1);
+    MUST(stats_now(heap).one_sync_rounds == is_journaled && stats_now(heap).two_sync_rounds == !is_journaled);
 }
 
 /* The heap wasn't opened. Only the last step of a making, the folder's sync, leaves a heap where there was a free file. */
 static void must_be_as_before(beginning how, zelamiku_status status) {
     struct stat info;
     bool may_be_made = status == ZELAMIKU_NO_MEMORY || strstr(zelamiku_heap_failure(NULL), "its folder can't be synced") != NULL;
-    if (status == ZELAMIKU_DEVICE && how == NO_FILE) MUST(is_missing("heap"));
+    if (status == ZELAMIKU_DEVICE && (how == NO_FILE || how == NO_FILE_FOR_A_JOURNAL)) MUST(is_missing("heap"));
     if (status == ZELAMIKU_DEVICE && how == BY_A_LINK) MUST(is_missing("link to come"));
     if (how == ZEROS) MUST(lstat("heap", &info) == 0 && (may_be_made || info.st_size == 5000));
 }
@@ -307,8 +316,8 @@ static void copy_one(zelamiku_heap heap) {
     bool was_there = lstat("copy", &before) == 0;
     zelamiku_status status = zelamiku_heap_copy(heap, "copy");
     bool is_new = status == ZELAMIKU_OK || strstr(zelamiku_heap_failure(NULL), "copy: copy: the new copy is at the path, but its folder") != NULL;
-    bool is_there = lstat("copy", &after) == 0;
-    MUST(is_new ? is_there : is_there == was_there && (!is_there || before.st_ino == after.st_ino));
+    bool is_now = lstat("copy", &after) == 0;
+    MUST(is_new ? is_now : is_now == was_there && (!is_now || before.st_ino == after.st_ino));
     if (passes(status)) MUST(!was_there || before.st_ino != after.st_ino);
 }
 
@@ -331,7 +340,8 @@ static void live(beginning how) {
     zelamiku_plan plan = PLAN;
     zelamiku_device device = device_of(&held);
     plan.reverts = how == REVERTS;
-    if (how == A_DEVICE) plan.device = &device;
+    if (is_on_device(how)) plan.device = &device;
+    plan.atomic_sectors = has_journal(how);
     if (how == NO_FILE) plan.lanes = 0; /* as many as there are by default: more than the others want */
     zelamiku_status opened = zelamiku_heap_open(&heap, "heap", &plan, NULL);
     if (!passes(opened)) {
@@ -340,7 +350,7 @@ static void live(beginning how) {
         return;
     }
     must_know_itself(heap);
-    if (passes(zelamiku_thread_begin(&own, heap))) add_one(heap, own);
+    if (passes(zelamiku_thread_begin(&own, heap))) add_one(heap, own, has_journal(how));
     copy_one(heap);
     zelamiku_status status = zelamiku_thread_end(own);
     MUST(status == ZELAMIKU_OK || (has_ended(status) && !passes(status)));
@@ -356,7 +366,8 @@ static void look(beginning how) {
     zelamiku_plan plan = PLAN;
     zelamiku_device device = device_of(&held);
     refused_one = 0;
-    if (how == A_DEVICE) plan.device = &device;
+    if (is_on_device(how)) plan.device = &device;
+    plan.atomic_sectors = has_journal(how);
     zelamiku_status status = zelamiku_heap_open(&heap, "heap", &plan, NULL);
     if (how == A_HEAP) MUST(zelamiku_heap_copy(heap, "copy") == ZELAMIKU_OK);
     MUST(is_missing("heap.heapctl-new") && is_missing("copy.heapctl-new") && is_missing("link to come.heapctl-new"));
@@ -525,7 +536,7 @@ int main(int argc, char **argv) {
     MUST(argc == 2 && chdir(argv[1]) == 0 && mkdir("refused calls", 0700) == 0 && chdir("refused calls") == 0);
     texts();
     held = new_memory(1 << 18);
-    for (beginning how = NO_FILE; how <= A_DEVICE; how++) {
+    for (beginning how = NO_FILE; how <= A_JOURNAL; how++) {
         unsigned long one = 0;
         do {
             begin_life(how);
