@@ -444,10 +444,10 @@ static uint64_t judge_durable(const judge *it) {
 /* By their syncs. The helper has a lane, with room for all fields. */
 static void judge_rounds(const judge *it, const zelamiku_stats *stats) {
     uint64_t one = stats->one_sync_rounds, two = stats->two_sync_rounds, four = stats->four_sync_rounds;
-    bool is_right = it->is_journaled ? !it->is_narrow || (two == 0 && four == 0) : one == 0 && four == 0;
+    bool is_right = it->is_journaled ? !it->is_narrow || stats->syncs == one : one == 0 && four == 0;
     if (!is_right || one + two + four > stats->rounds)
-        search_fail("of %llu rounds %llu took one sync, %llu two and %llu four", (unsigned long long)stats->rounds, (unsigned long long)one,
-                    (unsigned long long)two, (unsigned long long)four);
+        search_fail("of %llu rounds with %llu syncs %llu took one, %llu two and %llu four", (unsigned long long)stats->rounds,
+                    (unsigned long long)stats->syncs, (unsigned long long)one, (unsigned long long)two, (unsigned long long)four);
 }
 
 static void judge_stats(const judge *it, const zelamiku_stats *stats, uint64_t durable) {
