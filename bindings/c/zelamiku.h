@@ -199,9 +199,9 @@ const char *zelamiku_heap_failure(zelamiku_failure *failure);
  *   length  sets `length` to how many bytes the device has. The number must not fall while the heap is open
  * A crash may leave any bytes in the ranges that were written since the last sync. Every other byte must keep its value. docs/FORMAT.md, "What the
  * device keeps", says which devices promise that. Each opening also rewrites three single bytes, at 8, 64 and 1,112, with the values that it has
- * read there: a crash during such a rewrite must not change a durable byte. A heap with a journal (`atomic_sectors`) needs more: each sector of 512
- * bytes must have what it had at the last sync, or what one of the writes since then left there. An opening of it rewrites whole pages of 4,096
- * bytes, as it has read them: the first, those of the newest batch, and those of the image if that batch is empty.
+ * read there: a crash during such a rewrite must not change a durable byte. A heap with a journal (`atomic_sectors`) needs another promise: each
+ * sector of 512 bytes must have what it had at the last sync, or what one of the writes since then left there. In place of the three bytes an
+ * opening of it rewrites whole pages of 4,096: the first, those of the newest batch, and those of the image if that batch is empty.
  *
  * A heap is made in place if the device is free, that is, if the bytes that the heap takes are zeros, or are what an interrupted making has left.
  * Bytes beyond these are never read. The library doesn't lock the device: the program must see to it that at most one open heap uses it at a

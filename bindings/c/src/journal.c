@@ -1,7 +1,8 @@
 /* A journal as a device, where the real one keeps sectors whole: so a round takes one sync (docs/FORMAT.md, "A journal in two halves").
  *
  * Reads and writes go to the journal, which works in memory. A sync asks it for a turn, and makes the journal's own calls on the real device. Where
- * such a call fails, the next sync goes on with it: the calls wait in the journal, and as nothing was written meanwhile there is no other turn. */
+ * such a call fails, the calls wait in the journal, and the sync is given again. As nothing was written meanwhile, that adds none, unless what was
+ * written fits into no batch: then the journal turns at once. */
 /* ---- the journal as a device ---- */
 
 static bool is_journaled(const heap *heap) {
@@ -29,8 +30,8 @@ static zelamiku_status write_journal(void *context, uint64_t at, const void *byt
 static zelamiku_status after_turn(journal *journal, zelamiku_status turned) {
     uint64_t made = 0;
     errno = ENOMEM;
-    zelamiku_status status = turned;
-    if (status == ZELAMIKU_OK) status = make_calls_on(&journal->handle, &journal->below, &made, &journal->syncs);
+    if (turned != ZELAMIKU_OK) return turned;
+    zelamiku_status status = make_calls_on(&journal->handle, &journal->below, &made, &journal->syncs);
     journal->calls += made;
     return status;
 }

@@ -578,7 +578,7 @@ static zelamiku_status recover_or_make(opening *opening) {
         return status == ZELAMIKU_OK ? make_at_path(opening) : status;
     }
     if (status != ZELAMIKU_OK) return status;
-    status = write_gates_back(on);
+    if (!is_journaled(opening->heap)) status = write_gates_back(on); /* a journal's opening writes again what it trusts */
     if (status == ZELAMIKU_OK && is_file && !keep_name(opening)) return no_device(opening, "its folder can't be synced");
     if (status == ZELAMIKU_OK) status = make_calls_on(&opening->handle, on, &calls, &opening->heap->syncs_made);
     if (status == ZELAMIKU_OK) return ZELAMIKU_OK;

@@ -207,17 +207,18 @@ static unsigned makings(uint32_t journaled) {
     }
 }
 
-/* Each call of a round fails. What is left of them is made then, once, and no other turn comes. */
-static unsigned faults(unsigned fault) {
+/* Each call of a round fails. What is left of them is made then, once, and no other turn comes, unless the round stores more than a batch takes. */
+static unsigned faults(unsigned fault, uint32_t stores) {
     unsigned whole = 0;
     for (unsigned at = 0;; at++) {
         disk *of = new_disk(0, NULL);
+        plan.count = stores > 0 ? MANY : 2;
         use its = open_disk(of);
         uint64_t value = 0;
         acknowledged = 0;
         rounds(&its, of, 2, 1, 0);
         begun = 3;
-        MUST(section(&its, &value, 1, 0, 0) && value == 3);
+        MUST(section(&its, &value, 1, 2, stores) && section(&its, &value, 0, 2 + stores, stores) && value == 3);
         unsigned calls = of->calls;
         of->fault = fault, of->fault_at = at;
         zelamiku_status status = zelamiku_thread_await(its.own);
@@ -225,11 +226,12 @@ static unsigned faults(unsigned fault) {
         MUST(status == (is_lost ? ZELAMIKU_LOST : is_met ? ZELAMIKU_DEVICE : ZELAMIKU_OK) && (!is_met || last_failure().error == ENOSPC));
         if (is_met && !is_lost) OK(zelamiku_thread_await(its.own));
         if (at == 0) whole = of->calls - calls;
-        MUST(is_lost || of->calls - calls == whole + (is_met && fault == LATE));
+        MUST(is_lost || stores > 0 || of->calls - calls == whole + (is_met && fault == LATE));
         MUST(zelamiku_heap_close(its.heap) == (is_lost ? ZELAMIKU_LOST : ZELAMIKU_OK));
         acknowledged = is_lost ? 2 : 3;
         MUST(is_right(of->held.durable, 9) && is_right(of->held.now, 9));
         free_disk(of);
+        plan.count = 2;
         if (at > 0 && !is_met) return at - 1;
     }
 }
@@ -331,7 +333,8 @@ int main(int argc, char **argv) {
     tries = 1;
     MUST(makings(0) > 100 && makings(1) > 30);
     tries = 0;
-    unsigned failed = faults(REFUSED) + faults(LATE) + faults(GONE);
+    unsigned failed = faults(REFUSED, 0) + faults(LATE, 0) + faults(GONE, 0);
+    unsigned failed_wide = faults(REFUSED, 199) + faults(LATE, 199) + faults(GONE, 199);
     refusals();
     file_takes("journaled", 1, 0, true);
     file_takes("journaled", 0, 1, true);
@@ -345,6 +348,6 @@ int main(int argc, char **argv) {
     file_takes("free", 0, 0, false);
     plan.atomic_sectors = 0;
     lives(2, 0);
-    printf("journal: cut off in %u moments; with torn sectors %u of %u lose something; a fault at each call of a round %u\n", cuts, lost, torn, failed);
+    printf("journal: cut off in %u moments; with torn sectors %u of %u lose something; a fault at each call of a round %u, %u where no batch takes it\n", cuts, lost, torn, failed, failed_wide);
     return 0;
 }

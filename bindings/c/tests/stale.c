@@ -4,18 +4,18 @@
  *
  * The device has a cache, which reads give. A sync that fails leaves any bytes on the device where it was written since the last sync, leaves the
  * cache as it is, and no later sync writes what that one had. A kill leaves the cache, and what no sync has had for the next one. A crash leaves
- * the device, with any bytes where it was written since the last sync. A byte that is written with the value that the device has stays in each. */
-#include <errno.h>
-#include <stdio.h>
-#include <stdlib.h>
-#include <string.h>
+ * the device, with any bytes where it was written since the last sync; below a journal with each sector as it was, or as it was written since. A
+ * byte that is written with the value that the device has stays in each. */
+#define _GNU_SOURCE
+#define ZELAMIKU_HALF 2 /* pages */
+#include "../zelamiku_threads.c"
 #include "memory.h"
 
 static void say_seed(void);
 #define SAY_MORE() say_seed()
 #include "must.h"
 
-enum { SIZE = 2160 + 24 * 3 + 16 * 2 * 2000, SECTIONS = 3 };
+enum { SECTOR = 512, IMAGE = 2160 + 24 * 3 + 16 * 2 * 2000, SIZE = (1 + 2 * ZELAMIKU_HALF) * 4096 + (IMAGE + 4095) / 4096 * 4096, SECTIONS = 3 };
 enum fault { FAILED_SYNC, KILL, CRASH, FAULTS };
 static const char *const NAMES[] = {"a sync fails", "a kill", "a crash"};
 
@@ -24,11 +24,13 @@ static bool is_pending[SIZE];
 static size_t pending_from = SIZE, pending_to; /* what is pending lies between these */
 static enum fault first, second, fault; /* of the life, of the opening; the one that comes next */
 static unsigned first_at, second_at, seed, dice;
+static uint32_t with_journal; /* the heap */
 static unsigned calls, fault_at; /* of syncs alone, where one is to fail; fault_at 0: none comes */
 static bool is_over;             /* the fault has come: no call is made any more */
 
 static void say_seed(void) {
-    fprintf(stderr, "life: %s at call %u, opening: %s at call %u, seed %u: ", NAMES[first], first_at, NAMES[second], second_at, seed);
+    fprintf(stderr, "%s: life: %s at call %u, opening: %s at call %u, seed %u: ", with_journal ? "with a journal" : "plain", NAMES[first], first_at,
+            NAMES[second], second_at, seed);
 }
 
 static unsigned roll(unsigned most) {
@@ -42,10 +44,22 @@ static void make_clean(void) {
     pending_to = 0;
 }
 
+/* Each sector that was written has come, or hasn't. */
+static void keep_sectors(void) {
+    bool has_come = false;
+    MUST(pending_from == SIZE || pending_from % SECTOR == 0);
+    for (size_t i = pending_from; i < pending_to; i++) {
+        if (i % SECTOR == 0) has_come = roll(2) == 0;
+        if (is_pending[i] && has_come) durable[i] = cache[i];
+    }
+    make_clean();
+}
+
 /* What the device has then, where what was written may or may not have come. */
 static void spoil(void) {
     static const uint8_t OTHERS[] = {0, 0xa5, 0xff, 1};
     unsigned how = roll(4);
+    if (with_journal && how > 1) return keep_sectors();
     for (size_t i = pending_from; i < pending_to; i++) {
         if (!is_pending[i] || durable[i] == cache[i]) continue;
         if (how == 1 || (how > 1 && roll(2) == 0)) durable[i] = cache[i];
@@ -98,30 +112,30 @@ static zelamiku_status cached_sync(void *of) {
 
 static zelamiku_status cached_size(void *of, uint64_t *size) {
     (void)of;
-    *size = SIZE;
+    *size = with_journal ? SIZE : IMAGE;
     return ZELAMIKU_OK;
 }
 
 static const zelamiku_device DEVICE = {sizeof(zelamiku_device), cached_read, cached_write, cached_sync, cached_size, NULL};
 static const zelamiku_field FIELDS[] = {{0, 0, 0, 0}, {1, 1, 0, 0}, {0, 0, 0, 0}};
-static zelamiku_heap heap;
+static zelamiku_heap all;
 static uint64_t begun, acknowledged;
 static unsigned openings;
 
 /* `lanes` 1 leaves the last of the heap's two lanes to the helper, whose rounds take two syncs; with 2 they take four. */
 static zelamiku_status open_heap(uint32_t lanes, enum fault which, unsigned at) {
-    zelamiku_plan plan = {.size = sizeof(zelamiku_plan), .fields = FIELDS, .count = 3, .objects = 2, .lanes = lanes, .capacity = 2000, .linger = UINT32_MAX};
+    zelamiku_plan plan = {.size = sizeof(zelamiku_plan), .fields = FIELDS, .count = 3, .objects = 2, .lanes = lanes, .capacity = 2000, .linger = UINT32_MAX, .atomic_sectors = with_journal};
     calls = 0;
     fault = which;
     fault_at = at;
     is_over = false;
-    return open_on(&heap, "stale", &DEVICE, &plan, NULL);
+    return open_on(&all, "stale", &DEVICE, &plan, NULL);
 }
 
 /* Sections that count two fields under two monitors and one under the first, each awaited, until the fault. */
 static bool count_on(unsigned sections) {
     zelamiku_thread own;
-    zelamiku_status status = zelamiku_thread_begin(&own, heap);
+    zelamiku_status status = zelamiku_thread_begin(&own, all);
     for (unsigned n = 0; n < sections && status == ZELAMIKU_OK; n++) {
         begun++;
         status = zelamiku_thread_enter(own, 0);
@@ -135,7 +149,7 @@ static bool count_on(unsigned sections) {
     }
     bool is_whole = status == ZELAMIKU_OK && !is_over;
     is_over = true; /* the process ends here */
-    (void)!zelamiku_heap_stop(heap, ZELAMIKU_ABANDONED);
+    (void)!zelamiku_heap_stop(all, ZELAMIKU_ABANDONED);
     return is_whole;
 }
 
@@ -143,7 +157,7 @@ static bool count_on(unsigned sections) {
 static void check(void) {
     zelamiku_thread own;
     uint64_t value[3];
-    OK(zelamiku_thread_begin(&own, heap));
+    OK(zelamiku_thread_begin(&own, all));
     OK(zelamiku_thread_enter(own, 0));
     OK(zelamiku_thread_enter(own, 1));
     for (uint32_t field = 0; field < 3; field++) OK(zelamiku_thread_load(own, field, &value[field]));
@@ -173,15 +187,16 @@ static bool is_life_over(uint32_t lanes) {
     return !count_on(SECTIONS);
 }
 
-/* A making whose last sync fails: the cache has a heap, the device none. */
+/* A making whose last sync fails: the cache has a heap, the device none. Below a journal also each sync before it. */
 static bool is_making_over(uint32_t lanes) {
     empty();
     OK(open_heap(lanes, FAILED_SYNC, 0));
     unsigned syncs = calls;
     is_over = true;
-    (void)!zelamiku_heap_stop(heap, ZELAMIKU_ABANDONED);
+    (void)!zelamiku_heap_stop(all, ZELAMIKU_ABANDONED);
+    if (first_at > (with_journal ? syncs : 1)) return false;
     empty();
-    MUST(open_heap(lanes, FAILED_SYNC, syncs) != ZELAMIKU_OK);
+    MUST(open_heap(lanes, FAILED_SYNC, syncs + 1 - first_at) != ZELAMIKU_OK);
     return true;
 }
 
@@ -192,16 +207,16 @@ static bool is_cut_off(bool (*is_ended)(uint32_t), uint32_t lanes, bool *is_open
     *is_opening_cut = open_heap(lanes, second, second_at) != ZELAMIKU_OK;
     if (!*is_opening_cut) {
         is_over = true;
-        (void)!zelamiku_heap_stop(heap, ZELAMIKU_ABANDONED);
+        (void)!zelamiku_heap_stop(all, ZELAMIKU_ABANDONED);
     }
     OK(open_heap(lanes, CRASH, 0));
     check();
     if (seed % 2 == 0) (void)count_on(1);
-    else (void)!zelamiku_heap_stop(heap, ZELAMIKU_ABANDONED);
+    else (void)!zelamiku_heap_stop(all, ZELAMIKU_ABANDONED);
     crash();
     OK(open_heap(lanes, CRASH, 0));
     check();
-    OK(zelamiku_heap_close(heap));
+    OK(zelamiku_heap_close(all));
     return true;
 }
 
@@ -212,14 +227,21 @@ static bool cut_off_openings(bool (*is_ended)(uint32_t), uint32_t lanes) {
     return is_ended_so;
 }
 
-int main(void) {
+static unsigned cut_off_lives(void) {
     unsigned lives = 0;
     for (seed = 1; seed <= 2; seed++)
         for (second = 0; second < FAULTS; second++) {
             for (first = FAILED_SYNC; first <= KILL; first++)
                 for (first_at = 1; cut_off_openings(is_life_over, seed % 2 + 1); first_at++) lives++;
-            (void)cut_off_openings(is_making_over, 1);
+            for (first_at = 1, first = FAILED_SYNC; cut_off_openings(is_making_over, 1); first_at++) lives++;
         }
-    printf("stale: %u lives and %u openings after them were cut off\n", lives, openings);
+    return lives;
+}
+
+int main(void) {
+    unsigned plain = cut_off_lives();
+    with_journal = 1;
+    unsigned journaled = cut_off_lives();
+    printf("stale: %u lives, %u with a journal, and %u openings after them were cut off\n", plain, journaled, openings);
     return 0;
 }

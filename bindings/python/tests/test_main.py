@@ -104,7 +104,7 @@ class Words(OnFile):
         self.assertEqual((status, out), (2, ""))
         self.assertIn("arguments are required: word", error)
         out = " ".join(self.run_with("migrate", "--help")[1].split())
-        self.assertIn("usage: python -m zelamiku migrate [-h] [--lanes N] [--drop] [--atomic-sectors] FILE MODULE[:NAME] [MODULE[:NAME]]", out)
+        self.assertIn("usage: python -m zelamiku migrate [-h] [--lanes N] [--drop] [--atomic-sectors | --no-atomic-sectors] FILE MODULE[:NAME] [MODULE[:NAME]]", out)
         for text in ("the new declaration; by default the same one", "for so many threads; by default as many as it has", "lose the fields that the new declaration doesn't have"):
             self.assertIn(text, out)
 
@@ -131,9 +131,12 @@ class Words(OnFile):
         self.assertEqual(self.run_with("show", "a.heap", "bank"), (0, SHOWN, ""))
 
     def test_migrate_makes_a_heap_of_one_sync_a_round(self):
-        self.assertEqual(self.run_with("migrate", "a.heap", "bank", "--atomic-sectors")[0], 0)
-        self.assertEqual(Path(self.path).read_bytes()[:8], b"MONIHALF")
-        self.assertEqual(self.run_with("show", "a.heap", "bank"), (0, SHOWN, ""))
+        # And keeps it so, until two are asked for.
+        for asked, begins in (["--atomic-sectors"], b"MONIHALF"), ([], b"MONIHALF"), (["--no-atomic-sectors"], b"MONIHEAP"), ([], b"MONIHEAP"):
+            self.assertEqual(self.run_with("migrate", "a.heap", "bank", *asked)[0], 0)
+            self.assertEqual(Path(self.path).read_bytes()[:8], begins)
+            self.assertEqual(self.run_with("show", "a.heap", "bank"), (0, SHOWN, ""))
+            os.remove(self.path + "~")
 
     def test_migrate_leaves_the_file_if_the_new_heap_cant_be_synced(self):
         close, ends = library().heap_close, iter([33])

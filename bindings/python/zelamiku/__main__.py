@@ -20,6 +20,7 @@ import importlib
 import os
 import sys
 from collections.abc import Iterator
+from pathlib import Path
 from typing import Any
 
 from .declare import Array, Member, Ref, Value
@@ -103,8 +104,9 @@ def _carried(old: Plan, bits: list[int], new: Plan) -> Iterator[tuple[int, int]]
                 raise _Refused(f"{new.fields[number].name} can't be {other.decode(value)!r}: {error}") from None
 
 
-def migrate(path: str, objects: dict[str, Any], wanted: dict[str, Any], lanes: int | None, drops: bool, atomic_sectors: bool) -> None:
-    """Puts a heap of the wanted objects in the file's place, with the values that it had."""
+def migrate(path: str, objects: dict[str, Any], wanted: dict[str, Any], lanes: int | None, drops: bool, atomic_sectors: bool | None) -> None:
+    """Puts a heap of the wanted objects in the file's place, with the values that it had. If `atomic_sectors` is None, its rounds
+    take as many syncs as before."""
     path = os.path.realpath(path)
     old, new = Plan(objects), Plan(wanted)
     kept, beside = path + "~", path + ".migrated"
@@ -118,6 +120,9 @@ def migrate(path: str, objects: dict[str, Any], wanted: dict[str, Any], lanes: i
             new.fields[number] = dataclasses.replace(new.fields[number], first=bits)
         if os.path.lexists(beside):
             os.remove(beside)
+        if atomic_sectors is None:
+            with Path(path).open("rb") as file:
+                atomic_sectors = file.read(8) == b"MONIHALF"
         # The values are the new heap's first ones, so it is made with all of them or not at all.
         make(beside, new, heap.report.lanes if lanes is None else lanes, heap.report.capacity, atomic_sectors)
         os.link(path, kept)
@@ -140,7 +145,8 @@ def main() -> None:
     migrates.add_argument("wanted", nargs="?", metavar="MODULE[:NAME]", help="the new declaration; by default the same one")
     migrates.add_argument("--lanes", type=int, metavar="N", help="for so many threads; by default as many as it has")
     migrates.add_argument("--drop", action="store_true", help="lose the fields that the new declaration doesn't have")
-    migrates.add_argument("--atomic-sectors", action="store_true", help="rounds take one sync (see zelamiku.open); by default two")
+    syncs = "rounds take one sync (see zelamiku.open), or two; by default as many as before"
+    migrates.add_argument("--atomic-sectors", action=argparse.BooleanOptionalAction, help=syncs)
     chosen = parser.parse_args()
     try:
         objects = _declared(chosen.objects)
