@@ -272,15 +272,16 @@ void zelamiku_free(zelamiku_handle *handle);
  * of a journal also returns NOTHING and WRONG_KIND. docs/FORMAT.md, "A journal in two halves", says what the device holds then. */
 
 /* Opens the journal of a device that begins with these bytes: all that its label counts, durably. `image_size` gets the bytes of its image.
- * OPEN; NOT_FORMATTED: there is no label. TOO_SMALL: the label counts more bytes. WORN_JOURNAL, NO_MEMORY, FAULT (want of memory too). The handle is
- * as it was, and `image_size` is 0. */
+ * OPEN; NOT_FORMATTED: there is no label. TOO_SMALL: the label counts more bytes, or halves of no page. WORN_JOURNAL, NO_MEMORY, FAULT (want of
+ * memory too). The handle is as it was, and `image_size` is 0. */
 ZELAMIKU_MUST_USE zelamiku_status zelamiku_journal_open(zelamiku_handle *journal, const uint8_t *bytes, size_t size, uint64_t *image_size);
 
 /* Makes a journal with halves of so many pages of 4,096 bytes, and an image of so many, which are zeros. OPEN, NO_MEMORY, FAULT (want of memory too);
  * TOO_SMALL: a half has no page. The handle is as it was. */
 ZELAMIKU_MUST_USE zelamiku_status zelamiku_journal_create(zelamiku_handle *journal, uint32_t half, uint32_t image);
 
-/* Reads bytes of the image, as they were at the last order or sync. TOO_SMALL: they don't all lie in it; `bytes` is as it was. */
+/* Reads bytes of the image, as they were at the last order or sync. If one has failed since, they may have some of the writes that it was to take.
+ * TOO_SMALL: they don't all lie in it; `bytes` is as it was. */
 ZELAMIKU_MUST_USE zelamiku_status zelamiku_journal_read(zelamiku_handle *journal, uint64_t at, uint8_t *bytes, size_t size);
 
 /* Writes bytes of the image. TOO_SMALL: they don't all lie in it. FAULT: there is no memory for them. Nothing was written then. */
