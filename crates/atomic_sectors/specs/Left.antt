@@ -43,7 +43,7 @@ abbrev pub syncs_in : List Moment → ℕ
 syncs_in [] = 0
 syncs_in (m ∷ before) = (if length m.pending == 0 then 1 else 0) + syncs_in before
 
--- calls that make so many syncs, and between them nothing but writes
+-- calls that make so many syncs that succeed; a sync that fails changes no moment, and isn't counted
 pub record MakesSyncs (n : ℕ) (old new : Device) : Type 0 where
   pub since : List Moment
   pub moments : new.now ∷ new.past ≡ since ++ (old.now ∷ old.past)

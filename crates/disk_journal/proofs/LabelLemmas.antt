@@ -1,6 +1,6 @@
 -- What bytes are a label, and of which parts.
 use Rattle.std.specs.Int.{to_be_bytes, from_be_bytes, w64}
-use Rattle.std.proofs.Common.{◌≡◌, inl, inr, ◌<◌, ◌≤◌, ◌^◌, ℕ, List, ◌∷◌, ◌++◌, Bool, true, false, not, length, take, sym, ◌∙◌, ap, arith}
+use Rattle.std.proofs.Common.{◌≡◌, inl, inr, ◌<◌, ◌≤◌, ◌^◌, ℕ, List, ◌∷◌, ◌++◌, Bool, true, false, not, length, take, sym, ◌∙◌, ap, subst, arith}
 use Rattle.std.proofs.Math.Dec.{eqb}
 use Rattle.std.specs.Cmp.Lexicographic.{pointwise, bytes_decides}
 use Rattle.std.proofs.lemmas.List.{take-take}
@@ -11,7 +11,7 @@ use Rattle.block_disk.proofs.Bytes.{part_part}
 use Rattle.journal_batches.specs.declared.areas.Areas.{Areas}
 use Rattle.journal_batches.specs.Areas.{room_of}
 use Rattle.disk_journal.specs.Labels.{HasLabel}
-use Rattle.disk_journal.specs.Refusals.{LacksRoom}
+use Rattle.disk_journal.specs.Refusals.{AreNoJournal, LacksRoom}
 
 not_true : (b : Bool) → b ≡ true → not b ≡ true → ⊥
 not_true true p q = cc
@@ -58,3 +58,14 @@ lacks_room a bytes not_both = elim (cases_lt (length bytes) (room_of a)) [
   | inl less ↦ inl less
   | inr from ↦ elim (cases_lt 0 a.half) [ inl some ↦ absurd (not_both (from, some)) | inr none ↦ inr (omega arith) ]
 ]
+
+-- bytes with a label and room for its parts are a journal's
+pub is_journal : (a : Areas) (bytes : List ℕ) → a.half < 2 ^ 64 → a.image < 2 ^ 64 → HasLabel a bytes → room_of a ≤ length bytes → 1 ≤ a.half
+    → AreNoJournal bytes → ⊥
+is_journal a bytes half image label room some (inl none) = none a half image label
+is_journal a bytes half image label room some (inr (b, labelled, lacks)) =
+    let is : b ≡ a = one_label b a bytes labelled.half labelled.image half image labelled.label label in
+    elim (subst (λ (x : Areas). LacksRoom x bytes) is lacks) [
+      | inl less ↦ absurd (omega (arith, less, room))
+      | inr none ↦ absurd (omega (arith, none, some))
+    ]

@@ -166,6 +166,16 @@ later_stamp first second a b top is one two late = elim (cases_lt a b) [
   | inr from ↦ (a, omega (arith, is, late, from), inl one)
 ]
 
+-- it is the stamp of one of them
+pub latest_held : (first second : List ℕ) (a b top : ℕ) → top ≡ max a b → HasStamp a first → HasStamp b second
+    → HasStamp top first ⊎ HasStamp top second
+latest_held first second a b top is one two = elim (cases_lt a b) [
+  | inl less ↦
+      let e : b ≡ top = omega (arith, is, less) in inr (subst (λ (n : ℕ). HasStamp n second) e two)
+  | inr from ↦
+      let e : a ≡ top = omega (arith, is, from) in inl (subst (λ (n : ℕ). HasStamp n first) e one)
+]
+
 -- a half's stamp, where it was found in what was read of it
 pub stamp_held : {half out : List ℕ} {latest : ℕ} → out ≡ half → (512 ≤ length out → HasStamp latest out) → 512 ≤ length half → HasStamp latest half
 stamp_held {latest = latest} is found long = subst (HasStamp latest) is (found (subst (λ (xs : List ℕ). 512 ≤ length xs) (sym is) long))
@@ -174,6 +184,12 @@ stamp_held {latest = latest} is found long = subst (HasStamp latest) is (found (
 pub stamps_up : {half out : List ℕ} {latest : ℕ} (top : ℕ) → out ≡ half → latest ≤ top → StampsUpTo latest out → StampsUpTo top half
 stamps_up {latest = latest} top is le up = λ i fits.
     let low = subst (StampsUpTo latest) is up i fits in omega (arith, low, le)
+
+-- a stamp of what was read is one of the device
+pub stamp_read : {a : Areas} {halves : Halves} {image bytes : List ℕ} {stamp : ℕ} → AreRead a halves image bytes
+    → HasStamp stamp halves.first.items ⊎ HasStamp stamp halves.second.items → (second : Bool) × HasStamp stamp (half_of a second bytes)
+stamp_read {stamp = stamp} read (inl has) = (false, subst (HasStamp stamp) read.first has)
+stamp_read {stamp = stamp} read (inr has) = (true, subst (HasStamp stamp) read.second has)
 
 -- what was read there
 pub read_as : {out bytes bytes' : List ℕ} {at n at' n' : ℕ} → out ≡ part at n bytes → at ≡ at' → n ≡ n' → bytes ≡ bytes' → out ≡ part at' n' bytes'

@@ -28,6 +28,14 @@ pub record IsOpened (opened : Opened) (d : Device) : Type 0 where
   pub home : IsAllHome opened.areas opened.second opened.stamp d
   pub image : shown opened.areas d.now.bytes ≡ opened.image.items
 
+-- the stamp is two later than the latest one of all sectors in either half
+pub record IsAfterAll (a : Areas) (bytes : List ℕ) (stamp : ℕ) : Type 0 where
+  pub top : ℕ
+  pub latest : AllUpTo a top bytes
+  pub second : Bool
+  pub has : HasStamp top (half_of a second bytes)
+  pub later : stamp ≡ top + 2
+
 -- the newest batch of a device of these bytes
 abbrev pub newest_batch : Areas → List ℕ → Option Batch
 newest_batch a bytes = batch_in (half_of a (newest_half a bytes) bytes)

@@ -7,8 +7,8 @@ use Rattle.journal_batches.specs.declared.areas.Areas.{Areas}
 use Rattle.journal_batches.specs.Areas.{half_of, room_of}
 use Rattle.journal_batches.specs.Coded.{HasStamp}
 use Rattle.disk_journal.specs.declared.error.JournalError.{JournalError}
-use Rattle.disk_journal.specs.declared.error.JournalError.TheVariants.{Fault}
-use Rattle.disk_journal.specs.Labels.{HasLabel}
+use Rattle.disk_journal.specs.declared.error.JournalError.TheVariants.{Fault, NoJournal, NoMemory, TooSmall, Worn}
+use Rattle.disk_journal.specs.Labels.{HasLabel, HasNoLabel, IsLabelled}
 use Rattle.disk_journal.specs.Stands.{StandsStill}
 use Rattle.atomic_sectors.specs.Left.{LeavesWhole}
 
@@ -39,6 +39,18 @@ IsRefused result why = IsErrAnd result (λ back. back.1 ≡ why)
 -- a refusal other than a fault leaves the device as it was
 abbrev pub IsUntouched : JournalError → (old new : Device) → Type 0
 IsUntouched why old new = why ≢ Fault → new ≡ old
+
+-- bytes on which no journal is opened: they have no label, or no room for its parts
+abbrev pub AreNoJournal : List ℕ → Type 0
+AreNoJournal bytes = HasNoLabel bytes ⊎ ((a : Areas) × IsLabelled a bytes × LacksRoom a bytes)
+
+-- why a making refuses a device of these bytes
+abbrev pub RefusesToMake : Areas → List ℕ → JournalError → Type 0
+RefusesToMake a bytes NoJournal = ⊥
+RefusesToMake a bytes TooSmall = LacksRoom a bytes
+RefusesToMake a bytes Worn = ⊥
+RefusesToMake a bytes Fault = Unit {0}
+RefusesToMake a bytes NoMemory = Unit {0}
 
 -- an opening that ends stands for the same image at each moment, whatever label the device has
 abbrev pub StandsThrough : (old new : Device) → Type 0

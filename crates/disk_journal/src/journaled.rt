@@ -9,8 +9,8 @@ ghost use Rattle.journal_batches.specs.Areas.{image_bytes, room_of};
 ghost use Rattle.journal_batches.specs.Shown.{shown};
 ghost use Rattle.disk_journal.specs.Disks.{FitsBatch, IsSettled, IsSpent, SameBelow, ShowsDisk, ShowsOldOrNew};
 ghost use Rattle.disk_journal.specs.Labels.{HasLabel, HasNoLabel};
-ghost use Rattle.disk_journal.specs.Opened.{IsOpened, TellsWhy, WritesAgain, WritesAgainFirst};
-ghost use Rattle.disk_journal.specs.Refusals.{IsRefused, IsUntouched, LacksRoom, RefusesRead, RefusesWrite, StandsThrough};
+ghost use Rattle.disk_journal.specs.Opened.{IsAfterAll, IsOpened, TellsWhy, WritesAgain, WritesAgainFirst};
+ghost use Rattle.disk_journal.specs.Refusals.{AreNoJournal, IsRefused, IsUntouched, LacksRoom, RefusesRead, RefusesToMake, RefusesWrite, StandsThrough};
 ghost use Rattle.disk_journal.specs.Stands.{IsMadeOrNone, StandsStill};
 ghost use Rattle.disk_journal.specs.declared.error.JournalError.TheVariants.{Fault as JournalFault, NoJournal, TooSmall};
 
@@ -34,7 +34,7 @@ const LAST_STAMP: u64 = u64::MAX - 3;
 ///
 /// Its bytes are in memory. A sync makes one flush, if the words written since the last one fit into a batch; else three, and then a crash may leave any of them.
 ///
-/// A `Fault` of a write is want of memory, and one of a sync a fault of the device, or the end of the numbers of batches after 2^62 syncs or more. After one of
+/// A `Fault` of a write is want of memory, and one of a sync a fault of the device, or the end of the numbers of batches after 2^62 - 2 syncs or more. After one of
 /// the device the disk writes no more: each later write and sync is a `Fault`, until the device is opened again.
 #[derive(Drop)]
 pub struct Journaled<D: UntornDisk + Drop> {
@@ -84,6 +84,8 @@ impl<D: UntornDisk + Drop> Journaled<D> {
         ensures settled { IfOk result IsSettled }
         ensures works { IfOk result (λ opened. opened.is_over ≡ false) }
         ensures stamp { IfOk result (λ opened. opened.stamp < 2 ^ 63 + 2) }
+        // Its stamp is two later than the latest one of all sectors in either half.
+        ensures after { IfOk result (λ opened. IsAfterAll opened.areas (D.device disk).now.bytes opened.stamp) }
         // A crash at any moment of an opening leaves what stands for the same image.
         ensures left { IfOk result (λ opened. StandsThrough (D.device disk) opened.disk) }
         // So does a crash at any moment of one that is refused.
@@ -94,12 +96,16 @@ impl<D: UntornDisk + Drop> Journaled<D> {
         ensures first { IfErr result (λ back. WritesAgainFirst (D.device disk) (D.device back.0)) }
         // An opening makes three flushes.
         ensures three_syncs { IfOk result (λ opened. MakesSyncs 3 (D.device disk) opened.disk) }
+        // No call of an opening that succeeds has failed.
+        ensures steady { IfOk result (λ opened. opened.disk.failures ≡ (D.device disk).failures) }
         // A refusal says why.
         ensures why { IfErr result (λ back. TellsWhy back.1 (D.device disk).now.bytes) }
         // A device without a label isn't opened.
         ensures unlabelled { HasNoLabel (D.device disk).now.bytes → IsRefused result NoJournal ⊎ IsRefused result JournalFault }
         // A refusal other than a fault leaves the device as it was.
         ensures untouched { IfErr result (λ back. IsUntouched back.1 (D.device disk) (D.device back.0)) }
+        // A device that is no journal stays as it was, whatever fails.
+        ensures others { IfErr result (λ back. AreNoJournal (D.device disk).now.bytes → SameMoments (D.device disk) (D.device back.0)) }
         ensures cause { IfErr result (λ back. back.1 ≡ JournalFault → HasFailedSince (D.device disk) (D.device back.0)) }
     {
         match open_journal(alloc, &mut disk) {
@@ -126,10 +132,16 @@ impl<D: UntornDisk + Drop> Journaled<D> {
         ensures settled { IfOk result IsSettled }
         ensures works { IfOk result (λ made. made.is_over ≡ false) }
         ensures stamp { IfOk result (λ made. made.stamp ≡ 2) }
-        // A making that is cut off leaves no label, or the disk of zeros, whatever label the device had.
+        // A making that begins with nothing pending and is cut off leaves no label, or the disk of zeros, whatever label the device had.
         ensures left { IfOk result (λ made. (D.device disk).now.pending ≡ [] → LeavesWhole (D.device disk) made.disk (IsMadeOrNone areas)) }
         ensures refused { IfErr result (λ back. (D.device disk).now.pending ≡ [] → LeavesWhole (D.device disk) (D.device back.0) (IsMadeOrNone areas)) }
+        // A making makes four flushes.
+        ensures four_syncs { IfOk result (λ made. MakesSyncs 4 (D.device disk) made.disk) }
+        // No call of a making that succeeds has failed.
+        ensures steady { IfOk result (λ made. made.disk.failures ≡ (D.device disk).failures) }
         ensures too_small { IsRefused result TooSmall ↔ LacksRoom areas (D.device disk).now.bytes }
+        // A making is refused for want of room or of memory, or for a fault.
+        ensures why { IfErr result (λ back. RefusesToMake areas (D.device disk).now.bytes back.1) }
         // A refusal other than a fault leaves the device as it was.
         ensures untouched { IfErr result (λ back. IsUntouched back.1 (D.device disk) (D.device back.0)) }
         // A making changes no byte behind the disk's.

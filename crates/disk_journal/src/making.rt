@@ -2,7 +2,7 @@
 ghost use Rattle.std.specs.Prelude.{◌≡◌, ◌⊎◌, ◌+◌, ◌*◌, ◌<◌, ◌≤◌, ℕ, [], false, drop, length, replicate, slice_index, OnErr, OnOk};
 ghost use Rattle.block_disk.specs.Bytes.{spliced};
 ghost use Rattle.block_disk.specs.Since.{HasFailedSince};
-ghost use Rattle.atomic_sectors.specs.Left.{LeavesWhole};
+ghost use Rattle.atomic_sectors.specs.Left.{LeavesWhole, MakesSyncs};
 ghost use Rattle.journal_batches.specs.Areas.{image_bytes, room_of};
 ghost use Rattle.journal_batches.specs.Shown.{shown};
 ghost use Rattle.disk_journal.specs.Labels.{HasLabel};
@@ -22,7 +22,9 @@ pub(crate) fn make_journal<D: UntornDisk>(disk: &mut D, areas: Areas) -> Result<
     ensures label { OnOk result (HasLabel areas (D.device disk.new).now.bytes) }
     ensures image { OnOk result (shown areas (D.device disk.new).now.bytes ≡ replicate (image_bytes areas) 0) }
     ensures home { OnOk result (IsAllHome areas false 2 (D.device disk.new)) }
-    // A making that is cut off leaves no label, or the disk.
+    ensures syncs { OnOk result (MakesSyncs 4 (D.device disk.old) (D.device disk.new)) }
+    ensures steady { OnOk result ((D.device disk.new).failures ≡ (D.device disk.old).failures) }
+    // A making that begins with nothing pending and is cut off leaves no label, or the disk.
     ensures left { (D.device disk.old).now.pending ≡ [] → LeavesWhole (D.device disk.old) (D.device disk.new) (IsMadeOrNone areas) }
     // A making changes no byte behind the disk's.
     ensures beyond { drop (room_of areas) (D.device disk.new).now.bytes ≡ drop (room_of areas) (D.device disk.old).now.bytes }
@@ -39,6 +41,7 @@ fn write_head<D: UntornDisk>(disk: &mut D, sector: &[u8; 512]) -> Result<(), Fau
     ensures ok { OnOk result ((D.device disk.new).now.bytes ≡ spliced (D.device disk.old).now.bytes 0 sector.now) }
     ensures durable { OnOk result ((D.device disk.new).now.pending ≡ []) }
     ensures head { ChangesHead sector.now (D.device disk.old) (D.device disk.new) }
+    ensures syncs { OnOk result (MakesSyncs 1 (D.device disk.old) (D.device disk.new)) }
     ensures steady { OnOk result ((D.device disk.new).failures ≡ (D.device disk.old).failures) }
     ensures cause { OnErr result (HasFailedSince (D.device disk.old) (D.device disk.new)) }
 {
@@ -53,6 +56,7 @@ fn lay<D: UntornDisk>(disk: &mut D, areas: Areas) -> Result<(), Fault>
     ensures ok { OnOk result (IsLaid areas (D.device disk.new).now.bytes) }
     ensures durable { OnOk result ((D.device disk.new).now.pending ≡ []) }
     ensures area { ChangesArea areas (D.device disk.old) (D.device disk.new) }
+    ensures syncs { OnOk result (MakesSyncs 2 (D.device disk.old) (D.device disk.new)) }
     ensures steady { OnOk result ((D.device disk.new).failures ≡ (D.device disk.old).failures) }
     ensures cause { OnErr result (HasFailedSince (D.device disk.old) (D.device disk.new)) }
 {
@@ -67,6 +71,7 @@ fn fill<D: UntornDisk>(disk: &mut D, areas: Areas) -> Result<(), Fault>
     requires room { room_of areas ≤ length (D.device disk.old).now.bytes }
     ensures ok { OnOk result ((i : ℕ) → 4096 ≤ i → i < room_of areas → slice_index (D.device disk.new).now.bytes i ≡ 0) }
     ensures area { ChangesArea areas (D.device disk.old) (D.device disk.new) }
+    ensures syncs { OnOk result (MakesSyncs 0 (D.device disk.old) (D.device disk.new)) }
     ensures steady { OnOk result ((D.device disk.new).failures ≡ (D.device disk.old).failures) }
     ensures cause { OnErr result (HasFailedSince (D.device disk.old) (D.device disk.new)) }
 {

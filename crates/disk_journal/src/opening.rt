@@ -11,8 +11,8 @@ ghost use Rattle.journal_batches.specs.Entries.{AreOf, DifferWithin};
 ghost use Rattle.journal_batches.specs.Shown.{is_second_newest, shown, under, under_both};
 ghost use Rattle.disk_journal.specs.Kept.{AreWithin, Touches};
 ghost use Rattle.disk_journal.specs.Labels.{HasLabel, HasNoLabel};
-ghost use Rattle.disk_journal.specs.Opened.{AreRead, HasNoWords, IsChosen, IsOpened, IsPlanned, IsUnchosen, LiesInBatch, LiesWithin, TellsWhy, WritesAgain, WritesAgainFirst, batch_bytes, batch_of_found};
-ghost use Rattle.disk_journal.specs.Refusals.{IsUntouched, StandsThrough};
+ghost use Rattle.disk_journal.specs.Opened.{AreRead, HasNoWords, IsAfterAll, IsChosen, IsOpened, IsPlanned, IsUnchosen, LiesInBatch, LiesWithin, TellsWhy, WritesAgain, WritesAgainFirst, batch_bytes, batch_of_found};
+ghost use Rattle.disk_journal.specs.Refusals.{AreNoJournal, IsUntouched, StandsThrough};
 ghost use Rattle.disk_journal.specs.Stands.{IsAllHome, StandsStill};
 ghost use Rattle.disk_journal.specs.Steps.{AreWordPlaces};
 ghost use Rattle.disk_journal.specs.declared.error.JournalError.TheVariants.{Fault, NoJournal, NoMemory, TooSmall, Worn};
@@ -78,8 +78,10 @@ pub(crate) fn open_journal<D: UntornDisk>(
     ensures home { IfOk result (λ opened. IsOpened opened (D.device disk.new)) }
     ensures again { IfOk result (λ opened. WritesAgain opened.areas (D.device disk.old) (D.device disk.new)) }
     ensures stamp { IfOk result (λ opened. opened.stamp < 2 ^ 63 + 2) }
+    ensures after { IfOk result (λ opened. IsAfterAll opened.areas (D.device disk.old).now.bytes opened.stamp) }
     ensures first { WritesAgainFirst (D.device disk.old) (D.device disk.new) }
     ensures syncs { OnOk result (MakesSyncs 3 (D.device disk.old) (D.device disk.new)) }
+    ensures steady { OnOk result ((D.device disk.new).failures ≡ (D.device disk.old).failures) }
     // An opening's device stands for the same image at each moment, however the opening ends.
     ensures left { StandsThrough (D.device disk.old) (D.device disk.new) }
     // A refusal says why.
@@ -87,6 +89,8 @@ pub(crate) fn open_journal<D: UntornDisk>(
     // A device without a label isn't opened.
     ensures unlabelled { HasNoLabel (D.device disk.old).now.bytes → IsErrOf result NoJournal ⊎ IsErrOf result Fault }
     ensures untouched { IfErr result (λ why. IsUntouched why (D.device disk.old) (D.device disk.new)) }
+    // What is no journal stays as it was, whatever fails.
+    ensures others { AreNoJournal (D.device disk.old).now.bytes → SameMoments (D.device disk.old) (D.device disk.new) }
     ensures cause { IsErrOf result Fault → HasFailedSince (D.device disk.old) (D.device disk.new) }
 {
     let areas = find_areas(disk)?;
@@ -138,8 +142,10 @@ fn open_areas<D: UntornDisk>(
     ensures home { IfOk result (λ opened. IsOpened opened (D.device disk.new)) }
     ensures again { IfOk result (λ opened. WritesAgain opened.areas (D.device disk.old) (D.device disk.new)) }
     ensures stamp { IfOk result (λ opened. opened.stamp < 2 ^ 63 + 2) }
+    ensures after { IfOk result (λ opened. IsAfterAll opened.areas (D.device disk.old).now.bytes opened.stamp) }
     ensures first { MakesSyncs 0 (D.device disk.old) (D.device disk.new) ⊎ WritesAgain areas (D.device disk.old) (D.device disk.new) }
     ensures syncs { OnOk result (MakesSyncs 3 (D.device disk.old) (D.device disk.new)) }
+    ensures steady { OnOk result ((D.device disk.new).failures ≡ (D.device disk.old).failures) }
     ensures left { LeavesWhole (D.device disk.old) (D.device disk.new) (StandsStill areas (D.device disk.old).now.bytes) }
     ensures why { IfErr result (λ why. TellsWhy why (D.device disk.old).now.bytes) }
     ensures untouched { IfErr result (λ why. IsUntouched why (D.device disk.old) (D.device disk.new)) }
@@ -230,6 +236,8 @@ fn choose(alloc: Global, halves: &Halves, image: &mut Vec<u8>) -> Result<Choice,
     requires second { length halves.now.second.items ≡ length halves.now.first.items }
     requires image { length image.old.items ≡ length image.old.items / 8 * 8 }
     ensures ok { IfOk result (λ choice. IsChosen halves.now image.old.items image.new.items choice) }
+    // The latest stamp is one of theirs.
+    ensures one { IfOk result (λ choice. HasStamp choice.top halves.now.first.items ⊎ HasStamp choice.top halves.now.second.items) }
     ensures err { IfErr result (λ why. IsUnchosen why halves.now) }
 {
     let top = latest_stamp(&halves.first).max(latest_stamp(&halves.second));
@@ -415,6 +423,7 @@ fn bring<D: UntornDisk>(
     ensures again { OnOk result (WritesAgain areas (D.device disk.old) (D.device disk.new)) }
     ensures first { MakesSyncs 0 (D.device disk.old) (D.device disk.new) ⊎ WritesAgain areas (D.device disk.old) (D.device disk.new) }
     ensures syncs { OnOk result (MakesSyncs 3 (D.device disk.old) (D.device disk.new)) }
+    ensures steady { OnOk result ((D.device disk.new).failures ≡ (D.device disk.old).failures) }
     ensures left { LeavesWhole (D.device disk.old) (D.device disk.new) (StandsStill areas (D.device disk.old).now.bytes) }
     ensures image { OnOk result (shown areas (D.device disk.new).now.bytes ≡ shown areas (D.device disk.old).now.bytes) }
     ensures home { OnOk result (IsAllHome areas (not choice.now.second) (choice.now.top + 2) (D.device disk.new)) }

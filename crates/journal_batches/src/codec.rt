@@ -184,7 +184,7 @@ fn number_at(bytes: &[u8], at: usize) -> u64
     ])
 }
 
-/// The latest stamp of a half's sectors; 0 if it has none.
+/// The latest stamp of a half's sectors.
 pub fn latest_stamp(half: &[u8]) -> u64
     // No sector of a half has a stamp after its latest one.
     ensures most { StampsUpTo result half.now }

@@ -2,6 +2,7 @@ use Rattle.std.proofs.Common.{◌≡◌, ◌∙◌, ◌<◌, ◌≤◌, ℕ, [],
 use Rattle.std.proofs.lemmas.Result.{on_ok_weaker}
 use Rattle.block_disk.specs.Device.{Device}
 use Rattle.block_disk.proofs.Ranges.{outside_refl}
+use Rattle.atomic_sectors.proofs.Calculus.{syncs_is, syncs_synced, syncs_then}
 use Rattle.journal_batches.specs.Areas.{room_of}
 use Rattle.journal_batches.specs.Spelled.{spelled}
 use Rattle.disk_journal.specs.Made.{IsLaid}
@@ -31,3 +32,8 @@ returns-clause-ok g c =
     on_ok_weaker c.flush-2.result
     (λ ok. subst (IsLaid c.args.areas) (sym (ap (λ (d : Device). d.now.bytes) ok ∙ c.in_ok-write_batch.ensures.ok)) laid)
     c.flush-2.ensures.ok
+
+pub returns-clause-syncs : goal.returns-clause-syncs
+returns-clause-syncs g c =
+    let one = syncs_is (syncs_synced c.in_ok-fill.ensures.syncs) c.in_ok-flush.ensures.ok in
+    on_ok_weaker c.flush-2.result (λ ok. syncs_is (syncs_synced (syncs_then one c.write_batch.ensures.syncs)) ok) c.flush-2.ensures.ok

@@ -1,6 +1,6 @@
 use Rattle.std.proofs.Common.{◌∙◌, ap, replicate, arith}
 use Rattle.std.proofs.lemmas.Result.{on_ok_weaker}
-use Rattle.atomic_sectors.proofs.Calculus.{leaves_then}
+use Rattle.atomic_sectors.proofs.Calculus.{leaves_then, syncs_then}
 use Rattle.journal_batches.specs.Areas.{room_of}
 use Rattle.journal_batches.specs.Shown.{shown}
 use Rattle.disk_journal.proofs.MakingLemmas.{area_beyond, begin_leaves, begin_size, head_beyond, lay_leaves, made_home, made_leaves, made_shown, on_ok_two, sector_long}
@@ -49,3 +49,12 @@ returns-clause-beyond g c =
     head_beyond c.sector_of.result (room_of c.args.areas) (omega (arith, sector_long c.args.areas c.sector_of.result c.sector_of.ensures))
     c.write_head-2.ensures.head
     ∙ area_beyond c.args.areas c.lay.ensures.area ∙ head_beyond (replicate 512 0) (room_of c.args.areas) (omega arith) c.write_head.ensures.head
+
+pub returns-clause-syncs : goal.returns-clause-syncs
+returns-clause-syncs g c =
+    on_ok_weaker c.write_head-2.result (λ one. syncs_then (syncs_then c.in_ok-write_head.ensures.syncs c.in_ok-lay.ensures.syncs) one)
+    c.write_head-2.ensures.syncs
+
+pub returns-clause-steady : goal.returns-clause-steady
+returns-clause-steady g c =
+    on_ok_weaker c.write_head-2.result (λ is. is ∙ c.in_ok-lay.ensures.steady ∙ c.in_ok-write_head.ensures.steady) c.write_head-2.ensures.steady

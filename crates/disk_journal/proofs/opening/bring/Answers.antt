@@ -89,3 +89,8 @@ pub returns-clause-syncs : goal.returns-clause-syncs
 returns-clause-syncs g c =
     let one = syncs_is (syncs_synced c.write_trusted.ensures.syncs) c.in_ok-flush.ensures.ok in
     on_ok_weaker c.clear.result (λ two. syncs_then one two) c.clear.ensures.two_syncs
+
+pub returns-clause-steady : goal.returns-clause-steady
+returns-clause-steady g c =
+    on_ok_weaker c.clear.result
+    (λ is. is ∙ ap (λ (d : Device). d.failures) c.in_ok-flush.ensures.ok ∙ c.in_ok-write_trusted.ensures.steady) c.clear.ensures.steady

@@ -2,7 +2,7 @@ use Rattle.std.proofs.Common.{◌≤◌, ◌∙◌, inr, sym, ap, subst, List, �
 use Rattle.journal_batches.specs.Entries.{AreOf, DifferWithin}
 use Rattle.journal_batches.specs.Shown.{is_second_newest, under_both}
 use Rattle.disk_journal.specs.Opened.{HasNoWords, batch_bytes, batch_of_found}
-use Rattle.disk_journal.proofs.OpeningLemmas.{found_held, held_fits, later_stamp, length_under, stamp_held, stamps_up}
+use Rattle.disk_journal.proofs.OpeningLemmas.{found_held, held_fits, later_stamp, latest_held, length_under, stamp_held, stamps_up}
 use Rattle.disk_journal.proofs.opening.choose.Goals as goal
 
 pub returns-then-top-ge-WORN-clause-err : goal.returns-then-top-ge-WORN-clause-err
@@ -45,3 +45,12 @@ returns-clause-ok c =
       rest = subst (λ (xs : List ℕ). DifferWithin c.in-Ok-words_of.entries.items c.args.image.now.items xs) c.deref-3.ensures.value
           (c.in-Ok-words_of.ensures.all c.args.image.now.items (c.deref-3.ensures.value ∙ c.replay_both.ensures));
     }
+
+pub returns-clause-one : goal.returns-clause-one
+returns-clause-one c =
+    let n = c.requires.first in
+    let long : 512 ≤ length c.args.halves.now.first.items = omega (arith, n.1, n.2) in
+    let long' : 512 ≤ length c.args.halves.now.second.items = omega (arith, long, c.requires.second) in
+    latest_held c.args.halves.now.first.items c.args.halves.now.second.items c.latest_stamp.result c.latest_stamp-2.result c.max-top.result
+    c.max-top.ensures
+    (stamp_held c.deref.ensures.value c.latest_stamp.ensures.one long) (stamp_held c.deref-2.ensures.value c.latest_stamp-2.ensures.one long')

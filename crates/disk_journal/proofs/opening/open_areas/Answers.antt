@@ -1,10 +1,10 @@
-use Rattle.std.proofs.Common.{◌⊎◌, inl, ◌∙◌, sym, ap, subst, arith}
+use Rattle.std.proofs.Common.{◌⊎◌, inl, ◌∙◌, refl, sym, ap, subst, arith}
 use Rattle.block_disk.specs.Device.{Device}
 use Rattle.atomic_sectors.specs.Left.{MakesSyncs}
 use Rattle.atomic_sectors.proofs.Calculus.{syncs_begin, syncs_same}
 use Rattle.journal_batches.specs.Shown.{shown}
 use Rattle.disk_journal.specs.Opened.{IsPlanned, WritesAgain}
-use Rattle.disk_journal.proofs.OpeningLemmas.{chosen_here, half_read, unchosen_tells}
+use Rattle.disk_journal.proofs.OpeningLemmas.{chosen_here, half_read, stamp_read, unchosen_tells}
 use Rattle.disk_journal.proofs.opening.open_areas.Goals as goal
 
 pub choose-requires-clause-first : goal.choose-requires-clause-first
@@ -63,3 +63,12 @@ returns-clause-again g c =
 pub returns-clause-syncs : goal.returns-clause-syncs
 returns-clause-syncs g c =
     subst (λ (d : Device). MakesSyncs 3 d (g.D.Disk.device c.bring.new.disk)) c.in-Ok-read_parts.ensures.untouched c.in-Ok-bring.ensures.syncs
+
+pub returns-clause-steady : goal.returns-clause-steady
+returns-clause-steady g c = c.in-Ok-bring.ensures.steady ∙ ap (λ (d : Device). d.failures) c.in-Ok-read_parts.ensures.untouched
+
+pub returns-clause-after : goal.returns-clause-after
+returns-clause-after g c =
+    let here = chosen_here c.in-Ok-read_parts.ensures.ok c.in-Ok-choose.ensures.ok c.requires.room in
+    let one = stamp_read c.in-Ok-read_parts.ensures.ok c.in-Ok-choose.ensures.one in
+    record { top = c.in-Ok-choose.choice.top; latest = here.0.stamps; second = one.0; has = one.1; later = refl }

@@ -4,10 +4,10 @@ use Rattle.block_disk.specs.Device.{Device}
 use Rattle.atomic_sectors.specs.Left.{LeavesWhole, MakesSyncs}
 use Rattle.atomic_sectors.proofs.Calculus.{leaves_same, syncs_begin, syncs_same}
 use Rattle.journal_batches.specs.declared.areas.Areas.{Areas}
-use Rattle.disk_journal.specs.Opened.{WritesAgain}
+use Rattle.disk_journal.specs.Opened.{IsAfterAll, WritesAgain}
 use Rattle.disk_journal.specs.Refusals.{IsUntouched}
 use Rattle.disk_journal.specs.Stands.{StandsStill}
-use Rattle.disk_journal.proofs.LabelLemmas.{one_label}
+use Rattle.disk_journal.proofs.LabelLemmas.{is_journal, one_label}
 use Rattle.disk_journal.proofs.opening.open_journal.Goals as goal
 
 pub returns-in_err-areas-clause-left : goal.returns-in_err-areas-clause-left
@@ -56,3 +56,24 @@ pub returns-clause-syncs : goal.returns-clause-syncs
 returns-clause-syncs g c =
     subst (λ (d : Device). OnOk c.open_areas.result (MakesSyncs 3 d (g.D.Disk.device c.open_areas.new.disk)))
     c.in_ok-areas.ensures.ok c.open_areas.ensures.syncs
+
+pub returns-clause-steady : goal.returns-clause-steady
+returns-clause-steady g c =
+    subst (λ (d : Device). OnOk c.open_areas.result ((g.D.Disk.device c.open_areas.new.disk).failures ≡ d.failures))
+    c.in_ok-areas.ensures.ok c.open_areas.ensures.steady
+
+pub returns-clause-after : goal.returns-clause-after
+returns-clause-after g c =
+    subst (λ (d : Device). IfOk c.open_areas.result (λ opened. IsAfterAll opened.areas d.now.bytes opened.stamp))
+    c.in_ok-areas.ensures.ok c.open_areas.ensures.after
+
+-- ---- what is no journal ----
+
+pub returns-in_err-areas-clause-others : goal.returns-in_err-areas-clause-others
+returns-in_err-areas-clause-others g c = λ none. c.find_areas.ensures.same
+
+pub returns-clause-others : goal.returns-clause-others
+returns-clause-others g c = λ none.
+    let found = c.in_ok-areas.ensures in
+    absurd (is_journal c.in_ok-areas.areas (g.D.Disk.device c.args.disk.now).now.bytes (omega (arith, found.room, c.find_areas.ensures.size))
+    (omega (arith, found.room, c.find_areas.ensures.size)) found.label found.room found.half none)
