@@ -1,5 +1,5 @@
 -- What orders and syncs answer.
-use Rattle.std.proofs.Common.{◌≡◌, ◌⊎◌, inl, inr, ℕ, suc, ◌+◌, ◌-◌, ◌^◌, ◌<◌, ◌≤◌, List, [], ◌∷◌, length, min, Ok, Err, refl, sym, ◌∙◌, ap, subst}
+use Rattle.std.proofs.Common.{◌≡◌, ◌⊎◌, inl, inr, ℕ, suc, ◌+◌, ◌-◌, ◌^◌, ◌<◌, ◌≤◌, List, [], ◌∷◌, length, min, Ok, Err, refl, sym, ◌∙◌, ap, subst, arith}
 use Rattle.block_disk.specs.Device.{Device, LeftSince}
 use Rattle.block_disk.specs.Memory.{Stop, Synced}
 use Rattle.block_disk.specs.Traced.{Traced, and_synced}
@@ -17,7 +17,7 @@ use Rattle.host_journal.specs.Hosted.{IsOldOrNew, StandsFor}
 use Rattle.host_journal.specs.Gathered.{FitsAll, IsHosted, view_of}
 use Rattle.host_journal.specs.Taken.{Gathers, Turns}
 use Rattle.host_journal.specs.declared.gathering.Gathering.{Gathering}
-use Rattle.host_journal.proofs.Hosting.{all_fit, durable_now, hosted_kept, idle_both, idle_now, image_now, leaves_both, leaves_on, one_batch}
+use Rattle.host_journal.proofs.Hosting.{all_fit, durable_now, hosted_kept, idle_both, idle_now, idle_turns, image_now, leaves_both, leaves_on, one_batch}
 use Rattle.host_journal.proofs.Turning.{reads_now, stands_for}
 
 -- An order that fails.
@@ -31,6 +31,7 @@ order_failed old new t marks calls why hosted g = record {
   no_call = λ fits. (g.below fits).disk;
   waits = g.same_words;
   words = g.words;
+  turns = g.same_turns;
   base = refl;
   areas = g.areas;
   calls = refl;
@@ -47,6 +48,7 @@ order_made old new t next marks later calls hosted g none is same = record {
   no_call = λ fits. (g.below fits).disk;
   waits = g.same_words;
   words = g.words;
+  turns = g.same_turns;
   base = ap length same;
   areas = g.areas;
   calls = refl;
@@ -93,15 +95,18 @@ sync_untaken old new t marks calls why hosted g = record {
   one_flush = λ fits some. tt;
   no_flush = λ none. (g.idle (idle_now old hosted.gathers.counted none)).disk;
   words = tt;
+  words_err = g.words;
   turns = λ fits some. tt;
+  turns_none = λ none. g.idle_turns (idle_now old hosted.gathers.counted none);
+  turns_err = g.same_turns;
   areas = g.areas;
   calls = refl;
 }
 
 -- A sync whose turn fails.
 pub sync_failed : (old mid new : Gathering) (t : Traced) (marks : List Stop) (calls : Host) (why : Fault) → IsHosted old t marks → Gathers old mid
-    → mid.group.items ≡ [] → Turns mid new → HasSynced (view_of old t marks calls) (view_of new t marks calls) (Err why)
-sync_failed old mid new t marks calls why hosted g none turns =
+    → mid.group.items ≡ [] → Turns mid new → new.turns ≡ mid.turns → HasSynced (view_of old t marks calls) (view_of new t marks calls) (Err why)
+sync_failed old mid new t marks calls why hosted g none turns same =
     let kept = hosted_kept old mid t marks g.keeps hosted in
     record {
       ok = tt;
@@ -115,7 +120,10 @@ sync_failed old mid new t marks calls why hosted g none turns =
       one_flush = λ fits some. tt;
       no_flush = idle_both old mid new hosted.gathers.counted kept.gathers.counted g.words g.idle turns.idle;
       words = tt;
+      words_err = omega (arith, turns.words, g.words);
       turns = λ fits some. tt;
+      turns_none = λ none. same ∙ g.idle_turns (idle_now old hosted.gathers.counted none);
+      turns_err = λ fits. same ∙ g.same_turns fits;
       areas = turns.areas ∙ g.areas;
       calls = refl;
     }
@@ -145,7 +153,10 @@ sync_made old mid new t next marks later calls hosted g none turns none_new take
           subst (λ (d : Device). MakesSyncs 1 d new.disk.disk) (g.below fits).disk (one (batch fits some).0 (batch fits some).1);
       no_flush = idle_both old mid new hosted.gathers.counted kept.gathers.counted g.words g.idle turns.idle;
       words = words;
+      words_err = tt;
       turns = λ fits some. counted (batch fits some).0 (batch fits some).2 ∙ ap (λ n. min (n + 1) (2 ^ 64 - 1)) (g.same_turns fits);
+      turns_none = λ none. idle_turns old mid new hosted.gathers.counted kept.gathers.counted g.words g.idle_turns turns.idle none;
+      turns_err = λ fits. tt;
       areas = turns.areas ∙ g.areas;
       calls = refl;
     }

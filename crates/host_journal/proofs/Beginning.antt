@@ -2,23 +2,22 @@
 use Rattle.std.proofs.Common.{◌≡◌, inl, inr, ⊎_elim, ℕ, zero, suc, ◌≤◌, List, [], ◌∷◌, length, take, replicate, refl, sym, ◌∙◌, ap, subst, arith}
 use Rattle.block_disk.specs.Device.{Device, Moment, new_device}
 use Rattle.block_disk.specs.Memory.{fresh}
-use Rattle.atomic_sectors.specs.Left.{LeavesWhole, MixedIn, MixedSince}
+use Rattle.atomic_sectors.specs.Left.{LeavesWhole, MakesSyncs, MixedIn, MixedSince}
 use Rattle.atomic_sectors.proofs.Calculus.{mix_one}
 use Rattle.journal_batches.specs.declared.areas.Areas.{Areas}
 use Rattle.journal_batches.specs.Areas.{image_bytes, room_of}
 use Rattle.journal_batches.specs.Shown.{shown}
 use Rattle.disk_deferred.specs.Deferred.{Deferred, deferred_device}
+use Rattle.disk_journal.specs.declared.error.JournalError.{JournalError}
+use Rattle.disk_journal.specs.declared.error.JournalError.TheVariants.{Fault, NoJournal, NoMemory, TooSmall, Worn}
 use Rattle.disk_journal.specs.Disks.{Layered}
 use Rattle.disk_journal.specs.Labels.{HasLabel, HasNoLabel}
-use Rattle.disk_journal.specs.Refusals.{StandsThrough}
+use Rattle.disk_journal.specs.Opened.{WritesAgain}
+use Rattle.disk_journal.specs.Refusals.{RefusesToMake, StandsThrough}
 use Rattle.disk_journal.specs.Stands.{IsMadeOrNone, StandsStill}
-use Rattle.host_journal.specs.Calls.{IsMade, IsOpened}
-use Rattle.host_journal.specs.Hosted.{EverWhole, Hosted, IsNew}
+use Rattle.host_journal.specs.Calls.{IsMade, IsOpened, RefusesMaking}
+use Rattle.host_journal.specs.Hosted.{EverWhole, Hosted, IsFresh, IsNew}
 use Rattle.host_journal.proofs.Turning.{label_kept, reads_now}
-
--- a device of these bytes, which nothing was asked of
-abbrev pub IsFresh : List ℕ → Device → Type 0
-IsFresh bytes d = (d.now ≡ record { bytes = bytes; pending = [] }) × (d.past ≡ [])
 
 pub fresh_disk : (d : Deferred) (bytes : List ℕ) → d.memory ≡ fresh bytes → IsFresh bytes (deferred_device d)
 fresh_disk d bytes is = (
@@ -73,8 +72,9 @@ zeros_unlabelled n a half image is =
 -- what an opening gives
 pub opened_is : (h : Hosted) (o : Layered) (d : Deferred) (bytes : List ℕ) → d.memory ≡ fresh bytes → h.heap ≡ o.device → h.disk ≡ o.disk → h.areas ≡ o.areas → IsNew h
     → o.device ≡ new_device (shown o.areas (deferred_device d).now.bytes) → HasLabel o.areas (deferred_device d).now.bytes
-    → room_of o.areas ≤ length (deferred_device d).now.bytes → StandsThrough (deferred_device d) o.disk → IsOpened bytes h
-opened_is h o d bytes memory heap disk areas new device label room through =
+    → room_of o.areas ≤ length (deferred_device d).now.bytes → StandsThrough (deferred_device d) o.disk → WritesAgain o.areas (deferred_device d) o.disk
+    → MakesSyncs 3 (deferred_device d) o.disk → IsOpened bytes h
+opened_is h o d bytes memory heap disk areas new device label room through again syncs =
     let is = fresh_disk d bytes memory in
     let same : (deferred_device d).now.bytes ≡ bytes = λ i. (is.0 i).bytes in
     record {
@@ -84,6 +84,12 @@ opened_is h o d bytes memory heap disk areas new device label room through =
       left =
           subst (λ (a : Areas). EverWhole h.disk (StandsStill a bytes)) (sym areas)
           (subst (λ (e : Device). EverWhole e (StandsStill o.areas bytes)) (sym disk) (ever_still o.areas (deferred_device d) o.disk bytes is label room through));
+      begun = deferred_device d;
+      fresh = is;
+      again =
+          subst (λ (a : Areas). WritesAgain a (deferred_device d) h.disk) (sym areas)
+          (subst (λ (e : Device). WritesAgain o.areas (deferred_device d) e) (sym disk) again);
+      three_syncs = subst (λ (e : Device). MakesSyncs 3 (deferred_device d) e) (sym disk) syncs;
     }
 
 -- what a making gives
@@ -100,3 +106,12 @@ made_is h o d a size memory heap disk areas new device same leaves =
           subst (λ (e : Device). EverWhole e (IsMadeOrNone a)) (sym disk)
           (ever_whole (deferred_device d) o.disk (replicate size 0) (IsMadeOrNone a) is (leaves (λ i. (is.0 i).pending)) (inl (zeros_unlabelled size)));
     }
+
+-- why none is made, where the device has room for its parts
+pub refuses_making : (a : Areas) (bytes : List ℕ) (why : JournalError) → room_of a ≤ length bytes → RefusesToMake a bytes why → RefusesMaking a why
+refuses_making a bytes NoJournal room refused = refused
+refuses_making a bytes TooSmall room (inl less) = absurd (omega (arith, less, room))
+refuses_making a bytes TooSmall room (inr none) = none
+refuses_making a bytes Worn room refused = refused
+refuses_making a bytes Fault room refused = tt
+refuses_making a bytes NoMemory room refused = tt

@@ -248,6 +248,11 @@ pub idle_both : (old mid new : Gathering) → IsCounted old → IsCounted mid �
 idle_both old mid new is then fewer first second none =
     let same = second (idle_now mid then (omega (arith, fewer, none))) in (λ i. (same i).disk.disk) ∙ (first (idle_now old is none)).disk
 
+pub idle_turns : (old mid new : Gathering) → IsCounted old → IsCounted mid → mid.words ≤ old.words → (old.taken ≡ 0 → mid.turns ≡ old.turns)
+    → (mid.taken ≡ 0 → new ≡ mid) → old.words ≡ 0 → new.turns ≡ old.turns
+idle_turns old mid new is then fewer first second none =
+    let same = second (idle_now mid then (omega (arith, fewer, none))) in (λ i. (same i).turns) ∙ first (idle_now old is none)
+
 -- All that was written has become durable.
 pub none_kept : (mid new : Gathering) → IsCounted mid → mid.group.items ≡ [] → new.words + mid.taken ≡ mid.words → new.words ≡ 0
 none_kept mid new is none words =

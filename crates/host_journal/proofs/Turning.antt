@@ -280,6 +280,7 @@ gathers_none g = record {
   same_words = λ fits. refl;
   same_turns = λ fits. refl;
   idle = λ none. below_none g.disk;
+  idle_turns = λ none. refl;
 }
 
 -- A turn, where not all that was written fits into one batch.
@@ -293,6 +294,7 @@ gathers_turn old new many t = record {
   same_words = λ fits. absurd (many fits);
   same_turns = λ fits. absurd (many fits);
   idle = λ none. subst (λ (g : Gathering). SameBelow old.disk g.disk) (sym (t.idle none)) (below_none old.disk);
+  idle_turns = λ none. (λ i. (t.idle none i).turns);
 }
 
 -- And then the journal takes what was written, or a part of it.
@@ -310,4 +312,5 @@ gathers_then old mid new g keeps below words turns =
       same_words = λ fits. words ∙ g.same_words fits;
       same_turns = λ fits. turns ∙ g.same_turns fits;
       idle = λ none. below_then old.disk mid.disk new.disk (g.idle none) below;
+      idle_turns = λ none. turns ∙ g.idle_turns none;
     }

@@ -1,7 +1,7 @@
 -- What a heap's calls make of its device over a journal, and what they answer (this project's own).
 use Rattle.std.specs.Prelude.{◌≡◌, ◌+◌, ◌-◌, ◌/◌, ◌^◌, ◌<◌, ◌≤◌, ℕ, List, length, min, replicate, IsErrOf, OnErr, OnOk, Result}
 use Rattle.block_disk.specs.Bytes.{part}
-use Rattle.block_disk.specs.Device.{LeftSince, new_device, synced, written}
+use Rattle.block_disk.specs.Device.{Device, LeftSince, new_device, synced, written}
 use Rattle.block_disk.specs.declared.error.DiskError.{DiskError}
 use Rattle.block_disk.specs.declared.error.DiskError.TheVariants.{Fault, OutOfRange}
 use Rattle.block_disk.specs.declared.error.Fault.{Fault as Failed}
@@ -10,11 +10,11 @@ use Rattle.journal_batches.specs.declared.areas.Areas.{Areas}
 use Rattle.journal_batches.specs.Areas.{image_bytes}
 use Rattle.journal_batches.specs.Shown.{shown}
 use Rattle.disk_journal.specs.declared.error.JournalError.{JournalError}
-use Rattle.disk_journal.specs.declared.error.JournalError.TheVariants.{TooSmall}
+use Rattle.disk_journal.specs.declared.error.JournalError.TheVariants.{Fault as JournalFault, NoJournal, NoMemory, TooSmall, Worn}
 use Rattle.disk_journal.specs.Labels.{HasLabel}
-use Rattle.disk_journal.specs.Opened.{TellsWhy}
+use Rattle.disk_journal.specs.Opened.{TellsWhy, WritesAgain}
 use Rattle.disk_journal.specs.Stands.{IsMadeOrNone, StandsStill}
-use Rattle.host_journal.specs.Hosted.{EverWhole, FitsTurn, Hosted, IsNew, IsOldOrNew, StandsFor}
+use Rattle.host_journal.specs.Hosted.{EverWhole, FitsTurn, Hosted, IsFresh, IsNew, IsOldOrNew, StandsFor}
 
 -- the journal of a device of these bytes
 pub record IsOpened (bytes : List ℕ) (h : Hosted) : Type 0 where
@@ -24,6 +24,13 @@ pub record IsOpened (bytes : List ℕ) (h : Hosted) : Type 0 where
   pub label : HasLabel h.areas bytes
   -- A crash at any moment of an opening leaves what stands for the same image.
   pub left : EverWhole h.disk (StandsStill h.areas bytes)
+  -- The device below had these bytes, before all calls.
+  pub begun : Device
+  pub fresh : IsFresh bytes begun
+  -- Before its first flush an opening has written again what it trusts.
+  pub again : WritesAgain h.areas begun h.disk
+  -- An opening makes three flushes.
+  pub three_syncs : MakesSyncs 3 begun h.disk
 
 -- a refusal says why
 abbrev pub RefusesOpening : (bytes : List ℕ) → JournalError → Type 0
@@ -38,9 +45,13 @@ pub record IsMade (a : Areas) (h : Hosted) : Type 0 where
   -- A making that is cut off leaves no label, or a journal of zeros.
   pub left : EverWhole h.disk (IsMadeOrNone a)
 
--- too small is only a journal whose halves have no page
+-- why none is made: its halves have no page, or a want of memory, or a fault
 abbrev pub RefusesMaking : Areas → JournalError → Type 0
-RefusesMaking a why = why ≡ TooSmall → a.half ≡ 0
+RefusesMaking a NoJournal = ⊥
+RefusesMaking a TooSmall = a.half ≡ 0
+RefusesMaking a Worn = ⊥
+RefusesMaking a JournalFault = Unit {0}
+RefusesMaking a NoMemory = Unit {0}
 
 -- a read of the image: what was to take the bytes, before and after
 pub record HasRead (at : ℕ) (out filled : List ℕ) (h : Hosted) (answer : Result (Unit {0}) DiskError) : Type 0 where
@@ -72,6 +83,7 @@ pub record HasOrdered (old new : Hosted) (answer : Result (Unit {0}) Failed) : T
   pub no_call : FitsTurn old → new.disk ≡ old.disk
   pub waits : FitsTurn old → new.words ≡ old.words
   pub words : new.words ≤ old.words
+  pub turns : FitsTurn old → new.turns ≡ old.turns
   pub base : new.base ≡ old.base
   pub areas : new.areas ≡ old.areas
   pub calls : new.calls ≡ old.calls
@@ -93,6 +105,10 @@ pub record HasSynced (old new : Hosted) (answer : Result (Unit {0}) Failed) : Ty
   pub one_flush : FitsTurn old → 0 < old.words → OnOk answer (MakesSyncs 1 old.disk new.disk)
   pub no_flush : old.words ≡ 0 → new.disk ≡ old.disk
   pub words : OnOk answer (new.words ≡ 0)
+  pub words_err : OnErr answer (new.words ≤ old.words)
   pub turns : FitsTurn old → 0 < old.words → OnOk answer (new.turns ≡ min (old.turns + 1) (2 ^ 64 - 1))
+  -- A sync of no words, and one that fails of words that fit into a batch, counts no turn.
+  pub turns_none : old.words ≡ 0 → new.turns ≡ old.turns
+  pub turns_err : FitsTurn old → OnErr answer (new.turns ≡ old.turns)
   pub areas : new.areas ≡ old.areas
   pub calls : new.calls ≡ old.calls

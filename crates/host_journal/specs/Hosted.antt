@@ -27,6 +27,10 @@ pub record StandsFor (a : Areas) (P : List ℕ → Type 0) (left : List ℕ) : T
   pub label : HasLabel a left
   pub image : P (shown a left)
 
+-- a device of these bytes, durably, which nothing was asked of yet
+abbrev pub IsFresh : List ℕ → Device → Type 0
+IsFresh bytes d = (d.now ≡ record { bytes = bytes; pending = [] }) × (d.past ≡ [])
+
 -- each image that a crash at any moment of the device might have left has P
 abbrev pub EverWhole : Device → (List ℕ → Type 0) → Type 0
 EverWhole d P = (image : List ℕ) → MixedSince 0 d image → P image

@@ -62,6 +62,7 @@ pub record Gathers (old new : Gathering) : Type 0 where
   pub same_words : FitsAll old → new.words ≡ old.words
   pub same_turns : FitsAll old → new.turns ≡ old.turns
   pub idle : old.taken ≡ 0 → SameBelow old.disk new.disk
+  pub idle_turns : old.taken ≡ 0 → new.turns ≡ old.turns
 
 -- it has made a turn of what it has taken, or has failed to
 pub record Turns (old new : Gathering) : Type 0 where

@@ -133,6 +133,7 @@ pub(crate) fn turn(parts: &mut Gathering) -> bool
     ensures counted { IsCounted parts.new }
     ensures taken { result ≡ true → parts.new.taken ≡ 0 }
     ensures words { result ≡ true → parts.new.words + parts.old.taken ≡ parts.old.words }
+    ensures turns_err { result ≡ false → parts.new.turns ≡ parts.old.turns }
     // A turn whose words fit into a batch makes one flush.
     ensures one_sync { result ≡ true → 0 < parts.old.taken → FitsBatch parts.old.disk → MakesSyncs 1 parts.old.disk.disk parts.new.disk.disk }
     ensures count { result ≡ true → 0 < parts.old.taken → pages_for parts.old.taken ≤ parts.old.disk.areas.half

@@ -7,7 +7,7 @@ use Rattle.zelamiku.proofs.journal_exports.zelamiku_journal_create.Goals as goal
 pub returns-in_default : goal.returns-in_default
 returns-in_default c =
     let none = nothing_still c.args.place.now.handle.state c.is_taken.new.place.handle.state c.is_taken.ensures.still c.if-is_taken.ensures.told in
-    rw none (NoJournalMade NoMemory (λ is. absurd cc) (c.in_default.ensures.err ∙ c.is_taken.ensures.still ∙ none) refl)
+    rw none (NoJournalMade NoMemory tt (c.in_default.ensures.err ∙ c.is_taken.ensures.still ∙ none) refl)
 
 pub returns-in-Ok-put_new : goal.returns-in-Ok-put_new
 returns-in-Ok-put_new c =

@@ -17,7 +17,8 @@ pub returns-in-Ok-open-clause-ok : goal.returns-in-Ok-open-clause-ok
 returns-in-Ok-open-clause-ok c =
     let e = c.in-Ok-open.ensures in
     let h = c.holding.ensures in
-    opened_is c.holding.result c.in-Ok-open.disk c.in-Ok.both.0 c.args.bytes.now c.in-Ok.ensures.disk h.heap h.disk h.areas h.new e.ok e.label e.room e.left
+    opened_is c.holding.result c.in-Ok-open.disk c.in-Ok.both.0 c.args.bytes.now c.in-Ok.ensures.disk h.heap h.disk h.areas h.new e.ok e.label e.room e.left e.again
+    e.three_syncs
 
 pub returns-in-Ok-open-clause-unlabelled : goal.returns-in-Ok-open-clause-unlabelled
 returns-in-Ok-open-clause-unlabelled c =

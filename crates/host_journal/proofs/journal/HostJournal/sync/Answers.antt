@@ -49,7 +49,7 @@ returns-then-not-turn c =
     let t = c.turn.new.parts in
     subst (λ (v : Hosted). HasSynced v (view_of t h.trace.past h.marks.past.stops h.calls) (Err (record {}))) c.self.view_is
     (sync_failed h.parts g t h.trace.past h.marks.past.stops h.calls (record {}) c.self.invariant c.gather.ensures.gathers (c.if-not-gather.ensures.none refl).0
-    c.turn.ensures.turns)
+    c.turn.ensures.turns (c.if-not-turn.ensures.turns_err refl))
 
 pub returns : goal.returns
 returns c =
