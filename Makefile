@@ -23,7 +23,7 @@ export PYTHONDONTWRITEBYTECODE := 1
 export CARGO_TARGET_DIR ?= $(OUT)/target
 
 # Each test of C with the flags by which the gate tries it.
-TESTS := altered.plain file.plain pool.plain refused_calls.plain stale.plain threads.plain wrong_calls.asan \
+TESTS := altered.plain file.plain lives.plain pool.plain refused_calls.plain stale.plain threads.plain wrong_calls.asan \
     revert.asan revert.tsan event.asan event.tsan places.asan places.tsan device.asan device.tsan journal.asan
 THREADED := threads.tsan revert.tsan event.tsan places.tsan device.tsan
 FLAGS.plain := -O2

@@ -336,6 +336,24 @@ class Refused(Faults):
             wrong = [self.tried(case, "damage", "fdatasync", at, "", before) for at in range(1, 11)]
             self.assertIn("recover gives None", wrong, (image, damage.sector))
 
+    def test_pages_behind_a_journal_are_written_once(self):
+        """Between two syncs, each by one call: else a page cache may leave a sector mixed (docs/FORMAT.md, "A journal in two halves")."""
+        for name, case in CASES.items():
+            if not name.endswith("-journaled"):
+                continue
+            self.put(self.image_of(case.image))
+            self.assertEqual(self.traced(case, "-s", WRITTEN).status, 0)
+            pages, count = {}, 0
+            for path, at, piece in written(self.log):
+                if piece is None:
+                    pages[path] = set()
+                elif os.path.basename(path).startswith("image"):
+                    touched = set(range(at // PAGE, -(-(at + len(piece)) // PAGE)))
+                    self.assertEqual(touched & pages.setdefault(path, set()), set(), (name, path, at, len(piece)))
+                    pages[path] |= touched
+                    count += len(touched)
+            self.assertGreater(count, 0, name)
+
     def test_an_image_that_is_removed_is_a_fault(self):
         self.put(None)
         allowed = {name for name, case in CASES.items() if case.allows and self.fault_of_left(case, Ran(1, "", "")) is None}

@@ -5,7 +5,14 @@
 #define _GNU_SOURCE
 #define ZELAMIKU_HALF 2 /* pages: a batch has 496 words */
 #define ZELAMIKU_BLOCKS "blocks"
+#include <unistd.h>
+static ssize_t write_pages(int file, const void *bytes, size_t size, off_t at);
+static int sync_pages(int file);
+#define pwrite write_pages
+#define fdatasync sync_pages
 #include "../zelamiku_threads.c"
+#undef pwrite
+#undef fdatasync
 #include "memory.h"
 #include "must.h"
 
@@ -273,11 +280,32 @@ static void refusals(void) {
     free_disk(of);
 }
 
+enum { MOST_FILES = 64 };
+static bool is_lone; /* the file has a journal: each of its pages is written whole, by one call between two syncs */
+static uint8_t pages_of_files[MOST_FILES][SIZE / PAGE];
+static unsigned lone;
+
+static ssize_t write_pages(int file, const void *bytes, size_t size, off_t at) {
+    for (off_t page = at / PAGE; is_lone && page <= (at + (off_t)size - 1) / PAGE; page++) {
+        MUST(file < MOST_FILES && page < SIZE / PAGE && at % PAGE == 0 && pages_of_files[file][page]++ == 0);
+        lone++;
+    }
+    return pwrite(file, bytes, size, at);
+}
+
+static int sync_pages(int file) {
+    if (file >= 0 && file < MOST_FILES) memset(pages_of_files[file], 0, sizeof pages_of_files[file]);
+    return fdatasync(file);
+}
+
 /* A round on this file finds so many, and takes one sync or two. A copy of a file with a journal is one without. */
 static void file_takes(const char *path, uint32_t journaled, uint64_t found, bool is_one) {
     use its = {.status = ZELAMIKU_OK};
     uint64_t value = 0;
     plan.atomic_sectors = journaled;
+    memset(pages_of_files, 0, sizeof pages_of_files);
+    lone = 0;
+    is_lone = is_one;
     OK(zelamiku_heap_open(&its.heap, path, &plan, NULL));
     OK(zelamiku_thread_begin(&its.own, its.heap));
     MUST(section(&its, &value, 1, 0, 0) && value == found + 1);
@@ -286,6 +314,8 @@ static void file_takes(const char *path, uint32_t journaled, uint64_t found, boo
     MUST(now.rounds == 1 && now.one_sync_rounds == is_one && now.two_sync_rounds == !is_one && now.syncs == 2 - (uint64_t)is_one);
     if (is_one) OK(zelamiku_heap_copy(its.heap, "copy"));
     OK(zelamiku_heap_close(its.heap));
+    MUST((lone > 0) == is_one);
+    is_lone = false;
 }
 
 static void count_warnings(void *of, uint32_t level, const char *text) {
