@@ -4,3 +4,4 @@ mod Front
 mod Left
 mod Kept
 mod Steps
+mod Opened
