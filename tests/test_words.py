@@ -326,6 +326,20 @@ class Journal(Labelled, Played):
     # Label, two halves of 133 pages, and 32 pages of the image.
     ASKED, NAME, ROOM = "--atomic-sectors", b"MONIHALF", 299 * 4096
 
+    def test_what_is_refused_leaves_every_byte(self):
+        self.make()
+        # There is a batch that no word has brought to its place.
+        self.changes("set f0=5 --image {image}", f"{REPORT}{DONE}")
+        theirs = "--schema {folder}/theirs --image {image}"
+        (self.folder / "theirs").write_text("object a\nfield b a a 7\n")
+        self.fails("run --image {image}", WRONG, "line 2: syntax", None, "t1 enter o0\nfrob\n")
+        self.fails("run --strict --image {image}", FAULT, "line 1: refused", "prints 'refused not held'", "t1 exit o1\n")
+        self.fails(f"run {theirs}", FAULT, "other schema", "theirs", "t1 enter a\n")
+        self.fails("set none=1 --image {image}", WRONG, "unknown", "no field 'none'")
+        self.fails("set f0 --image {image}", WRONG, "syntax", "it isn't NAME=VALUE")
+        self.fails(f"set b=1 {theirs}", FAULT, "other schema", "theirs")
+        self.tells("get f0 --image {image}", "f0=5\n")
+
 
 class Kept(Played):
     """An image that `format` replaces is kept beside the new one, at image~."""

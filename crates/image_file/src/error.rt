@@ -10,7 +10,8 @@ use recover::RecoverError;
 use script_declarations::{SchemaFault, SchemaFaultKind};
 use thiserror::Error;
 
-/// Why an image file isn't had. Each leaves every byte that it had.
+/// Why an image file isn't had. Each leaves every byte that it had; but a `Fault` of an opening to write may come after a journal's newest
+/// batch was written to its place, which leaves the image.
 #[derive(Clone, Copy, Debug, PartialEq, Eq, Error)]
 pub enum FileFault {
     /// A call of the file system has failed.

@@ -12,9 +12,8 @@ use crate::images::Images;
 use crate::reading::read_there;
 use crate::trouble::{Place, Trouble};
 use crate::watched::Watched;
-use block_disk::Disk;
 use disk_file::{BackingFile, Claim};
-use disk_sector_file::{FileLabel, ImageDisk, ImageKind, label_of};
+use disk_sector_file::{FileLabel, ImageDisk, ImageKind, label_of, whole_image};
 use std::alloc::Global;
 use std::fs::{Metadata, OpenFile, OpenOptions};
 use std::io::{ErrorKind, Read};
@@ -112,9 +111,14 @@ where
     }
 
     fn read(&mut self, alloc: Global, path: &str) -> Result<Vec<u8>, FileFault> {
-        match self.open(alloc, path) {
-            Ok(disk) => whole(alloc, disk),
-            Err(fault) => Err(fault),
+        let file = match image_there(self.rt, alloc, path, &self.taken, self.trouble) {
+            Ok(file) => file,
+            Err(fault) => return Err(fault),
+        };
+        // Nothing is written: what is made of these bytes goes into a new file.
+        match whole_image(alloc, file) {
+            Ok(image) => Ok(image),
+            Err(error) => Err(FileFault::from(error)),
         }
     }
 
@@ -127,13 +131,9 @@ where
         alloc: Global,
         path: &str,
     ) -> Result<ImageDisk<Watched<'a, Beginning<F>>>, FileFault> {
-        let file = match file_there(self.rt, alloc, path, &self.taken, self.trouble) {
+        let file = match image_there(self.rt, alloc, path, &self.taken, self.trouble) {
             Ok(file) => file,
             Err(fault) => return Err(fault),
-        };
-        let file = match beginning_of(file) {
-            Ok(file) => Watched::new(file, Place::Image, self.trouble),
-            Err(error) => return Err(noted(Place::Image, &error, self.trouble)),
         };
         let places = gates();
         match ImageDisk::found(alloc, file, &places) {
@@ -298,6 +298,28 @@ fn size_at<R: Files>(rt: &R, path: &str, trouble: &Trouble) -> Result<u64, FileF
     }
 }
 
+// The bytes of the file at the path that are the image's. The file is claimed.
+fn image_there<'a, F, R>(
+    rt: &R,
+    alloc: Global,
+    path: &str,
+    taken: &Option<Taken<F>>,
+    trouble: &'a Trouble,
+) -> Result<Watched<'a, Beginning<F>>, FileFault>
+where
+    F: BackingFile + OpenFile + Drop,
+    R: Files<File = F>,
+{
+    let file = match file_there(rt, alloc, path, taken, trouble) {
+        Ok(file) => file,
+        Err(fault) => return Err(fault),
+    };
+    match beginning_of(file) {
+        Ok(file) => Ok(Watched::new(file, Place::Image, trouble)),
+        Err(error) => Err(noted(Place::Image, &error, trouble)),
+    }
+}
+
 // The file at the path, claimed: one that was claimed for a new image is used again.
 fn file_there<F, R>(
     rt: &R,
@@ -327,20 +349,6 @@ where
     match again {
         Ok(file) => Ok(file),
         Err(error) => Err(noted(Place::Image, &error, trouble)),
-    }
-}
-
-// All bytes of a disk.
-fn whole<D: Disk + Drop>(alloc: Global, mut disk: D) -> Result<Vec<u8>, FileFault> {
-    let Ok(mut image) = vec![in alloc; 0u8; disk.size() as usize] else {
-        drop(disk);
-        return Err(FileFault::NoMemory);
-    };
-    let read = disk.read_at(0, &mut image);
-    drop(disk);
-    match read {
-        Ok(()) => Ok(image),
-        Err(_) => Err(FileFault::Fault),
     }
 }
 
