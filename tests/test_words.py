@@ -313,8 +313,13 @@ class Labelled:
         self.make()
         os.truncate(self.image, self.ROOM - 1)
         for text in ("recover", "upgrade", "show", "show --dot", "dump", "get f0", "set f0=1", "run", "drive"):
-            self.fails(f"{text} --image {{image}}", FAULT, "not formatted", "doesn't begin as an image")
-        self.fails("format --image {image} --schema {schema}", FAULT, "not an image", "image")
+            self.fails(f"{text} --image {{image}}", FAULT, "not formatted", "fewer bytes than its label says: it was cut short; restore it from a copy")
+        self.fails("format --image {image} --schema {schema}", FAULT, "not an image", "it was cut short; restore it from a copy, or name another file")
+        # The 24 bytes of a label tell that the others are missing.
+        os.truncate(self.image, 24)
+        self.fails("show --image {image}", FAULT, "not formatted", "it was cut short")
+        os.truncate(self.image, 23)
+        self.fails("show --image {image}", FAULT, "not formatted", "it doesn't begin as an image")
 
 
 class TwoPlaces(Labelled, Played):

@@ -6,7 +6,7 @@ use crate::fault::WorkFault;
 use crate::head::{Head, read_head, tell_slots};
 use crate::holder::holder_of;
 use crate::refused::{
-    tell_refused_image, tell_refused_line, tell_refused_schema, tell_stopped_script,
+    is_cut_short, tell_refused_image, tell_refused_line, tell_refused_schema, tell_stopped_script,
 };
 use crate::system_errors::{Path, is_wrong_path, tell, tell_cause};
 use crate::values::{tell_other_heap, tell_transient, tell_unknown, tell_wrong_word};
@@ -256,8 +256,18 @@ fn explain_call<R: Files + Eprint>(rt: &R, words: &Words<'_>, trouble: &Trouble)
 }
 
 // What is at the path is no image and no empty file.
-fn tell_not_image<R: Files + Eprint>(rt: &R, image: &str) {
-    if !is_wrong_path(rt, image) {
+fn tell_not_image<F, R>(rt: &R, image: &str)
+where
+    F: BackingFile + Read + Drop,
+    R: Files<File = F> + Eprint,
+{
+    if is_cut_short(rt, image) {
+        tell(
+            rt,
+            image,
+            "it has fewer bytes than its label says: it was cut short; restore it from a copy, or name another file",
+        );
+    } else if !is_wrong_path(rt, image) {
         tell(
             rt,
             image,

@@ -2,6 +2,8 @@
 
 use crate::forms::{DECLARATIONS, LINES, text_of_line};
 use crate::system_errors::{Path, is_wrong_path, tell, tell_cause};
+use disk_file::BackingFile;
+use disk_sector_file::{has_label, label_of};
 use image_file::Trouble;
 use recover::RecoverError;
 use script_declarations::{SchemaFault, SchemaFaultKind};
@@ -9,14 +11,62 @@ use script_images::{Refusal, refusal_text};
 use script_lines::{ScriptError, ScriptErrorKind};
 use std::fs;
 use std::io::Read;
+use std::os::unix::fs::FileTypeExt;
 use std::rt::Files;
 
+// How many bytes a label has (docs/FORMAT.md).
+const LABEL_BYTES: usize = 24;
+
 /// Tells why an image is refused, and what mends it.
-pub(crate) fn tell_refused_image<R: Files + Eprint>(rt: &R, image: &str, why: &RecoverError) {
-    if *why == RecoverError::NotFormatted && is_wrong_path(rt, image) {
-        return;
+pub(crate) fn tell_refused_image<F, R>(rt: &R, image: &str, why: &RecoverError)
+where
+    F: BackingFile + Read + Drop,
+    R: Files<File = F> + Eprint,
+{
+    if *why == RecoverError::NotFormatted {
+        if is_cut_short(rt, image) {
+            tell(
+                rt,
+                image,
+                "it has fewer bytes than its label says: it was cut short; restore it from a copy",
+            );
+            return;
+        }
+        if is_wrong_path(rt, image) {
+            return;
+        }
     }
     tell(rt, image, refused_text(why));
+}
+
+/// Whether the file or the block device at this path begins with an image's label, and has fewer bytes than that counts.
+pub(crate) fn is_cut_short<F, R>(rt: &R, image: &str) -> bool
+where
+    F: BackingFile + Read + Drop,
+    R: Files<File = F>,
+{
+    // To open a pipe may take for ever.
+    match rt.metadata(image) {
+        Ok(metadata) if metadata.is_file() || metadata.file_type().is_block_device() => {}
+        _ => return false,
+    }
+    let Ok(mut file) = fs::open(rt, image) else {
+        return false;
+    };
+    let is_short = lacks_bytes(&mut file);
+    drop(file);
+    is_short
+}
+
+fn lacks_bytes<F: BackingFile>(file: &mut F) -> bool {
+    let mut head = [0; LABEL_BYTES];
+    if file.read_from(0, &mut head).is_err() || !has_label(&head) {
+        return false;
+    }
+    match label_of(file) {
+        Ok(label) => label.is_none(),
+        Err(_) => false,
+    }
 }
 
 fn refused_text(why: &RecoverError) -> &'static str {
