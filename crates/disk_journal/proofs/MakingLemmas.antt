@@ -1,8 +1,9 @@
 -- The making of a journaled device: what is no label, what a crash mixes of a first sector, and what a device that was laid out stands for.
 use Rattle.std.specs.Prelude.{if◌then◌else◌, Any, None, Ok, Err, OnOk, Some}
-use Rattle.std.proofs.Common.{◌≡◌, ◌⊎◌, inl, inr, ⊎_elim, ℕ, zero, suc, ◌+◌, ◌-◌, ◌*◌, ◌<◌, ◌≤◌, Bool, false, true, List, [], ◌∷◌, All, Result, length, get_or, take, drop, replicate, refl, sym, ◌∙◌, ap, subst, arith}
+use Rattle.std.proofs.Common.{◌≡◌, ◌⊎◌, inl, inr, ⊎_elim, ℕ, zero, suc, ◌+◌, ◌-◌, ◌*◌, ◌/◌, ◌%◌, ◌<◌, ◌≤◌, Bool, false, true, List, [], ◌∷◌, All, Result, length, get_or, take, drop, replicate, refl, sym, ◌∙◌, ap, subst, arith}
 use Rattle.std.proofs.lemmas.Bool.{cases_lt}
 use Rattle.std.proofs.lemmas.List.{ext_get_or, get_or-drop, get_or-replicate, get_or-take, get_or_past, length-replicate}
+use Rattle.std.proofs.lemmas.Nat.{div-add-mod', mod_below}
 use Rattle.block_disk.specs.Bytes.{part, spliced}
 use Rattle.block_disk.specs.Device.{Device, SameOutside, range_of}
 use Rattle.block_disk.proofs.Bytes.{get_or_part, length_part, length_spliced, spliced_at, spliced_below}
@@ -21,7 +22,7 @@ use Rattle.journal_batches.proofs.MixLemmas.{half_with_half, home_with_half, len
 use Rattle.journal_batches.proofs.TurnLemmas.{rests}
 use Rattle.disk_journal.specs.Labels.{HasLabel, HasNoLabel, label_sector}
 use Rattle.disk_journal.specs.Made.{ChangesArea, ChangesHead, IsLaid}
-use Rattle.disk_journal.specs.Stands.{IsAllHome, IsMadeOrNone}
+use Rattle.disk_journal.specs.Stands.{IsAllHome, IsMadeWithin}
 use Rattle.disk_journal.specs.Steps.{HasInHalf, StaysBetween}
 use Rattle.disk_journal.proofs.SettlingLemmas.{area, keeps_between, keeps_half, reads_half, reads_last, stands}
 
@@ -43,14 +44,17 @@ none_at_zero bytes begins a half image same =
 any_of : {X : Type 0} (P Q : X → Type 0) (xs : List X) → All P xs → Any Q xs → (x : X) × P x × Q x
 any_of P Q xs all (k, x, within, is, q) = (x, subst P is (all k x within), q)
 
-first_byte : (xs : List ℕ) → get_or (sector 0 xs) 0 0 ≡ get_or xs 0 0
-first_byte xs = get_or_part 0 512 xs 0 (omega arith)
-
--- contents that begin with a zero mix to one that does
-mixes_zero : IsMixable (λ image. get_or image 0 0 ≡ 0)
-mixes_zero contents image all mix =
-    let one = any_of (λ (c : List ℕ). get_or c 0 0 ≡ 0) (λ (c : List ℕ). sector 0 image ≡ sector 0 c) contents all (mix.each 0) in
-    sym (first_byte image) ∙ ap (λ (xs : List ℕ). get_or xs 0 0) one.2 ∙ first_byte one.0 ∙ one.1
+-- contents with the same sector have the same byte at each place of it
+sector_at : (xs ys : List ℕ) (i : ℕ) → sector (i / 512) xs ≡ sector (i / 512) ys → get_or xs i 0 ≡ get_or ys i 0
+sector_at xs ys i same =
+    let k = i % 512 in
+    let low : k < 512 = mod_below i 512 (omega arith) in
+    let is : i / 512 * 512 + k ≡ i = div-add-mod' i 512 in
+    ap (λ (n : ℕ). get_or xs n 0) (sym is)
+    ∙ sym (get_or_part (i / 512 * 512) 512 xs k low)
+    ∙ ap (λ (zs : List ℕ). get_or zs k 0) same
+    ∙ get_or_part (i / 512 * 512) 512 ys k low
+    ∙ ap (λ (n : ℕ). get_or ys n 0) is
 
 each_from : (P : ℕ → Type 0) → P 0 → ((i : ℕ) → P (suc i)) → (i : ℕ) → P i
 each_from P first later zero = first
@@ -114,12 +118,25 @@ head_beyond {old = old} y n low head =
 
 -- ---- the halves and the image's place ----
 
+-- contents that are as before elsewhere mix to one that is
+mixes_rest : (a : Areas) (before : List ℕ) → IsMixable (λ image. SameOutside (area a ∷ []) before image)
+mixes_rest a before contents image all mix =
+    let P : List ℕ → Type 0 = λ (c : List ℕ). SameOutside (area a ∷ []) before c in
+    let sized = any_of P (λ (c : List ℕ). length image ≡ length c) contents all mix.size in record {
+      size = sized.2 ∙ sized.1.size;
+      same = λ i clear.
+          let from = any_of P (λ (c : List ℕ). sector (i / 512) image ≡ sector (i / 512) c) contents all (mix.each (i / 512)) in
+          sector_at image from.0 i from.2 ∙ from.1.same i clear;
+    }
+
 -- while they are written a device that begins with a zero has no label
-area_leaves : {old new : Device} (a : Areas) → old.now.pending ≡ [] → get_or old.now.bytes 0 0 ≡ 0 → ChangesArea a old new
-    → LeavesWhole old new (IsMadeOrNone a)
-area_leaves a none begins changes =
-    leaves_weaker (λ image p. inl (none_at_zero image p))
-    (whole mixes_zero none begins (reads_weaker (λ bytes same. same.same 0 (inl (omega arith), tt) ∙ begins) changes))
+area_leaves : {old new : Device} (a : Areas) (before : List ℕ) → old.now.pending ≡ [] → get_or old.now.bytes 0 0 ≡ 0
+    → drop (room_of a) old.now.bytes ≡ drop (room_of a) before → ChangesArea a old new → LeavesWhole old new (IsMadeWithin a before)
+area_leaves {old = old} a before none begins behind changes =
+    leaves_weaker
+    (λ image same.
+    ((stands {P = λ image. Unit {0}} a old.now.bytes image same tt).beyond ∙ behind, inl (none_at_zero image (same.same 0 (inl (omega arith), tt) ∙ begins))))
+    (whole (mixes_rest a old.now.bytes) none (outside_refl (area a ∷ []) old.now.bytes) changes)
 
 pub area_now : {old new : Device} (a : Areas) → ChangesArea a old new → SameOutside (area a ∷ []) old.now.bytes new.now.bytes
 area_now {old = old} a changes = reads_last changes (outside_refl (area a ∷ []) old.now.bytes)
@@ -288,10 +305,12 @@ begin_zero old new room ok = ap (λ (xs : List ℕ). get_or xs 0 0) ok ∙ zero_
 
 module _ {old new : Device} (a : Areas) (room : room_of a ≤ length old.now.bytes) where
   -- a crash leaves the device as it was, or with no label
-  pub begin_leaves : old.now.pending ≡ [] → ChangesHead (replicate 512 0) old new → LeavesWhole old new (IsMadeOrNone a)
+  pub begin_leaves : old.now.pending ≡ [] → ChangesHead (replicate 512 0) old new → LeavesWhole old new (IsMadeWithin a old.now.bytes)
   begin_leaves none head =
-      head_leaves (replicate 512 0) zeros_long (omega arith) none head
-      (inl (none_at_zero (spliced old.now.bytes 0 (replicate 512 0)) (begin_zero old.now.bytes (spliced old.now.bytes 0 (replicate 512 0)) (omega arith) refl)))
+      head_leaves (replicate 512 0) zeros_long (omega arith) none head (
+        spliced_behind old.now.bytes (replicate 512 0) (room_of a) (omega (arith, zeros_long)),
+        inl (none_at_zero (spliced old.now.bytes 0 (replicate 512 0)) (begin_zero old.now.bytes (spliced old.now.bytes 0 (replicate 512 0)) (omega arith) refl)),
+      )
 
   pub begin_size : ChangesHead (replicate 512 0) old new → length new.now.bytes ≡ length old.now.bytes
   begin_size head =
@@ -299,9 +318,11 @@ module _ {old new : Device} (a : Areas) (room : room_of a ≤ length old.now.byt
 
 -- and no label while the rest is written
 pub lay_leaves : {old mid new : Device} (a : Areas) → room_of a ≤ length old.now.bytes → old.now.pending ≡ [] → ChangesHead (replicate 512 0) old mid
-    → mid.now.pending ≡ [] → mid.now.bytes ≡ spliced old.now.bytes 0 (replicate 512 0) → ChangesArea a mid new → LeavesWhole old new (IsMadeOrNone a)
+    → mid.now.pending ≡ [] → mid.now.bytes ≡ spliced old.now.bytes 0 (replicate 512 0) → ChangesArea a mid new → LeavesWhole old new (IsMadeWithin a old.now.bytes)
 lay_leaves {old = old} {mid = mid} a room none head none' ok changes =
-    leaves_then (begin_leaves a room none head) (area_leaves a none' (begin_zero old.now.bytes mid.now.bytes (omega arith) ok) changes)
+    leaves_then (begin_leaves a room none head)
+    (area_leaves a old.now.bytes none' (begin_zero old.now.bytes mid.now.bytes (omega arith) ok)
+    (head_beyond (replicate 512 0) (room_of a) (omega (arith, zeros_long)) head) changes)
 
 pub sector_long : (a : Areas) (y : List ℕ) → y ≡ label_sector a → length y ≡ 512
 sector_long a y is = ap length is
@@ -317,8 +338,10 @@ module _ (a : Areas) (half : 1 ≤ a.half) where
       laid_home a half d none (subst (IsLaid a) (sym ok) (laid_under a half bytes y (sector_long a y is) laid))
 
   -- a crash leaves it as it was, or with its label
-  pub made_leaves : {old new : Device} (y : List ℕ) → y ≡ label_sector a → IsLaid a old.now.bytes → old.now.pending ≡ [] → ChangesHead y old new
-      → LeavesWhole old new (IsMadeOrNone a)
-  made_leaves {old = old} y is laid none head =
+  pub made_leaves : {old new : Device} (before y : List ℕ) → y ≡ label_sector a → IsLaid a old.now.bytes → old.now.pending ≡ []
+      → drop (room_of a) old.now.bytes ≡ drop (room_of a) before → ChangesHead y old new → LeavesWhole old new (IsMadeWithin a before)
+  made_leaves {old = old} before y is laid none behind head =
       let room : room_of a ≤ length old.now.bytes = laid.room in
-      head_leaves y (sector_long a y is) (omega arith) none head (inr (labelled a old.now.bytes y is, made_shown old.now.bytes y is laid))
+      let long = sector_long a y is in
+      head_leaves y long (omega arith) none head
+      (spliced_behind old.now.bytes y (room_of a) (omega (arith, long)) ∙ behind, inr (labelled a old.now.bytes y is, made_shown old.now.bytes y is laid))

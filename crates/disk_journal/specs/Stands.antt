@@ -41,3 +41,7 @@ pub record IsAllHome (a : Areas) (second : Bool) (stamp : ℕ) (d : Device) : Ty
 -- an image of a device on which a disk is made: it has no label, or the disk's, and stands for zeros
 abbrev pub IsMadeOrNone : Areas → List ℕ → Type 0
 IsMadeOrNone a left = HasNoLabel left ⊎ (HasLabel a left × (shown a left ≡ replicate (image_bytes a) 0))
+
+-- so it has after a making that was cut off, and behind the disk the bytes of before
+abbrev pub IsMadeWithin : Areas → (before left : List ℕ) → Type 0
+IsMadeWithin a before left = (drop (room_of a) left ≡ drop (room_of a) before) × IsMadeOrNone a left

@@ -11,7 +11,7 @@ ghost use Rattle.disk_journal.specs.Disks.{FitsBatch, IsSettled, IsSpent, SameBe
 ghost use Rattle.disk_journal.specs.Labels.{HasLabel, HasNoLabel};
 ghost use Rattle.disk_journal.specs.Opened.{IsAfterAll, IsOpened, TellsWhy, WritesAgain, WritesAgainFirst};
 ghost use Rattle.disk_journal.specs.Refusals.{AreNoJournal, IsRefused, IsUntouched, LacksRoom, RefusesRead, RefusesToMake, RefusesWrite, StandsThrough};
-ghost use Rattle.disk_journal.specs.Stands.{IsMadeOrNone, StandsStill};
+ghost use Rattle.disk_journal.specs.Stands.{IsMadeWithin, StandsStill};
 ghost use Rattle.disk_journal.specs.declared.error.JournalError.TheVariants.{Fault as JournalFault, NoJournal, TooSmall};
 
 use crate::error::JournalError;
@@ -132,9 +132,10 @@ impl<D: UntornDisk + Drop> Journaled<D> {
         ensures settled { IfOk result IsSettled }
         ensures works { IfOk result (λ made. made.is_over ≡ false) }
         ensures stamp { IfOk result (λ made. made.stamp ≡ 2) }
-        // A making that begins with nothing pending and is cut off leaves no label, or the disk of zeros, whatever label the device had.
-        ensures left { IfOk result (λ made. (D.device disk).now.pending ≡ [] → LeavesWhole (D.device disk) made.disk (IsMadeOrNone areas)) }
-        ensures refused { IfErr result (λ back. (D.device disk).now.pending ≡ [] → LeavesWhole (D.device disk) (D.device back.0) (IsMadeOrNone areas)) }
+        // A making that begins with nothing pending and is cut off leaves no label, or the disk of zeros, whatever label the device had. What lies behind the disk stays.
+        ensures left { IfOk result (λ made. (D.device disk).now.pending ≡ [] → LeavesWhole (D.device disk) made.disk (IsMadeWithin areas (D.device disk).now.bytes)) }
+        ensures refused { IfErr result (λ back. (D.device disk).now.pending ≡ []
+            → LeavesWhole (D.device disk) (D.device back.0) (IsMadeWithin areas (D.device disk).now.bytes)) }
         // A making makes four flushes.
         ensures four_syncs { IfOk result (λ made. MakesSyncs 4 (D.device disk) made.disk) }
         // No call of a making that succeeds has failed.

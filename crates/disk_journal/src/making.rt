@@ -7,7 +7,7 @@ ghost use Rattle.journal_batches.specs.Areas.{image_bytes, room_of};
 ghost use Rattle.journal_batches.specs.Shown.{shown};
 ghost use Rattle.disk_journal.specs.Labels.{HasLabel};
 ghost use Rattle.disk_journal.specs.Made.{ChangesArea, ChangesHead, IsLaid};
-ghost use Rattle.disk_journal.specs.Stands.{IsAllHome, IsMadeOrNone};
+ghost use Rattle.disk_journal.specs.Stands.{IsAllHome, IsMadeWithin};
 
 use crate::label::sector_of;
 use crate::pages::{PAGE, flush, write_batch};
@@ -24,8 +24,9 @@ pub(crate) fn make_journal<D: UntornDisk>(disk: &mut D, areas: Areas) -> Result<
     ensures home { OnOk result (IsAllHome areas false 2 (D.device disk.new)) }
     ensures syncs { OnOk result (MakesSyncs 4 (D.device disk.old) (D.device disk.new)) }
     ensures steady { OnOk result ((D.device disk.new).failures ≡ (D.device disk.old).failures) }
-    // A making that begins with nothing pending and is cut off leaves no label, or the disk.
-    ensures left { (D.device disk.old).now.pending ≡ [] → LeavesWhole (D.device disk.old) (D.device disk.new) (IsMadeOrNone areas) }
+    // A making that begins with nothing pending and is cut off leaves no label, or the disk. What lies behind the disk stays.
+    ensures left { (D.device disk.old).now.pending ≡ []
+        → LeavesWhole (D.device disk.old) (D.device disk.new) (IsMadeWithin areas (D.device disk.old).now.bytes) }
     // A making changes no byte behind the disk's.
     ensures beyond { drop (room_of areas) (D.device disk.new).now.bytes ≡ drop (room_of areas) (D.device disk.old).now.bytes }
     ensures cause { OnErr result (HasFailedSince (D.device disk.old) (D.device disk.new)) }

@@ -3,7 +3,7 @@ use Rattle.std.proofs.Common.{◌≡◌, inl, inr, ⊎_elim, ℕ, zero, suc, ◌
 use Rattle.block_disk.specs.Device.{Device, Moment, new_device}
 use Rattle.block_disk.specs.Memory.{fresh}
 use Rattle.atomic_sectors.specs.Left.{LeavesWhole, MakesSyncs, MixedIn, MixedSince}
-use Rattle.atomic_sectors.proofs.Calculus.{mix_one}
+use Rattle.atomic_sectors.proofs.Calculus.{leaves_weaker, mix_one}
 use Rattle.journal_batches.specs.declared.areas.Areas.{Areas}
 use Rattle.journal_batches.specs.Areas.{image_bytes, room_of}
 use Rattle.journal_batches.specs.Shown.{shown}
@@ -14,7 +14,7 @@ use Rattle.disk_journal.specs.Disks.{Layered}
 use Rattle.disk_journal.specs.Labels.{HasLabel, HasNoLabel}
 use Rattle.disk_journal.specs.Opened.{WritesAgain}
 use Rattle.disk_journal.specs.Refusals.{RefusesToMake, StandsThrough}
-use Rattle.disk_journal.specs.Stands.{IsMadeOrNone, StandsStill}
+use Rattle.disk_journal.specs.Stands.{IsMadeOrNone, IsMadeWithin, StandsStill}
 use Rattle.host_journal.specs.Calls.{IsMade, IsOpened, RefusesMaking}
 use Rattle.host_journal.specs.Hosted.{EverWhole, Hosted, IsFresh, IsNew}
 use Rattle.host_journal.proofs.Turning.{label_kept, reads_now}
@@ -95,7 +95,7 @@ opened_is h o d bytes memory heap disk areas new device label room through again
 -- what a making gives
 pub made_is : (h : Hosted) (o : Layered) (d : Deferred) (a : Areas) (size : ℕ) → d.memory ≡ fresh (replicate size 0) → h.heap ≡ o.device → h.disk ≡ o.disk → h.areas ≡ o.areas
     → IsNew h → o.device ≡ new_device (replicate (image_bytes a) 0) → o.areas ≡ a
-    → ((deferred_device d).now.pending ≡ [] → LeavesWhole (deferred_device d) o.disk (IsMadeOrNone a)) → IsMade a h
+    → ((deferred_device d).now.pending ≡ [] → LeavesWhole (deferred_device d) o.disk (IsMadeWithin a (deferred_device d).now.bytes)) → IsMade a h
 made_is h o d a size memory heap disk areas new device same leaves =
     let is = fresh_disk d (replicate size 0) memory in
     record {
@@ -104,7 +104,8 @@ made_is h o d a size memory heap disk areas new device same leaves =
       new = new;
       left =
           subst (λ (e : Device). EverWhole e (IsMadeOrNone a)) (sym disk)
-          (ever_whole (deferred_device d) o.disk (replicate size 0) (IsMadeOrNone a) is (leaves (λ i. (is.0 i).pending)) (inl (zeros_unlabelled size)));
+          (ever_whole (deferred_device d) o.disk (replicate size 0) (IsMadeOrNone a) is (leaves_weaker (λ left m. m.1) (leaves (λ i. (is.0 i).pending)))
+          (inl (zeros_unlabelled size)));
     }
 
 -- why none is made, where the device has room for its parts

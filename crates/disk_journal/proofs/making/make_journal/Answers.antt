@@ -41,7 +41,9 @@ pub returns-clause-left : goal.returns-clause-left
 returns-clause-left g c = λ none.
     leaves_then
     (lay_leaves c.args.areas c.requires.room none c.write_head.ensures.head c.in_ok-write_head.ensures.durable c.in_ok-write_head.ensures.ok c.lay.ensures.area)
-    (made_leaves c.args.areas c.requires.half c.sector_of.result c.sector_of.ensures c.in_ok-lay.ensures.ok c.in_ok-lay.ensures.durable
+    (made_leaves c.args.areas c.requires.half (g.D.Disk.device c.args.disk.now).now.bytes c.sector_of.result c.sector_of.ensures c.in_ok-lay.ensures.ok
+    c.in_ok-lay.ensures.durable
+    (area_beyond c.args.areas c.lay.ensures.area ∙ head_beyond (replicate 512 0) (room_of c.args.areas) (omega arith) c.write_head.ensures.head)
     c.write_head-2.ensures.head)
 
 pub returns-clause-beyond : goal.returns-clause-beyond
