@@ -28,7 +28,8 @@ pub fn room_of_journal(areas: Areas) -> u64
 
 /// The parts of a new journal with an image of so many bytes, and as many more as its last page takes.
 pub fn journal_for(len: u64) -> Areas
-    ensures { result.image ≡ pages_for len }
+    ensures half { result.half ≡ 133 }
+    ensures image { result.image ≡ pages_for len }
 {
     Areas {
         half: HALF_PAGES,
