@@ -1,8 +1,8 @@
 //! A disk over a device of atomic sectors.
-ghost use Rattle.std.specs.Prelude.{◌≡◌, ◌↔◌, ◌⊎◌, ◌+◌, ◌*◌, ◌/◌, ◌^◌, ◌<◌, ◌≤◌, drop, IfErr, IfOk, IsErrOf, IsOk, IsTrue, OnOk, [], true, false, length, replicate};
+ghost use Rattle.std.specs.Prelude.{◌≡◌, ◌↔◌, ◌⊎◌, ◌+◌, ◌*◌, ◌/◌, ◌^◌, ◌<◌, ◌≤◌, drop, IfErr, IfOk, IsErrOf, IsOk, IsTrue, OnErr, OnOk, [], true, false, length, replicate};
 ghost use Rattle.block_disk.specs.Bytes.{part};
-ghost use Rattle.block_disk.specs.Device.{Image, SameMoments, new_device, synced, written};
-ghost use Rattle.block_disk.specs.Since.{CountsOneMore, HasFailedSince, IsSameOrTorn};
+ghost use Rattle.block_disk.specs.Device.{Image, SameMoments, new_device, synced, unit_ranges, written, written_units};
+ghost use Rattle.block_disk.specs.Since.{CountsOneMore, HasFailedSince, IsSameOrTorn, LeavesBut};
 ghost use Rattle.block_disk.specs.declared.error.DiskError.TheVariants.{Fault, OutOfRange};
 ghost use Rattle.atomic_sectors.specs.Left.{AlwaysWhole, LeavesWhole, MakesSyncs};
 ghost use Rattle.journal_batches.specs.Areas.{image_bytes, room_of};
@@ -296,6 +296,34 @@ impl<D: UntornDisk + Drop> Disk for Journaled<D> {
         }
         put(&mut self.image, at, bytes);
         self.trace.write(at, bytes);
+        Ok(())
+    }
+
+    /// Writes the memory, a unit after the other, and leaves the device as it is. `Fault` is as of a write; the units before it were written then.
+    fn write_units(&mut self, at: u64, units: &[u8], count: usize) -> Result<(), block_disk::Fault>
+        requires some { 0 < count }
+        requires whole { length units.now ≡ count * 16 }
+        requires fits { at + length units.now ≤ length self.old.device.now.bytes }
+        ensures ok { OnOk result (self.new.device ≡ written_units count at units.now self.old.device) }
+        ensures any_moment { LeavesBut (unit_ranges count at) self.old.device self.new.device }
+        ensures cause { OnErr result (HasFailedSince self.old.device self.new.device) }
+        ensures counted { OnErr result (CountsOneMore self.old.device self.new.device) }
+        // A run of units leaves the device below as it is.
+        ensures below { SameBelow self.old self.new }
+        // What waits for a sync grows by four words for each unit, at most.
+        ensures waiting { self.new.waiting ≤ self.old.waiting + count * 4 }
+        ensures stamp { self.new.stamp ≡ self.old.stamp }
+        // A disk that writes no more says so.
+        ensures over { self.old.is_over ≡ true → ¬ IsOk result }
+    {
+        let _size = self.size();
+        for i in 0..count {
+            let from = i * 16;
+            match self.write_at(at + from as u64, &units[from..from + 16]) {
+                Ok(()) => {}
+                Err(_) => return Err(block_disk::Fault),
+            }
+        }
         Ok(())
     }
 

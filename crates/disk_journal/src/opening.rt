@@ -207,11 +207,7 @@ fn read_parts<D: UntornDisk>(
     let _size = disk.size();
     read_into(disk, half_place(areas, false), &mut halves.first)?;
     read_into(disk, half_place(areas, true), &mut halves.second)?;
-    read_into(
-        disk,
-        half_place(areas, true) + (areas.half * PAGE) as u64,
-        image,
-    )?;
+    read_into(disk, image_place(areas), image)?;
     Ok(())
 }
 
