@@ -136,7 +136,7 @@ pub(crate) fn atomic_sectors<'a>(alloc: Global) -> Arg<'a>
     flag(
         alloc,
         "atomic-sectors",
-        "Keeps the image behind a journal, for storage that\nkeeps each sector of 512 bytes whole when the power\nfails. A round of a program then takes one sync",
+        "Keeps the image behind a journal, for storage that\nkeeps each sector of 512 bytes whole when the power\nfails. A program's changes then take one sync in\nplace of two. On other storage a power failure may\nlose them",
     )
 }
 
